@@ -1,0 +1,7 @@
+pub mod Choice
+pub mod Gram
+pub mod Number
+pub mod Text
+pub mod Tables
+pub mod Record
+pub mod Sentence

@@ -1,0 +1,149 @@
+-- What a packet says: a record for each layout. S is what a string is handed back as, L A what a list of As is: in the language they are
+-- bytes and lists, in a reader's answer places in the stream (01, "What must change shape"). Assumes nothing.
+use mathlib.Core.Option.{Option, none, some}
+use mathlib.Core.List.{List, [], _∷_}
+use Prim.Native.Nat.{ℕ, _/_, _%_}
+use lib.Dec.{eqb}
+use Rattle.grammar.specs.Choice.{pick}
+
+-- ---- properties
+
+-- 01, table of properties: a value is a number, a string, or a pair of strings
+pub data Val (S : Type 0) : Type 0 where
+  num : ℕ → Val S
+  str : S → Val S
+  duo : S → S → Val S
+
+-- 01, grammar: "an identifier byte and a value"
+abbrev pub Prop : Type 0 → Type 0
+Prop S = ℕ × Val S
+
+-- 01, grammar: "Of a single-valued property given twice the last counts"; o is what came before
+abbrev pub lastFrom : {S : Type 0} → Option (Val S) → ℕ → List (Prop S) → Option (Val S)
+lastFrom o i [] = o
+lastFrom o i (p ∷ ps) = lastFrom (pick (eqb (p .0) i) (some (p .1)) o) i ps
+
+-- 01, grammar: the same of a whole block, before which nothing came
+unfoldable pub lastOf : {S : Type 0} → ℕ → List (Prop S) → Option (Val S)
+lastOf i ps = lastFrom none i ps
+
+-- 01, grammar: "38, and 11 in Publish, are lists kept in order"
+unfoldable pub allOf : {S : Type 0} → ℕ → List (Prop S) → List (Val S)
+allOf i [] = []
+allOf i (p ∷ ps) = pick (eqb (p .0) i) (p .1 ∷ allOf i ps) (allOf i ps)
+
+-- 01, grammar: "L = 0 means absent"
+abbrev pub unlessEmpty : {S A : Type 0} → (List (Prop S) → A) → List (Prop S) → Option A
+unlessEmpty f [] = none
+unlessEmpty f (p ∷ ps) = some (f (p ∷ ps))
+
+-- 01, table of properties, row Publish
+pub record PublishProps (S : Type 0) (L : Type 0 → Type 0) : Type 0 where
+  pub format : Option (Val S)
+  pub expiry : Option (Val S)
+  pub alias : Option (Val S)
+  pub response : Option (Val S)
+  pub correlation : Option (Val S)
+  pub user : L (Val S)
+  pub subscriptions : L (Val S)
+  pub content : Option (Val S)
+
+-- 01, table of properties, row Publish: the fields by their identifiers; `keep` says what a list is handed back as
+unfoldable pub publishProps : (S : Type 0) (L : Type 0 → Type 0) (keep : List (Val S) → L (Val S)) → List (Prop S) → PublishProps S L
+publishProps S L keep ps = record {
+  format = lastOf 1 ps;
+  expiry = lastOf 2 ps;
+  alias = lastOf 35 ps;
+  response = lastOf 8 ps;
+  correlation = lastOf 9 ps;
+  user = keep (allOf 38 ps);
+  subscriptions = keep (allOf 11 ps);
+  content = lastOf 3 ps;
+}
+
+-- 01, table of properties, row Subscribe
+pub record SubscribeProps (S : Type 0) (L : Type 0 → Type 0) : Type 0 where
+  pub ident : Option (Val S)
+  pub user : L (Val S)
+
+-- 01, table of properties, row Subscribe; here 11 is no list
+unfoldable pub subscribeProps : (S : Type 0) (L : Type 0 → Type 0) (keep : List (Val S) → L (Val S)) → List (Prop S) → SubscribeProps S L
+subscribeProps S L keep ps = record { ident = lastOf 11 ps; user = keep (allOf 38 ps) }
+
+-- 01, table of properties, row PubAck
+pub record AckProps (S : Type 0) (L : Type 0 → Type 0) : Type 0 where
+  pub reason : Option (Val S)
+  pub user : L (Val S)
+
+-- 01, table of properties, row PubAck
+unfoldable pub ackProps : (S : Type 0) (L : Type 0 → Type 0) (keep : List (Val S) → L (Val S)) → List (Prop S) → AckProps S L
+ackProps S L keep ps = record { reason = lastOf 31 ps; user = keep (allOf 38 ps) }
+
+-- ---- the records
+
+-- 01, grammar: "Publish (3)"; ident is 0 where QoS is 0
+pub record Publish (S : Type 0) (L : Type 0 → Type 0) : Type 0 where
+  pub dup : ℕ
+  pub qos : ℕ
+  pub retain : ℕ
+  pub topic : S
+  pub ident : ℕ
+  pub props : Option (PublishProps S L)
+  pub payload : S
+
+-- 01, grammar, Subscribe: "text, then an options byte"
+pub record Filter (S : Type 0) : Type 0 where
+  pub path : S
+  pub qos : ℕ
+  pub noLocal : ℕ
+  pub preserve : ℕ
+  pub rule : ℕ
+
+-- 01, grammar: "Subscribe (8)"
+pub record Subscribe (S : Type 0) (L : Type 0 → Type 0) : Type 0 where
+  pub ident : ℕ
+  pub props : Option (SubscribeProps S L)
+  pub filters : L (Filter S)
+
+-- 01, grammar: "PubAck (4)"
+pub record Ack (S : Type 0) (L : Type 0 → Type 0) : Type 0 where
+  pub ident : ℕ
+  pub reason : ℕ
+  pub props : Option (AckProps S L)
+
+-- 01, modules: "Publish, Subscribe, PubAck, PingReq, PingResp"; an acknowledgement and a ping by the number of their kind
+pub data PacketOf (S : Type 0) (L : Type 0 → Type 0) : Type 0 where
+  publish : Publish S L → PacketOf S L
+  ack : ℕ → Ack S L → PacketOf S L
+  subscribe : Subscribe S L → PacketOf S L
+  ping : ℕ → PacketOf S L
+
+-- ---- records from their fields, in the order in which these are spelled; x is the frame's first byte
+
+-- 01, grammar: "kind in the high four bits"
+abbrev pub kindOf : ℕ → ℕ
+kindOf x = x / 16
+
+-- 01, grammar, Publish: "QoS (6)"
+abbrev pub flagQos : ℕ → ℕ
+flagQos x = x / 2 % 4
+
+-- 01, grammar, Publish: "flags are dup (8), QoS (6), retain (1)"; topic, identifier, block, payload
+abbrev pub mkPublish : {S : Type 0} {L : Type 0 → Type 0} → ℕ → S × (ℕ × (Option (PublishProps S L) × S)) → PacketOf S L
+mkPublish x v = publish (record { dup = x / 8 % 2; qos = flagQos x; retain = x % 2; topic = v .0; ident = v .1 .0; props = v .1 .1 .0; payload = v .1 .1 .1 })
+
+-- 01, grammar, PubAck: identifier, reason, block
+abbrev pub mkAck : {S : Type 0} {L : Type 0 → Type 0} → ℕ → ℕ × (ℕ × Option (AckProps S L)) → PacketOf S L
+mkAck x v = ack (kindOf x) (record { ident = v .0; reason = v .1 .0; props = v .1 .1 })
+
+-- 01, grammar, Subscribe: "QoS bits 0-1, no-local 2, preserve-retain 3, forward rule 4-5, 6-7 ignored"
+abbrev pub mkFilter : {S : Type 0} → S × ℕ → Filter S
+mkFilter v = record { path = v .0; qos = v .1 % 4; noLocal = v .1 / 4 % 2; preserve = v .1 / 8 % 2; rule = v .1 / 16 % 4 }
+
+-- 01, grammar, Subscribe: identifier, block, filters
+abbrev pub mkSubscribe : {S : Type 0} {L : Type 0 → Type 0} → ℕ × (Option (SubscribeProps S L) × L (Filter S)) → PacketOf S L
+mkSubscribe v = subscribe (record { ident = v .0; props = v .1 .0; filters = v .1 .1 })
+
+-- 01, grammar, PingReq and PingResp: "flags and any R bytes ignored"
+abbrev pub mkPing : {S : Type 0} {L : Type 0 → Type 0} → ℕ → List ℕ → PacketOf S L
+mkPing x b = ping (kindOf x)

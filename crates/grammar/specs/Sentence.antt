@@ -1,0 +1,154 @@
+-- The packet grammar (01, "The packet grammar"), in 01's order. Nothing here knows of a reader. Assumes nothing.
+use mathlib.Core.Path.{_≡_}
+use mathlib.Core.Bool.{Bool, true, not}
+use mathlib.Core.Option.{Option, none, some}
+use mathlib.Core.List.{List, [], _∷_}
+use Prim.Native.Nat.{ℕ, zero, suc, _/_, _%_}
+use lib.Dec.{eqb, leb}
+use Rattle.grammar.specs.Choice.{isIn, lookup, isEmpty}
+use Rattle.grammar.specs.Number.{Byte, Big, Spells}
+use Rattle.grammar.specs.Text.{Utf8}
+use Rattle.grammar.specs.Gram.{Gram, Nothing, Map, Only, Then, Sized, Many, Is}
+use Rattle.grammar.specs.Tables.{Form, u8, u16, u32, number, text, bytes, pair, Place, publishPlace, subscribePlace, ackPlace, Layout, aPublish, anAck, aSubscribe, aPing, kinds}
+use Rattle.grammar.specs.Record.{Val, num, str, duo, unlessEmpty, PublishProps, publishProps, SubscribeProps, subscribeProps, AckProps, ackProps, Filter, PacketOf, kindOf, flagQos, mkPublish, mkAck, mkFilter, mkSubscribe, mkPing}
+
+-- ---- strings
+
+-- no condition
+abbrev pub Any : List ℕ → Type 0
+Any b = Unit {0}
+
+-- 01, grammar: "A string is a u16 length and that many bytes"
+abbrev pub Bytes : List ℕ → List ℕ → Type 0
+Bytes = Sized (Big 2) (Is Any)
+
+-- 01, grammar: "text must be UTF-8"
+abbrev pub Text : List ℕ → List ℕ → Type 0
+Text = Sized (Big 2) (Is Utf8)
+
+-- ---- properties
+
+-- in the language a string is its bytes
+abbrev pub Value : Type 0
+Value = Val (List ℕ)
+
+-- 01, grammar: "an identifier byte and a value"
+abbrev pub Prop : Type 0
+Prop = ℕ × Value
+
+-- 01, table of properties: "text pair"
+abbrev pub duoOf : {S : Type 0} → S × S → Val S
+duoOf p = duo (p .0) (p .1)
+
+-- 01, table of properties: how a value of each form is spelled
+abbrev pub Spelt : Form → Value → List ℕ → Type 0
+Spelt u8 = Map num Byte
+Spelt u16 = Map num (Big 2)
+Spelt u32 = Map num (Big 4)
+Spelt number = Map num Spells
+Spelt text = Map str Text
+Spelt bytes = Map str Bytes
+Spelt pair = Map duoOf (Then Text (λ _. Text))
+
+-- 01, grammar: "A property is an identifier byte and a value", of the form that the place's row gives it
+pub data Property (place : Place) : Prop → List ℕ → Type 0 where
+  property : {i : ℕ} {f : Form} {v : Value} {b : List ℕ} → lookup place i ≡ some f → Spelt f v b → Property place (i, v) (i ∷ b)
+
+-- 01, grammar: "a variable length number L and L bytes, filled exactly by properties"; f says what they come to
+abbrev pub Block : {A : Type 0} → Place → (List Prop → A) → A → List ℕ → Type 0
+Block place f = Sized Spells (Map f (Many (Property place)))
+
+-- in the language a list is the list
+abbrev pub asList : {A : Type 0} → List A → List A
+asList vs = vs
+
+-- 01, grammar: what a Publish block comes to, "L = 0 means absent"
+abbrev pub publishOf : List Prop → Option (PublishProps (List ℕ) List)
+publishOf = unlessEmpty (publishProps (List ℕ) List asList)
+
+-- 01, grammar: a Subscribe block
+abbrev pub subscribeOf : List Prop → Option (SubscribeProps (List ℕ) List)
+subscribeOf = unlessEmpty (subscribeProps (List ℕ) List asList)
+
+-- 01, grammar: a PubAck block
+abbrev pub ackOf : List Prop → Option (AckProps (List ℕ) List)
+ackOf = unlessEmpty (ackProps (List ℕ) List asList)
+
+-- ---- Publish
+
+-- 01, grammar: "QoS 3, in flags or options, and forward rule 3 stand in no sentence"
+abbrev pub notThree : ℕ → Bool
+notThree q = not (eqb q 3)
+
+-- 01, grammar, Publish: "and not 0"
+abbrev pub notZero : ℕ → Bool
+notZero i = not (eqb i 0)
+
+-- 01, grammar, Publish: "u16 identifier only if QoS is 1 or 2, and not 0"
+abbrev pub Ident : ℕ → ℕ → List ℕ → Type 0
+Ident zero = Nothing 0
+Ident (suc q) = Only notZero (Big 2)
+
+-- 01, grammar: "QoS 3, in flags": a test of the first byte x alone
+abbrev pub publishGood : {A : Type 0} → ℕ → A → Bool
+publishGood x v = notThree (flagQos x)
+
+-- ---- Subscribe
+
+-- 01, grammar: "QoS 3, in .. options": bits 0-1
+abbrev pub qosFine : ℕ → Bool
+qosFine o = notThree (o % 4)
+
+-- 01, grammar: "forward rule 3": bits 4-5
+abbrev pub ruleFine : ℕ → Bool
+ruleFine o = notThree (o / 16 % 4)
+
+-- 01, grammar, Subscribe: "text, then an options byte"
+abbrev pub FilterOf : Filter (List ℕ) → List ℕ → Type 0
+FilterOf = Map mkFilter (Then Text (λ _. Only qosFine (Only ruleFine Byte)))
+
+-- 01, grammar, Subscribe: "one or more filters"
+abbrev pub someOf : {A : Type 0} → List A → Bool
+someOf fs = not (isEmpty fs)
+
+-- ---- acknowledgements, by the reasons rs that they may give
+
+-- 01, grammar, PubAck: "at R = 2 success and no block; at R = 3 a reason and no block; from R = 4 a reason and a block that ends the frame"
+pub data AckRest (rs : List ℕ) : ℕ × Option (AckProps (List ℕ) List) → List ℕ → Type 0 where
+  plain : AckRest rs (0, none) []
+  coded : {c : ℕ} → isIn c rs ≡ true → AckRest rs (c, none) (c ∷ [])
+  full : {c : ℕ} {ps : Option (AckProps (List ℕ) List)} {b : List ℕ} → isIn c rs ≡ true → Block ackPlace ackOf ps b → AckRest rs (c, ps) (c ∷ b)
+
+-- ---- packets
+
+-- a packet of the language: its strings are bytes, its lists are lists
+abbrev pub Packet : Type 0
+Packet = PacketOf (List ℕ) List
+
+-- 01, grammar: what fills a frame of each layout whose first byte is x
+abbrev pub Fields : Layout → ℕ → Packet → List ℕ → Type 0
+Fields aPublish x =
+    Only (publishGood x) (Map (mkPublish x) (Then Bytes (λ _. Then (Ident (flagQos x)) (λ _. Then (Block publishPlace publishOf) (λ _. Is Any)))))
+Fields (anAck rs) x = Map (mkAck x) (Then (Big 2) (λ _. AckRest rs))
+Fields aSubscribe x = Map mkSubscribe (Then (Big 2) (λ _. Then (Block subscribePlace subscribeOf) (λ _. Only someOf (Many FilterOf))))
+Fields aPing x = Map (mkPing x) (Is Any)
+
+-- 01, grammar: "kind in the high four bits": one that is carried, and its fields
+pub data Body (x : ℕ) : Packet → List ℕ → Type 0 where
+  body : {l : Layout} {v : Packet} {b : List ℕ} → lookup kinds (kindOf x) ≡ some l → Fields l x v b → Body x v b
+
+-- 01, grammar: "A frame is one byte .., a variable length number R, then R bytes"; N says which numbers R may be
+abbrev pub Frame : Gram ℕ → ℕ × List ℕ → List ℕ → Type 0
+Frame N = Then Byte (λ _. Sized N (Is Any))
+
+-- a frame whose R bytes are the fields of its kind
+pub data Framed (N : Gram ℕ) : Packet → List ℕ → Type 0 where
+  framed : {x : ℕ} {v : Packet} {b c : List ℕ} → Frame N (x, b) c → Body x v b → Framed N v c
+
+-- demand 3: the sentences of 01's packet grammar
+abbrev pub Sentence : Packet → List ℕ → Type 0
+Sentence = Framed Spells
+
+-- demand 3, "a limit": the sentences whose R is at most m
+abbrev pub ShortSentence : ℕ → Packet → List ℕ → Type 0
+ShortSentence m = Framed (Only (λ l. leb l m) Spells)

@@ -1,0 +1,65 @@
+-- Text: the Unicode table of well-formed byte sequences. Assumes nothing.
+use mathlib.Core.Bool.{Bool, false}
+use mathlib.Core.Option.{Option, none, some}
+use mathlib.Core.List.{List, [], _∷_}
+use Prim.Native.Nat.{ℕ}
+use lib.Dec.{leb}
+use Rattle.grammar.specs.Choice.{pick}
+use Rattle.grammar.specs.Gram.{Nothing, Never, Map, Only, Then, Many}
+use Rattle.grammar.specs.Number.{Byte}
+
+-- the least and the greatest byte
+abbrev pub Range : Type 0
+Range = ℕ × ℕ
+
+-- whether x is one of them
+abbrev pub inRange : Range → ℕ → Bool
+inRange r x = pick (leb (r .0) x) (leb x (r .1)) false
+
+-- the first byte, and the bytes after it
+abbrev pub Row : Type 0
+Row = Range × List Range
+
+abbrev tail : Range
+tail = (0x80, 0xBF)
+
+-- 01: "Unicode table of well-formed sequences" (Unicode, table 3-7)
+unfoldable pub rows : List Row
+rows =
+    ((0x00, 0x7F), [])
+    ∷ ((0xC2, 0xDF), tail ∷ [])
+    ∷ ((0xE0, 0xE0), (0xA0, 0xBF) ∷ tail ∷ [])
+    ∷ ((0xE1, 0xEC), tail ∷ tail ∷ [])
+    ∷ ((0xED, 0xED), (0x80, 0x9F) ∷ tail ∷ [])
+    ∷ ((0xEE, 0xEF), tail ∷ tail ∷ [])
+    ∷ ((0xF0, 0xF0), (0x90, 0xBF) ∷ tail ∷ tail ∷ [])
+    ∷ ((0xF1, 0xF3), tail ∷ tail ∷ tail ∷ [])
+    ∷ ((0xF4, 0xF4), (0x80, 0x8F) ∷ tail ∷ tail ∷ [])
+    ∷ []
+
+-- the row of a first byte
+abbrev pub rowAt : List Row → ℕ → Option (List Range)
+rowAt [] x = none
+rowAt (r ∷ rs) x = pick (inRange (r .0) x) (some (r .1)) (rowAt rs x)
+
+-- a byte, and those after it
+abbrev pub cons : ℕ × List ℕ → List ℕ
+cons p = p .0 ∷ p .1
+
+-- a byte in each range
+abbrev pub Follow : List Range → List ℕ → List ℕ → Type 0
+Follow [] = Nothing []
+Follow (r ∷ rs) = Map cons (Then (Only (inRange r) Byte) (λ _. Follow rs))
+
+-- a first byte of no row begins no character
+abbrev pub Rest : Option (List Range) → List ℕ → List ℕ → Type 0
+Rest none = Never
+Rest (some rs) = Follow rs
+
+-- a byte, and the bytes that its row asks for
+abbrev pub Char : List ℕ → List ℕ → Type 0
+Char = Map cons (Then Byte (λ x. Rest (rowAt rows x)))
+
+-- the bytes are characters, one after the other
+abbrev pub Utf8 : List ℕ → Type 0
+Utf8 b = (cs : List (List ℕ)) × Many Char cs b

@@ -1,0 +1,115 @@
+-- The readers at a position of a stream: what code that holds the whole slice and a position goes by. Assumes nothing.
+use mathlib.Core.Path.{_≡_, refl, ap, _∙_}
+use mathlib.Core.Bool.{true}
+use mathlib.Core.Option.{Option}
+use mathlib.Core.List.{List, [], _∷_}
+use Prim.Native.Nat.{ℕ, zero, suc, _+_, _-_, _*_, _≤_, _<_}
+use native.Mathlib.Omega.{arith}
+use native.Mathlib.Numerals.{add-one}
+use lib.ListN.{length, take, drop, getD, length-drop, drop-of-length-le}
+use lib.Seq.{drop-cons, drop-drop, length-take-le, take-add, drop-at}
+use Rattle.grammar.specs.Number.{bigFrom}
+use Rattle.reading.specs.Refusal.{Refusal, nr, cut, crossed, lacking, within, over}
+use Rattle.reading.specs.Reader.{Fit, got, bad, Reader, Filler, _>>=_, onlyOf, thenOf, sizedOf, isFit, handFit}
+use Rattle.reading.specs.Read.{bigOf, byteOf, groupOf, numOf, isText, anyBytes, Shape, frameOf, stringFit, bytesOf, textOf, wholeAnswer, frameAnswer, readAs}
+use Rattle.reading.specs.Place.{spanOf, asPlaces}
+use Rattle.reading.proofs.Lists.{leb-yes, leb-no, ltb-yes, ltb-no}
+
+-- k elements from index at
+abbrev pub listAt : ℕ → ℕ → List ℕ → List ℕ
+listAt zero at s = []
+listAt (suc k) at s = getD s at 0 ∷ listAt k (suc at) s
+
+pub take-at : (k at : ℕ) (s : List ℕ) → at + k ≤ length s → take k (drop at s) ≡ listAt k at s
+take-at zero at s h = refl
+take-at (suc k) at s h = rw (drop-cons s at 0 (omega arith)) (ap (λ (l : List ℕ). getD s at 0 ∷ l) (take-at k (suc at) s (omega arith)))
+
+module _ (c : Refusal) (k at : ℕ) (s : List ℕ) where
+  pub big-at : at + k ≤ length s → bigOf c k (drop at s) ≡ got (bigFrom 0 (listAt k at s), drop (at + k) s)
+  unfolding bigOf
+  big-at h = rw (leb-yes k (length (drop at s)) (rw length-drop (omega arith)), take-at k at s h, drop-drop k at s)
+
+  pub big-cut : length s < at + k → at ≤ length s → bigOf c k (drop at s) ≡ bad c
+  unfolding bigOf
+  big-cut h h′ = rw (leb-no k (length (drop at s)) (rw length-drop (omega arith)))
+
+-- what is read of a number so far, and what follows it
+abbrev pub scale : ℕ → ℕ → Fit (ℕ × List ℕ) → Fit (ℕ × List ℕ)
+scale a m t = t >>= λ (n, r). got (a + m * n, r)
+
+module _ (c : Refusal) (k at : ℕ) (s : List ℕ) where
+  pub num-cut : length s ≤ at → numOf c (suc k) (drop at s) ≡ bad c
+  unfolding numOf
+  num-cut h = rw (drop-of-length-le s h)
+
+  pub num-last : at < length s → getD s at 0 < 128 → numOf c (suc k) (drop at s) ≡ got (getD s at 0, drop (at + 1) s)
+  unfolding numOf groupOf
+  num-last h l = rw (drop-cons s at 0 h, add-one at, ltb-yes (getD s at 0) 128 l)
+
+  pub num-next : at < length s → 128 ≤ getD s at 0 → numOf c (suc k) (drop at s) ≡ scale (getD s at 0 - 128) 128 (numOf c k (drop (at + 1) s))
+  unfolding numOf groupOf
+  num-next h l = rw (drop-cons s at 0 h, add-one at, ltb-no (getD s at 0) 128 l)
+
+pub scale-scale : (a m b n : ℕ) (t : Fit (ℕ × List ℕ)) → scale a m (scale b n t) ≡ scale (a + b * m) (m * n) t
+scale-scale a m b n (got z) = ap (λ (i : ℕ). got (i, z .1)) (omega arith)
+scale-scale a m b n (bad k) = refl
+
+pub scale-one : (t : Fit (ℕ × List ℕ)) → scale 0 1 t ≡ t
+scale-one (got z) = ap (λ (i : ℕ). got (i, z .1)) (omega arith)
+scale-one (bad k) = refl
+
+-- a number l that ends at m, then l bytes: how it goes on once the number is read
+module _ {A : Type 0} (n : Reader ℕ) (k : ℕ → List ℕ → Refusal) (q : ℕ → Filler A) (end : ℕ) (s : List ℕ) (at : ℕ) where
+  pub sized-bad : (c : Refusal) → n (drop at s) ≡ bad c → sizedOf n k q end (drop at s) ≡ bad c
+  unfolding sizedOf
+  sized-bad c e = rw e
+
+  module _ (l m : ℕ) (e : n (drop at s) ≡ got (l, drop m s)) (h : m ≤ length s) where
+    pub sized-crossed : length s < m + l → sizedOf n k q end (drop at s) ≡ bad (k l (drop m s))
+    unfolding sizedOf
+    sized-crossed o = rw (e, leb-no l (length (drop m s)) (rw length-drop (omega arith)))
+
+    -- of a slice s that is read to its end, the part ends at m + l
+    pub sized-at : m + l ≤ length s → end ≡ length s → sizedOf n k q end (drop at s) ≡ (q (m + l) (take l (drop m s)) >>= λ a. got (a, drop (m + l) s))
+    unfolding sizedOf
+    sized-at o i =
+        let j : end - length (drop (m + l) s) ≡ m + l = rw length-drop (omega arith) in
+        rw (e, leb-yes l (length (drop m s)) (rw length-drop (omega arith)), drop-drop l m s, j)
+
+-- ---- places: l bytes from index m
+
+module _ (s : List ℕ) (l m : ℕ) (o : m + l ≤ length s) where
+  pub span-at : spanOf (take l (drop m s)) (m + l) ≡ record { start = m; len = l }
+  span-at =
+      let n : length (take l (drop m s)) ≡ l = length-take-le l (drop m s) (rw length-drop (omega arith)) in
+      let i : m + l - l ≡ m = omega arith in
+      rw (n, i)
+
+  -- a string whose length l ends at m, of a slice that is read to its end
+  pub bytes-at : (at : ℕ) → bigOf cut 2 (drop at s) ≡ got (l, drop m s) → bytesOf asPlaces (length s) (drop at s) ≡ got (record { start = m; len = l }, drop (m + l) s)
+  unfolding bytesOf stringFit handFit isFit
+  bytes-at at e = sized-at (bigOf cut 2) crossed (stringFit asPlaces anyBytes cut) (length s) s at l m e (omega arith) o refl ∙ rw span-at
+
+  pub text-at : (at : ℕ) → bigOf cut 2 (drop at s) ≡ got (l, drop m s) → isText (take l (drop m s)) ≡ true → textOf asPlaces (length s) (drop at s) ≡ got (record { start = m; len = l }, drop (m + l) s)
+  unfolding textOf stringFit handFit isFit
+  text-at at e t = sized-at (bigOf cut 2) crossed (stringFit asPlaces isText (nr 9 [])) (length s) s at l m e (omega arith) o refl ∙ rw (t, span-at)
+
+-- the l bytes from m, as the rest from m of a slice that ends at m + l
+pub part-slice : (s : List ℕ) (l m : ℕ) → m + l ≤ length s → take l (drop m s) ≡ drop m (take (m + l) s)
+part-slice s l m o = rw (take-add m l s, drop-at (take m s) (take l (drop m s)) m (length-take-le m s (omega arith)))
+
+-- a stream whose length number l ends at m, with all its bytes there: the answer is that to the frame of m + l bytes
+module _ (limit : Option ℕ) (x l m : ℕ) (t : List ℕ) (e : numOf (nr 1 (1 ∷ [])) 4 t ≡ got (l, drop m (x ∷ t))) (w : within limit l ≡ true) (o : m + l ≤ length (x ∷ t)) where
+  length-at : onlyOf (within limit) (over limit) (numOf (nr 1 (1 ∷ [])) 4) (drop 1 (x ∷ t)) ≡ got (l, drop m (x ∷ t))
+  unfolding onlyOf
+  length-at = rw (e, w)
+
+  frame-at : frameOf limit (length (x ∷ t)) (x ∷ t) ≡ got ((x, take l (drop m (x ∷ t))), drop (m + l) (x ∷ t))
+  unfolding frameOf thenOf byteOf isFit
+  frame-at = rw (sized-at (onlyOf (within limit) (over limit) (numOf (nr 1 (1 ∷ [])) 4)) lacking (λ _. isFit anyBytes cut) (length (x ∷ t)) (x ∷ t) 1 l m length-at (omega arith) o refl)
+
+  pub read-at : (h : Shape) → readAs h limit (x ∷ t) ≡ wholeAnswer h (m + l) (x, drop m (take (m + l) (x ∷ t)))
+  unfolding readAs frameAnswer
+  read-at h =
+      let n : length (x ∷ t) - length (drop (m + l) (x ∷ t)) ≡ m + l = rw length-drop (omega arith) in
+      rw (frame-at, n, part-slice (x ∷ t) l m o)

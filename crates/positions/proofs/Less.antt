@@ -1,0 +1,38 @@
+-- An item leaves less than it was given, with places too: what a loop over a block or over filters goes by. Assumes nothing.
+use mathlib.Core.Path.{_≡_}
+use mathlib.Core.List.{List, [], _++_, append-nil}
+use Prim.Native.Nat.{ℕ, _+_, _-_, _≤_}
+use native.Mathlib.Omega.{arith}
+use lib.ListN.{length, replicate, length-replicate}
+use Rattle.grammar.specs.Gram.{Gram, Solid}
+use Rattle.grammar.specs.Tables.{Place}
+use Rattle.reading.specs.Reader.{Fit, Reader}
+use Rattle.reading.specs.Read.{asBytes, propertyOf, filterOf}
+use Rattle.reading.specs.Place.{asPlaces, sayProp, sayFilter}
+use Rattle.reading.proofs.Reading.{Reads, less}
+use Rattle.reading.proofs.Fields.{reads-property, property-solid}
+use Rattle.reading.proofs.Packets.{reads-filter, filter-solid}
+use Rattle.reading.proofs.Forget.{like-got, Stands, Forgets}
+use Rattle.reading.proofs.Places.{property-says, filter-says}
+use Rattle.positions.proofs.Walk.{Less}
+
+-- some stream in which l stands
+stands-somewhere : (end : ℕ) (l : List ℕ) → length l ≤ end → Stands (replicate (end - length l) 0 ++ l) end l
+stands-somewhere end l h = record {
+  before = replicate (end - length l) 0;
+  after = [];
+  whole = rw (append-nil l);
+  stop = rw length-replicate (omega arith);
+}
+
+placed-less : {A B : Type 0} {G : Gram B} (end : ℕ) (p : Reader A) (p′ : Reader B) (f : List ℕ → A → B) → ((s : List ℕ) → Forgets s end (f s) p p′) → Reads p′ G → Solid G → Less end p
+placed-less end p p′ f F R L l z h e =
+    let s : List ℕ = replicate (end - length l) 0 ++ l in
+    less R L l (f s (z .0), z .1) (like-got (p l) (p′ l) z (F s .like l (stands-somewhere end l h)) e)
+
+pub property-less : (place : Place) (end : ℕ) → Less end (propertyOf asPlaces place end)
+property-less place end = placed-less end (propertyOf asPlaces place end) (propertyOf asBytes place end) sayProp (λ s. property-says s place end) (reads-property place end) (property-solid place)
+
+pub filter-less : (end : ℕ) → Less end (filterOf asPlaces end)
+filter-less end = placed-less end (filterOf asPlaces end) (filterOf asBytes end) sayFilter (λ s. filter-says s end) (reads-filter end) filter-solid
+

@@ -1,0 +1,4 @@
+pub mod At
+pub mod Walk
+pub mod Less
+pub mod Position

@@ -1,0 +1,108 @@
+-- A read succeeds exactly when the stream begins with a sentence, and its record and length are the only ones. Assumes nothing.
+use mathlib.Core.Path.{_≡_, refl, sym, ap, _∙_}
+use mathlib.Core.Option.{Option, none, some}
+use mathlib.Core.Logic.{_↔_}
+use mathlib.Core.List.{List, [], _∷_, _++_}
+use Prim.Native.Nat.{ℕ, _+_, _-_}
+use lib.Dec.{leb}
+use native.Mathlib.Omega.{arith}
+use lib.ListN.{length, length-append}
+use Rattle.grammar.specs.Gram.{Gram, Only, only, Sure}
+use Rattle.grammar.specs.Number.{Spells}
+use Rattle.grammar.specs.Sentence.{Any, Packet, Frame, Framed, framed, Sentence, ShortSentence}
+use Rattle.reading.specs.Refusal.{nr, cut, lacking, within, over, accepted, refused}
+use Rattle.reading.specs.Reader.{Fit, got, bad, Reader, onlyOf}
+use Rattle.reading.specs.Read.{numOf, anyBytes, Shape, asBytes, frameOf, bodyAnswer, bodyFit, wholeAnswer, frameAnswer, readAs, readOf}
+use Rattle.reading.proofs.Lists.{same-front}
+use Rattle.reading.proofs.Reading.{Cut, Reads, reads-only, reads-then, reads-sized, fills-is, reads-iff}
+use Rattle.reading.proofs.Fields.{reads-byte, reads-num, any-fine}
+use Rattle.reading.proofs.Packets.{fills-body}
+
+pub no-accept : {A : Type 0} {k n m : ℕ} {vs : List ℕ} {v : A} → refused k vs n ≡ accepted v m → ⊥
+no-accept e = let z : _≡_ {A = ℕ} 0 1 = cc in omega arith
+
+-- s begins with a sentence of n bytes, which says v
+abbrev pub Begins : Gram Packet → List ℕ → Packet → ℕ → Type 0
+Begins G s v n = (b : List ℕ) × (r : List ℕ) × (s ≡ b ++ r) × G v b × (length b ≡ n)
+
+-- ---- under any limit, where N spells the lengths that it lets pass
+
+abbrev pub lengthOf : Option ℕ → Reader ℕ
+lengthOf limit = onlyOf (within limit) (over limit) (numOf (nr 1 (1 ∷ [])) 4)
+
+pub reads-length : (limit : Option ℕ) → Reads (lengthOf limit) (Only (within limit) Spells)
+reads-length limit = reads-only (within limit) (over limit) (reads-num (nr 1 (1 ∷ [])) 4)
+
+module _ (limit : Option ℕ) {N : Gram ℕ} (L : Reads (lengthOf limit) N) where
+  pub reads-frame : (end : ℕ) → Reads (frameOf limit end) (Frame N)
+  unfolding frameOf
+  reads-frame end = reads-then (reads-byte (nr 1 (2 ∷ []))) (λ _. reads-sized lacking L (λ _. fills-is anyBytes Any cut any-fine) end)
+
+  -- a whole frame, whatever follows it, and whatever strings are handed back as
+  pub answers-frame : (h : Shape) (z : ℕ × List ℕ) (c r : List ℕ) → Frame N z c → readAs h limit (c ++ r) ≡ wholeAnswer h (length c) z
+  unfolding readAs frameAnswer
+  answers-frame h z c r f =
+      let n : length (c ++ r) - length r ≡ length c = rw length-append (omega arith) in
+      rw (reads-frame (length (c ++ r)) .whole z c r f, n)
+
+  pub whole : (v : Packet) (b r : List ℕ) → Framed N v b → readOf limit (b ++ r) ≡ accepted v (length b)
+  unfolding wholeAnswer bodyAnswer
+  whole v c r (framed {x = x} {b = b} f g) = answers-frame asBytes (x, b) c r f ∙ rw (fills-body x (length c) .whole v b g)
+
+  body-begins : (s : List ℕ) (v : Packet) (n end : ℕ) (z : (ℕ × List ℕ) × List ℕ) → Cut (Frame N) s z
+      → (m : Fit Packet) → bodyFit asBytes (z .0 .0) end (z .0 .1) ≡ m → bodyAnswer (length s - length (z .1)) m ≡ accepted v n → Begins (Framed N) s v n
+  unfolding bodyAnswer
+  body-begins s v n end z t (bad (nr k vs)) e h = absurd (no-accept h)
+  body-begins s v n end z t (got w) e h =
+      let (b, e₁, f) = t in
+      let i : w ≡ v = cc in
+      let j : length s - length (z .1) ≡ n = cc in
+      let l : length b ≡ n = omega (arith, simp length-append at (ap length e₁)) in
+      (b, z .1, e₁, framed f (fills-body (z .0 .0) end .back (z .0 .1) v (e ∙ ap got i)), l)
+
+  frame-begins : (s : List ℕ) (v : Packet) (n : ℕ) (m : Fit ((ℕ × List ℕ) × List ℕ)) → frameOf limit (length s) s ≡ m → frameAnswer asBytes s m ≡ accepted v n → Begins (Framed N) s v n
+  unfolding frameAnswer wholeAnswer
+  frame-begins s v n (bad (nr k vs)) e h = absurd (no-accept h)
+  frame-begins s v n (got z) e h =
+      let end : ℕ = length s - length (z .1) in
+      body-begins s v n end z (reads-frame (length s) .split s z e) (bodyFit asBytes (z .0 .0) end (z .0 .1)) refl h
+
+  begins : (s : List ℕ) (v : Packet) (n : ℕ) → readOf limit s ≡ accepted v n → Begins (Framed N) s v n
+  unfolding readAs
+  begins s v n h = frame-begins s v n (frameOf limit (length s) s) refl h
+
+  reads-framed : (s : List ℕ) (v : Packet) (n : ℕ) → (readOf limit s ≡ accepted v n) ↔ Begins (Framed N) s v n
+  reads-framed s v n = (begins s v n, λ t. let (b, r, e, g, l) = t in rw (e, ← l) (whole v b r g))
+
+pub all-within : (n : ℕ) (b : List ℕ) → Only (within none) Spells n b ↔ Spells n b
+unfolding within
+all-within n b = (drop-test, only refl)
+  where
+    drop-test : Only (within none) Spells n b → Spells n b
+    drop-test (only h g) = g
+
+pub free : Reads (lengthOf none) Spells
+free = reads-iff all-within (reads-length none)
+
+pub bound : (m : ℕ) → Reads (lengthOf (some m)) (Only (λ l. leb l m) Spells)
+unfolding within
+bound m = reads-length (some m)
+
+pub whole-answer : (h : Shape) (limit : Option ℕ) (z : ℕ × List ℕ) (c r : List ℕ) → Frame (Only (within limit) Spells) z c → readAs h limit (c ++ r) ≡ wholeAnswer h (length c) z
+whole-answer h limit = answers-frame limit (reads-length limit) h
+
+-- ---- the demand
+
+-- with no limit a read succeeds exactly when the stream begins with a sentence; the record is the sentence's, the count its length
+pub reads-sentence : (s : List ℕ) (v : Packet) (n : ℕ) → (readOf none s ≡ accepted v n) ↔ Begins Sentence s v n
+reads-sentence = reads-framed none free
+
+-- with a limit, exactly when that sentence has at most so many bytes after its length
+pub reads-short : (m : ℕ) (s : List ℕ) (v : Packet) (n : ℕ) → (readOf (some m) s ≡ accepted v n) ↔ Begins (ShortSentence m) s v n
+reads-short m = reads-framed (some m) (bound m)
+
+-- two sentences at the front of one stream are one, with one record
+pub sentence-sure : Sure Sentence
+sentence-sure v v′ b b′ r r′ g g′ e =
+    let i : accepted v (length b) ≡ accepted v′ (length b′) = sym (whole none free v b r g) ∙ ap (readOf none) e ∙ whole none free v′ b′ r′ g′ in
+    (cc, same-front b b′ r r′ (cc) e)

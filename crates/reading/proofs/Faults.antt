@@ -1,0 +1,249 @@
+-- Each reader refuses just where its bytes have the fault, and every stream has one verdict, which is the reader's answer. Assumes nothing.
+use mathlib.Core.Path.{_≡_, refl, sym, ap, _∙_, subst}
+use mathlib.Core.Bool.{Bool, true, false, not}
+use mathlib.Core.Option.{Option, none, some}
+use mathlib.Core.Logic.{_↔_}
+use mathlib.Core.List.{List, [], _∷_, _++_}
+use Prim.Native.Nat.{ℕ, zero, suc, _+_, _-_, _/_}
+use native.Mathlib.Omega.{arith}
+use lib.ListN.{length, length-append}
+use Rattle.grammar.specs.Choice.{or, isIn, lookup, isEmpty}
+use Rattle.grammar.specs.Gram.{done, more, Many}
+use Rattle.grammar.specs.Text.{Utf8}
+use Rattle.grammar.specs.Tables.{Form, u8, u16, u32, number, text, bytes, pair, Place, publishPlace, subscribePlace, ackPlace, Layout, aPublish, anAck, aSubscribe, aPing, kinds, reserved, isPing}
+use Rattle.grammar.specs.Record.{num, str, Filter, kindOf, flagQos, mkPublish, mkAck, mkFilter, mkSubscribe, mkPing}
+use Rattle.grammar.specs.Sentence.{Prop, duoOf, Block, ackOf, notThree, notZero, qosFine, ruleFine, FilterOf, someOf, Packet}
+use Rattle.reading.specs.Refusal.{Refusal, nr, cut, crossed, lacking, within, over, Answer}
+use Rattle.reading.specs.Fault.{Sound, ManyFault, ExactFault, BytesFault, TextFault, ValueFault, PropertyFault, noId, unknown, value, BlockFault, AckFault, reason, block, IdentFault, FilterFault, FiltersFault, noFilters, filter, MessageFault, PublishFault, qos, fields, FieldsFault, BodyFault, kind, noBytes, foreign, content, FrameFault, Passing, Verdict, says, breaks, noFrame}
+use Rattle.reading.specs.Reader.{Fit, got, bad, isFit, onlyFit, exactFit, runFit, chainFit, manyFit}
+use Rattle.reading.specs.Read.{identOf, isText, anyBytes, asBytes, frameOf, bodyAnswer, stringFit, bytesOf, textOf, valueOf, valueAt, propertyOf, propertiesFit, blockOf, publishAs, subscribeAs, ackAs, ackRestFit, filterOf, filtersFit, messageFit, fieldsFit, layoutFit, bodyFit, wholeAnswer, frameAnswer, readAs, readOf}
+use Rattle.reading.proofs.Lists.{no-way}
+use Rattle.reading.proofs.Reading.{reads-only, fills-many}
+use Rattle.reading.proofs.Fields.{reads-byte, reads-big, reads-num, text-fine, reads-bytes, reads-text, reads-property, property-solid}
+use Rattle.reading.proofs.Packets.{reads-ack, reads-ident, reads-filter, filter-solid, reads-publish-block, reads-subscribe-block, kind-fine, fills-body}
+use Rattle.reading.proofs.Demand.{reads-length, reads-frame, whole-answer}
+use Rattle.reading.proofs.Refusing.{got-bad, of-bind, of-guard, Refuses, refuses-byte, refuses-big, refuses-num, refuses-none, refuses-map, refuses-only, refuses-then, refuses-end, refuses-exact, refuses-many, refuses-sized, refuses-fit, refuses-hand, refuses-is}
+
+-- ---- strings and properties
+
+sound : Refuses (isFit anyBytes cut) Sound
+unfolding isFit
+sound = record { fault = λ s k e. got-bad e; refuse = λ s k f. elim f [ ] }
+
+module _ (end : ℕ) where
+  refuses-bytes : Refuses (bytesOf asBytes end) BytesFault
+  unfolding bytesOf stringFit
+  refuses-bytes = refuses-sized crossed (reads-big cut 2) (refuses-big cut 2) (refuses-hand _ (λ _. sound)) end
+
+  refuses-text : Refuses (textOf asBytes end) TextFault
+  unfolding textOf stringFit
+  refuses-text = refuses-sized crossed (reads-big cut 2) (refuses-big cut 2) (refuses-hand _ (λ _. refuses-is isText Utf8 (nr 9 []) text-fine)) end
+
+refuses-value : (k : Form) (end : ℕ) → Refuses (valueOf asBytes k end) (ValueFault k)
+unfolding valueOf
+refuses-value u8 end = refuses-map (refuses-byte cut) num
+refuses-value u16 end = refuses-map (refuses-big cut 2) num
+refuses-value u32 end = refuses-map (refuses-big cut 4) num
+refuses-value number end = refuses-map (refuses-num cut 4) num
+refuses-value text end = refuses-map (refuses-text end) str
+refuses-value bytes end = refuses-map (refuses-bytes end) str
+refuses-value pair end = refuses-map (refuses-then (refuses-text end) (reads-text end) (refuses-text end)) duoOf
+
+module _ (place : Place) (end : ℕ) where
+  kind-fault : (i : ℕ) (s : List ℕ) (k : Refusal) (o : Option Form) → lookup place i ≡ o → valueAt asBytes o i end s ≡ bad k → PropertyFault place (i ∷ s) k
+  unfolding valueAt
+  kind-fault i s k none e h = subst (PropertyFault place (i ∷ s)) (cc) (unknown e)
+  kind-fault i s k (some t) e h = of-bind (valueOf asBytes t end s) _ k (λ e′. value e (refuses-value t end .fault s k e′)) (λ y e′ e″. got-bad e″) h
+
+  property-fault : (s : List ℕ) (k : Refusal) → propertyOf asBytes place end s ≡ bad k → PropertyFault place s k
+  unfolding propertyOf
+  property-fault [] k e = subst (PropertyFault place []) (cc) noId
+  property-fault (i ∷ s) k e = kind-fault i s k (lookup place i) refl e
+
+  property-refuse : (s : List ℕ) (k : Refusal) → PropertyFault place s k → propertyOf asBytes place end s ≡ bad k
+  unfolding propertyOf valueAt
+  property-refuse _ _ noId = refl
+  property-refuse _ _ (unknown e) = rw e
+  property-refuse _ k (value {kind = t} {s = s} e h) = rw (e, refuses-value t end .refuse s k h)
+
+  refuses-property : Refuses (propertyOf asBytes place end) (PropertyFault place)
+  refuses-property = record { fault = property-fault; refuse = property-refuse }
+
+refuses-block : {A : Type 0} (place : Place) (f : List Prop → List ℕ → ℕ → A) (end : ℕ) → Refuses (blockOf asBytes place f end) (BlockFault place)
+unfolding blockOf propertiesFit
+refuses-block place f = refuses-sized crossed (reads-num cut 4) (refuses-num cut 4) (refuses-hand f (λ e. refuses-many (refuses-property place e) (reads-property place e) (property-solid place)))
+
+-- ---- bodies
+
+module _ (rs : List ℕ) (end : ℕ) where
+  ack-block : Refuses (exactFit (blockOf asBytes ackPlace (ackAs asBytes) end) cut) (ExactFault (Block ackPlace ackOf) (BlockFault ackPlace) cut)
+  ack-block = refuses-exact (refuses-block ackPlace (ackAs asBytes) end) (reads-ack end) cut
+
+  rest-fault : (s : List ℕ) (k : Refusal) → ackRestFit asBytes rs end s ≡ bad k → AckFault rs s k
+  unfolding ackRestFit
+  rest-fault [] k = got-bad
+  rest-fault (c ∷ []) k = of-guard (isIn c rs) (nr 15 (c ∷ [])) _ k (λ h i. subst (AckFault rs (c ∷ [])) i (reason h)) (λ _ e. got-bad e)
+  rest-fault (c ∷ x ∷ r) k = of-guard (isIn c rs) (nr 15 (c ∷ [])) _ k (λ h i. subst (AckFault rs (c ∷ x ∷ r)) i (reason h))
+      λ h. of-bind (exactFit (blockOf asBytes ackPlace (ackAs asBytes) end) cut (x ∷ r)) _ k (λ e. block h (ack-block .fault (x ∷ r) k e)) (λ ps e e′. got-bad e′)
+
+  reason-refuse : (c : ℕ) (r : List ℕ) → isIn c rs ≡ false → ackRestFit asBytes rs end (c ∷ r) ≡ bad (nr 15 (c ∷ []))
+  unfolding ackRestFit
+  reason-refuse c [] h = rw h
+  reason-refuse c (x ∷ r) h = rw h
+
+  rest-refuse : (s : List ℕ) (k : Refusal) → AckFault rs s k → ackRestFit asBytes rs end s ≡ bad k
+  unfolding ackRestFit
+  rest-refuse _ _ (reason {c = c} {r = r} h) = reason-refuse c r h
+  rest-refuse _ k (block {x = x} {r = r} h f) = rw (h, ack-block .refuse (x ∷ r) k f)
+
+  refuses-rest : Refuses (ackRestFit asBytes rs end) (AckFault rs)
+  refuses-rest = record { fault = rest-fault; refuse = rest-refuse }
+
+module _ (end : ℕ) where
+  refuses-filter : Refuses (filterOf asBytes end) FilterFault
+  unfolding filterOf
+  refuses-filter =
+      refuses-map (refuses-then (refuses-text end) (reads-text end)
+      (refuses-only (refuses-only (refuses-byte cut) (reads-byte cut) ruleFine (λ _. nr 14 (3 ∷ []))) (reads-only ruleFine (λ _. nr 14 (3 ∷ [])) (reads-byte cut)) qosFine (λ _. nr 11 (3 ∷ []))))
+      mkFilter
+
+  refuses-run : Refuses (manyFit (filterOf asBytes end)) (ManyFault FilterOf FilterFault)
+  refuses-run = refuses-many refuses-filter (reads-filter end) filter-solid
+
+  empty-run : (fs : List (Filter (List ℕ))) (s : List ℕ) → someOf fs ≡ false → Many FilterOf fs s → s ≡ []
+  empty-run _ _ h done = refl
+  empty-run _ _ h (more g m) = absurd (no-way (sym h))
+
+  filters-fault : (s : List ℕ) (k : Refusal) → filtersFit asBytes end s ≡ bad k → FiltersFault s k
+  unfolding filtersFit onlyFit
+  filters-fault s k = of-bind (manyFit (filterOf asBytes end) s) _ k (λ e. filter (refuses-run .fault s k e)) λ fs e. of-guard (someOf fs) (nr 13 []) _ k
+      (λ h i. rw (empty-run fs s h (fills-many (reads-filter end) filter-solid .back s fs e), ← i) noFilters) (λ _ e′. got-bad e′)
+
+  filters-refuse : (s : List ℕ) (k : Refusal) → FiltersFault s k → filtersFit asBytes end s ≡ bad k
+  unfolding filtersFit onlyFit chainFit runFit
+  filters-refuse _ _ noFilters = refl
+  filters-refuse s k (filter h) = rw (refuses-run .refuse s k h)
+
+  refuses-filters : Refuses (filtersFit asBytes end) FiltersFault
+  refuses-filters = record { fault = filters-fault; refuse = filters-refuse }
+
+refuses-ident : (q : ℕ) → Refuses (identOf q) (IdentFault q)
+unfolding identOf
+refuses-ident zero = refuses-none 0
+refuses-ident (suc q) = refuses-only (refuses-big cut 2) (reads-big cut 2) notZero (λ _. nr 12 [])
+
+-- ---- every form
+
+module _ (x end : ℕ) where
+  refuses-message : Refuses (messageFit asBytes x end) (MessageFault (flagQos x))
+  unfolding messageFit stringFit
+  refuses-message =
+      refuses-fit (mkPublish x)
+      (refuses-end (refuses-bytes end) (reads-bytes end)
+      (refuses-end (refuses-ident (flagQos x)) (reads-ident (flagQos x))
+      (refuses-end (refuses-block publishPlace (publishAs asBytes) end) (reads-publish-block end)
+      (refuses-hand _ (λ _. sound) end))))
+
+  publish-fault : (s : List ℕ) (k : Refusal) → fieldsFit asBytes aPublish x end s ≡ bad k → PublishFault x s k
+  unfolding fieldsFit
+  publish-fault s k = of-guard (notThree (flagQos x)) (nr 11 (3 ∷ [])) _ k (λ h i. subst (PublishFault x s) i (qos h)) (λ h e. fields h (refuses-message .fault s k e))
+
+  publish-refuse : (s : List ℕ) (k : Refusal) → PublishFault x s k → fieldsFit asBytes aPublish x end s ≡ bad k
+  unfolding fieldsFit
+  publish-refuse s _ (qos h) = rw h
+  publish-refuse s k (fields h f) = rw (h, refuses-message .refuse s k f)
+
+  refuses-fields : (f : Layout) → Refuses (fieldsFit asBytes f x end) (FieldsFault f x)
+  unfolding fieldsFit
+  refuses-fields aPublish = record { fault = publish-fault; refuse = publish-refuse }
+  refuses-fields (anAck rs) = refuses-fit (mkAck x) (refuses-end (refuses-big cut 2) (reads-big cut 2) (refuses-rest rs end))
+  refuses-fields aSubscribe =
+      refuses-fit mkSubscribe
+      (refuses-end (refuses-big cut 2) (reads-big cut 2)
+      (refuses-end (refuses-block subscribePlace (subscribeAs asBytes) end) (reads-subscribe-block end)
+      (refuses-hand _ refuses-filters end)))
+  refuses-fields aPing = refuses-fit (mkPing x) sound
+
+  -- ---- rows 4, 5 and 6
+
+  not-false : (t : Bool) → not t ≡ false → t ≡ true
+  not-false true h = refl
+  not-false false h = absurd (no-way (sym h))
+
+  not-true : (t : Bool) → not t ≡ true → t ≡ false
+  not-true true h = absurd (no-way h)
+  not-true false h = refl
+
+  none-left : (t : Bool) (b : List ℕ) → or t (not (isEmpty b)) ≡ false → (t ≡ false) × (b ≡ [])
+  none-left true b h = absurd (no-way (sym h))
+  none-left false [] h = (refl, refl)
+  none-left false (y ∷ b) h = absurd (no-way (sym h))
+
+  foreign-fault : (b : List ℕ) (k : Refusal) → isIn (kindOf x) reserved ≡ false → lookup kinds (kindOf x) ≡ none → or false (not (isEmpty b)) ≡ true → nr 6 (kindOf x ∷ []) ≡ k → BodyFault x b k
+  foreign-fault [] k h e h′ i = absurd (no-way h′)
+  foreign-fault (y ∷ b) k h e h′ i = subst (BodyFault x (y ∷ b)) i (foreign h e)
+
+  form-fault : (b : List ℕ) (k : Refusal) (o : Option Layout) → isIn (kindOf x) reserved ≡ false → lookup kinds (kindOf x) ≡ o → or (isPing o) (not (isEmpty b)) ≡ true → layoutFit asBytes o x end b ≡ bad k → BodyFault x b k
+  unfolding layoutFit
+  form-fault b k none h e h′ i = foreign-fault b k h e h′ (cc)
+  form-fault b k (some f) h e h′ i = content e h′ (refuses-fields f .fault b k i)
+
+  body-fault : (b : List ℕ) (k : Refusal) → bodyFit asBytes x end b ≡ bad k → BodyFault x b k
+  unfolding bodyFit
+  body-fault b k =
+      of-guard (not (isIn (kindOf x) reserved)) (nr 4 (kindOf x ∷ [])) _ k (λ h i. subst (BodyFault x b) i (kind (not-false (isIn (kindOf x) reserved) h))) λ h.
+      let h₀ : isIn (kindOf x) reserved ≡ false = not-true (isIn (kindOf x) reserved) h in
+      of-guard (or (isPing (lookup kinds (kindOf x))) (not (isEmpty b))) (nr 5 []) _ k
+      (λ h′ i. let (p, n) = none-left (isPing (lookup kinds (kindOf x))) b h′ in rw (n, ← i) (noBytes h₀ p))
+      (λ h′. form-fault b k (lookup kinds (kindOf x)) h₀ refl h′)
+
+  body-refuse : (b : List ℕ) (k : Refusal) → BodyFault x b k → bodyFit asBytes x end b ≡ bad k
+  unfolding bodyFit layoutFit
+  body-refuse b _ (kind h) = rw h
+  body-refuse _ _ (noBytes h h′) = rw (h, h′)
+  body-refuse _ _ (foreign h e) = rw (h, e)
+  body-refuse b k (content {f = f} e h g) = rw (kind-fine (kindOf x) f e, e, h, refuses-fields f .refuse b k g)
+
+  pub refuses-body : Refuses (bodyFit asBytes x end) (BodyFault x)
+  refuses-body = record { fault = body-fault; refuse = body-refuse }
+
+-- ---- the frame, and the verdict
+
+pub refuses-frame : (limit : Option ℕ) (end : ℕ) → Refuses (frameOf limit end) (FrameFault limit)
+unfolding frameOf
+refuses-frame limit end =
+    refuses-then (refuses-byte (nr 1 (2 ∷ []))) (reads-byte (nr 1 (2 ∷ [])))
+    (refuses-sized lacking (reads-length limit) (refuses-only (refuses-num (nr 1 (1 ∷ [])) 4) (reads-num (nr 1 (1 ∷ [])) 4) (within limit) (over limit)) (λ _. sound) end)
+
+module _ (limit : Option ℕ) where
+  body-verdict : (c r : List ℕ) (z : ℕ × List ℕ) (end : ℕ) → Passing limit z c → (m : Fit Packet) → bodyFit asBytes (z .0) end (z .1) ≡ m → Verdict limit (c ++ r) (bodyAnswer (length c) m)
+  unfolding bodyAnswer
+  body-verdict c r z end f (got v) e = says r f (fills-body (z .0) end .back (z .1) v e)
+  body-verdict c r z end f (bad (nr k vs)) e = breaks r f (refuses-body (z .0) end .fault (z .1) (nr k vs) e)
+
+  whole-verdict : (s c r : List ℕ) (z : ℕ × List ℕ) → Passing limit z c → s ≡ c ++ r → Verdict limit s (wholeAnswer asBytes (length s - length r) z)
+  unfolding wholeAnswer
+  whole-verdict s c r z f e =
+      let n : length s - length r ≡ length c = omega (arith, ap length e, length-append c r) in
+      rw (n, e) (body-verdict c r z (length c) f (bodyFit asBytes (z .0) (length c) (z .1)) refl)
+
+  frame-verdict : (s : List ℕ) (m : Fit ((ℕ × List ℕ) × List ℕ)) → frameOf limit (length s) s ≡ m → Verdict limit s (frameAnswer asBytes s m)
+  unfolding frameAnswer
+  frame-verdict s (bad (nr k vs)) e = noFrame (refuses-frame limit (length s) .fault s (nr k vs) e)
+  frame-verdict s (got z) e =
+      let (c, e₁, f) = reads-frame limit (reads-length limit) (length s) .split s z e in
+      whole-verdict s c (z .1) (z .0) f e₁
+
+  has-verdict : (s : List ℕ) → Verdict limit s (readOf limit s)
+  unfolding readAs
+  has-verdict s = frame-verdict s (frameOf limit (length s) s) refl
+
+  one-verdict : (s : List ℕ) (a : Answer Packet) → Verdict limit s a → readOf limit s ≡ a
+  unfolding readAs frameAnswer wholeAnswer bodyAnswer
+  one-verdict _ _ (says {x = x} {b = b} {c = c} {v = v} r f g) = whole-answer asBytes limit (x, b) c r f ∙ rw (fills-body x (length c) .whole v b g)
+  one-verdict _ _ (breaks {x = x} {k = k} {b = b} {c = c} {vs = vs} r f g) = whole-answer asBytes limit (x, b) c r f ∙ rw (refuses-body x (length c) .refuse b (nr k vs) g)
+  one-verdict s _ (noFrame {k = k} {vs = vs} h) = rw (refuses-frame limit (length s) .refuse s (nr k vs) h)
+
+-- every stream has one verdict, and it is the answer: a sentence at its front, a whole frame with one fault, or no frame to take
+pub answered : (limit : Option ℕ) (s : List ℕ) (a : Answer Packet) → (readOf limit s ≡ a) ↔ Verdict limit s a
+answered limit s a = (λ e. subst (Verdict limit s) e (has-verdict limit s), one-verdict limit s a)

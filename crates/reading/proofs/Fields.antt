@@ -1,0 +1,178 @@
+-- The readers of numbers, strings and properties read their grammars. Assumes nothing.
+use mathlib.Core.Path.{_≡_, refl, ap}
+use mathlib.Core.Bool.{Bool, true, false}
+use mathlib.Core.Option.{Option, none, some}
+use mathlib.Core.List.{List, [], _∷_, _++_}
+use Prim.Native.Nat.{ℕ, zero, suc, _+_, _-_, _*_}
+use native.Mathlib.Omega.{arith}
+use lib.ListN.{length, take, drop, length-append, take-append-drop}
+use lib.Seq.{take-at, drop-at, length-take-le}
+use lib.Dec.{leb, ltb, leb→le, ltb→lt}
+use Rattle.grammar.specs.Choice.{lookup}
+use Rattle.grammar.specs.Gram.{Many, Is, Solid}
+use Rattle.grammar.specs.Number.{Byte, byte, bigFrom, Big, big, Groups, last, next}
+use Rattle.grammar.specs.Text.{Range, inRange, rows, rowAt, cons, Follow, Rest, Char, Utf8}
+use Rattle.grammar.specs.Tables.{Form, u8, u16, u32, number, text, bytes, pair, Place}
+use Rattle.grammar.specs.Record.{num, str}
+use Rattle.grammar.specs.Sentence.{Any, Bytes, Text, Prop, duoOf, Spelt, Property, property, Block}
+use Rattle.reading.specs.Refusal.{Refusal, nr, cut, crossed}
+use Rattle.reading.specs.Reader.{Fit, got, bad, manyFit, isGot}
+use Rattle.reading.specs.Read.{bigOf, byteOf, groupOf, numOf, followOf, restOf, charOf, isText, anyBytes, asBytes, stringFit, bytesOf, textOf, valueOf, valueAt, propertyOf, propertiesFit, blockOf}
+use Rattle.reading.proofs.Lists.{no-way, T-of, leb-yes, ltb-yes, ltb-false, ltb-no}
+use Rattle.reading.proofs.Reading.{bad-got, from-got, from-bind, from-guard, Cut, Reads, Fills, reads-none, reads-map, reads-only, reads-then, reads-sized, fills-hand, fills-as, fills-many, fills-is, reads-never, solid-map, solid-then, solid-sized}
+use mathlib.Core.Logic.{_↔_}
+
+-- ---- numbers
+
+module _ (c : Refusal) where
+  byte-whole : (n : ℕ) (b r : List ℕ) → Byte n b → byteOf c (b ++ r) ≡ got (n, r)
+  unfolding byteOf
+  byte-whole _ _ r byte = refl
+
+  byte-split : (s : List ℕ) (z : ℕ × List ℕ) → byteOf c s ≡ got z → Cut Byte s z
+  unfolding byteOf
+  byte-split [] = λ z e. absurd (bad-got e)
+  byte-split (x ∷ s) = from-got (Cut Byte (x ∷ s)) (x, s) (x ∷ [], refl, byte)
+
+  pub reads-byte : Reads (byteOf c) Byte
+  reads-byte = record { whole = byte-whole; split = byte-split }
+
+pub byte-solid : Solid Byte
+byte-solid _ _ byte e = let z : _≡_ {A = ℕ} 0 1 = cc in omega arith
+
+module _ (c : Refusal) (k : ℕ) where
+  big-whole : (n : ℕ) (b r : List ℕ) → Big k n b → bigOf c k (b ++ r) ≡ got (n, r)
+  unfolding bigOf
+  big-whole _ b r (big e) =
+      rw (leb-yes k (length (b ++ r)) (rw length-append (omega arith)), take-at b r k e, drop-at b r k e)
+
+  big-split : (s : List ℕ) (z : ℕ × List ℕ) → bigOf c k s ≡ got z → Cut (Big k) s z
+  unfolding bigOf
+  big-split s = from-guard (leb k (length s)) c (got (bigFrom 0 (take k s), drop k s)) λ h.
+      from-got (Cut (Big k) s) (bigFrom 0 (take k s), drop k s)
+      (take k s, rw (take-append-drop k s), big (length-take-le k s (leb→le k (length s) (T-of (leb k (length s)) h))))
+
+  pub reads-big : Reads (bigOf c k) (Big k)
+  reads-big = record { whole = big-whole; split = big-split }
+
+module _ (c : Refusal) where
+  num-whole : (k n : ℕ) (b r : List ℕ) → Groups k n b → numOf c k (b ++ r) ≡ got (n, r)
+  unfolding numOf groupOf
+  num-whole _ _ _ r (last {k = k} {x = x} h) = rw (ltb-yes x 128 h)
+  num-whole _ _ _ r (next {k = k} {x = x} {n = n} {b = b} h g) = rw (ltb-no x 128 h, num-whole k n b r g)
+
+  num-step : (k x : ℕ) (s : List ℕ) → ((z : ℕ × List ℕ) → numOf c k s ≡ got z → Cut (Groups k) s z)
+      → (t : Bool) → ltb x 128 ≡ t → (z : ℕ × List ℕ) → groupOf t x s (numOf c k s) ≡ got z → Cut (Groups (suc k)) (x ∷ s) z
+  unfolding groupOf
+  num-step k x s ih true e = from-got (Cut (Groups (suc k)) (x ∷ s)) (x, s) (x ∷ [], refl, last (ltb→lt x 128 (T-of (ltb x 128) e)))
+  num-step k x s ih false e = from-bind (numOf c k s) (λ y. got (x - 128 + 128 * y .0, y .1)) λ y e₁.
+      let (b, e₂, g) = ih y e₁ in
+      from-got (Cut (Groups (suc k)) (x ∷ s)) (x - 128 + 128 * y .0, y .1) (x ∷ b, ap (λ (l : List ℕ). x ∷ l) e₂, next (ltb-false x 128 e) g)
+
+  num-split : (k : ℕ) (s : List ℕ) (z : ℕ × List ℕ) → numOf c k s ≡ got z → Cut (Groups k) s z
+  unfolding numOf
+  num-split zero s = λ z e. absurd (bad-got e)
+  num-split (suc k) [] = λ z e. absurd (bad-got e)
+  num-split (suc k) (x ∷ s) = num-step k x s (num-split k s) (ltb x 128) refl
+
+  pub reads-num : (k : ℕ) → Reads (numOf c k) (Groups k)
+  reads-num k = record { whole = num-whole k; split = num-split k }
+
+pub num-solid : (k : ℕ) → Solid (Groups k)
+num-solid _ _ _ (last h) e = let z : _≡_ {A = ℕ} 0 1 = cc in omega arith
+num-solid _ _ _ (next h g) e = let z : _≡_ {A = ℕ} 0 1 = cc in omega arith
+
+pub big-solid : (k : ℕ) → Solid (Big (suc k))
+big-solid k _ b (big l) e = omega (arith, ap length e)
+
+-- ---- text
+
+reads-follow : (rs : List Range) → Reads (followOf rs) (Follow rs)
+unfolding followOf
+reads-follow [] = reads-none []
+reads-follow (r ∷ rs) = reads-map cons (reads-then (reads-only (inRange r) (λ _. nr 9 []) (reads-byte (nr 9 []))) (λ _. reads-follow rs))
+
+reads-rest : (o : Option (List Range)) → Reads (restOf o) (Rest o)
+unfolding restOf
+reads-rest none = reads-never (nr 9 [])
+reads-rest (some rs) = reads-follow rs
+
+reads-char : Reads charOf Char
+unfolding charOf
+reads-char = reads-map cons (reads-then (reads-byte (nr 9 [])) (λ x. reads-rest (rowAt rows x)))
+
+fills-chars : Fills (manyFit charOf) (Many Char)
+fills-chars = fills-many reads-char (solid-map cons (solid-then byte-solid))
+
+pub text-fine : (b : List ℕ) → (isText b ≡ true) ↔ Utf8 b
+unfolding isText
+text-fine b = (go (manyFit charOf b) refl, λ t. rw (fills-chars .whole (t .0) b (t .1)))
+  where
+    go : (m : Fit (List (List ℕ))) → manyFit charOf b ≡ m → isGot m ≡ true → Utf8 b
+    go (got cs) e h = (cs, fills-chars .back b cs e)
+    go (bad k) e h = absurd (no-way h)
+
+pub any-fine : (b : List ℕ) → (anyBytes b ≡ true) ↔ Any b
+any-fine b = (λ _. tt, λ _. refl)
+
+-- ---- strings and values, as bytes; `end` does not matter
+
+pub fills-string : (t : List ℕ → Bool) (P : List ℕ → Type 0) (c : Refusal) → ((b : List ℕ) → (t b ≡ true) ↔ P b) → (end : ℕ) → Fills (stringFit asBytes t c end) (Is P)
+unfolding stringFit
+fills-string t P c D end = fills-as (λ _. fills-is t P c D) end
+
+pub reads-bytes : (end : ℕ) → Reads (bytesOf asBytes end) Bytes
+unfolding bytesOf
+reads-bytes = reads-sized crossed (reads-big cut 2) (fills-string anyBytes Any cut any-fine)
+
+pub reads-text : (end : ℕ) → Reads (textOf asBytes end) Text
+unfolding textOf
+reads-text = reads-sized crossed (reads-big cut 2) (fills-string isText Utf8 (nr 9 []) text-fine)
+
+pub reads-value : (k : Form) (end : ℕ) → Reads (valueOf asBytes k end) (Spelt k)
+unfolding valueOf
+reads-value u8 end = reads-map num (reads-byte cut)
+reads-value u16 end = reads-map num (reads-big cut 2)
+reads-value u32 end = reads-map num (reads-big cut 4)
+reads-value number end = reads-map num (reads-num cut 4)
+reads-value text end = reads-map str (reads-text end)
+reads-value bytes end = reads-map str (reads-bytes end)
+reads-value pair end = reads-map duoOf (reads-then (reads-text end) (λ _. reads-text end))
+
+-- ---- properties
+
+module _ (place : Place) (end : ℕ) where
+  property-whole : (a : Prop) (b r : List ℕ) → Property place a b → propertyOf asBytes place end (b ++ r) ≡ got (a, r)
+  unfolding propertyOf valueAt
+  property-whole _ _ r (property {f = k} {v = v} {b = b} e g) = rw (e, reads-value k end .whole v b r g)
+
+  kind-split : (i : ℕ) (s : List ℕ) (k : Option Form) → lookup place i ≡ k → (z : Prop × List ℕ) → valueAt asBytes k i end s ≡ got z → Cut (Property place) (i ∷ s) z
+  unfolding valueAt
+  kind-split i s none e = λ z e′. absurd (bad-got e′)
+  kind-split i s (some k) e = from-bind (valueOf asBytes k end s) (λ y. got ((i, y .0), y .1)) λ y e₁.
+      let (b, e₂, g) = reads-value k end .split s y e₁ in
+      from-got (Cut (Property place) (i ∷ s)) ((i, y .0), y .1) (i ∷ b, ap (λ (l : List ℕ). i ∷ l) e₂, property e g)
+
+  property-split : (s : List ℕ) (z : Prop × List ℕ) → propertyOf asBytes place end s ≡ got z → Cut (Property place) s z
+  unfolding propertyOf
+  property-split [] = λ z e. absurd (bad-got e)
+  property-split (i ∷ s) = kind-split i s (lookup place i) refl
+
+  pub reads-property : Reads (propertyOf asBytes place end) (Property place)
+  reads-property = record { whole = property-whole; split = property-split }
+
+pub property-solid : (place : Place) → Solid (Property place)
+property-solid place _ _ (property e g) h = let z : _≡_ {A = ℕ} 0 1 = cc in omega arith
+
+pub fills-properties : (place : Place) (end : ℕ) → Fills (propertiesFit asBytes place end) (Many (Property place))
+unfolding propertiesFit
+fills-properties place end = fills-many (reads-property place end) (property-solid place)
+
+module _ {A : Type 0} (place : Place) where
+  pub reads-block : (f : List Prop → List ℕ → ℕ → A) (f′ : List Prop → A) → ((ps : List Prop) (b : List ℕ) (e : ℕ) → f ps b e ≡ f′ ps)
+      → (end : ℕ) → Reads (blockOf asBytes place f end) (Block place f′)
+  unfolding blockOf
+  reads-block f f′ m = reads-sized crossed (reads-num cut 4) (fills-hand f f′ m (fills-properties place))
+
+  pub block-solid : (f : List Prop → A) → Solid (Block place f)
+  block-solid f = solid-sized (num-solid 4)

@@ -1,0 +1,12 @@
+pub mod Lists
+pub mod Reading
+pub mod Fields
+pub mod Packets
+pub mod Demand
+pub mod Forget
+pub mod Places
+pub mod Items
+pub mod Refusing
+pub mod Faults
+pub mod Rows
+pub mod Stream

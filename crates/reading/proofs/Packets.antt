@@ -1,0 +1,147 @@
+-- Each form's reader fills a frame just as its grammar does. Assumes nothing.
+use mathlib.Core.Path.{_≡_, refl}
+use mathlib.Core.Bool.{Bool, true, false, not}
+use mathlib.Core.Option.{Option, none, some}
+use mathlib.Core.List.{List, [], _∷_}
+use Prim.Native.Nat.{ℕ, zero, suc, _/_}
+use lib.Dec.{eqb}
+use Rattle.grammar.specs.Choice.{or, isIn, lookup, isEmpty}
+use Rattle.grammar.specs.Gram.{Gram, Only, only, Many, Solid}
+use Rattle.grammar.specs.Tables.{publishPlace, subscribePlace, ackPlace, Layout, aPublish, anAck, aSubscribe, aPing, kinds, reserved, isPing}
+use Rattle.grammar.specs.Record.{AckProps, kindOf, flagQos, mkPublish, mkAck, mkFilter, mkSubscribe, mkPing}
+use Rattle.grammar.specs.Sentence.{Any, Block, publishOf, subscribeOf, ackOf, notThree, notZero, Ident, publishGood, qosFine, ruleFine, FilterOf, someOf, AckRest, plain, coded, full, Packet, Fields, Body, body}
+use Rattle.reading.specs.Refusal.{Refusal, nr, cut}
+use Rattle.reading.specs.Reader.{got, Filler, _>>=_, _>>_, guard, exactFit}
+use Rattle.reading.specs.Read.{identOf, anyBytes, asBytes, blockOf, publishAs, subscribeAs, ackAs, ackRestFit, filterOf, filtersFit, messageFit, fieldsFit, layoutFit, bodyFit}
+use Rattle.reading.proofs.Lists.{eq-of}
+use Rattle.reading.proofs.Reading.{bad-got, from-got, from-bind, from-guard, Reads, Fills, reads-none, reads-map, reads-only, reads-then, fills-map, fills-as, fills-many, fills-then, fills-exact, fills-only, fills-is, solid-map, solid-then, solid-sized, solid-only}
+use Rattle.reading.proofs.Fields.{reads-byte, reads-big, big-solid, any-fine, fills-string, reads-bytes, reads-text, reads-block, block-solid}
+
+-- ---- PubAck
+
+pub reads-ack : (end : ℕ) → Reads (blockOf asBytes ackPlace (ackAs asBytes) end) (Block ackPlace ackOf)
+reads-ack = reads-block ackPlace (ackAs asBytes) ackOf (λ _ _ _. refl)
+
+module _ (rs : List ℕ) (end : ℕ) where
+  full-whole : (c : ℕ) (ps : Option (AckProps (List ℕ) List)) (b : List ℕ) → isIn c rs ≡ true → Block ackPlace ackOf ps b → ackRestFit asBytes rs end (c ∷ b) ≡ got (c, ps)
+  unfolding ackRestFit
+  full-whole c ps [] h g = absurd (block-solid ackPlace ackOf ps [] g refl)
+  full-whole c ps (x ∷ b) h g = rw (h, fills-exact cut (reads-ack end) .whole ps (x ∷ b) g)
+
+  rest-whole : (a : ℕ × Option (AckProps (List ℕ) List)) (b : List ℕ) → AckRest rs a b → ackRestFit asBytes rs end b ≡ got a
+  unfolding ackRestFit
+  rest-whole _ _ plain = refl
+  rest-whole _ _ (coded h) = rw h
+  rest-whole _ _ (full {c = c} {ps = ps} {b = b} h g) = full-whole c ps b h g
+
+  rest-back : (b : List ℕ) (z : ℕ × Option (AckProps (List ℕ) List)) → ackRestFit asBytes rs end b ≡ got z → AckRest rs z b
+  unfolding ackRestFit
+  rest-back [] = from-got (λ z. AckRest rs z []) (0, none) plain
+  rest-back (c ∷ []) = from-guard (isIn c rs) (nr 15 (c ∷ [])) (got (c, none)) λ h. from-got (λ z. AckRest rs z (c ∷ [])) (c, none) (coded h)
+  rest-back (c ∷ x ∷ r) =
+      from-guard (isIn c rs) (nr 15 (c ∷ [])) (exactFit (blockOf asBytes ackPlace (ackAs asBytes) end) cut (x ∷ r) >>= λ ps. got (c, ps)) λ h.
+      from-bind (exactFit (blockOf asBytes ackPlace (ackAs asBytes) end) cut (x ∷ r)) (λ ps. got (c, ps)) λ ps e.
+      from-got (λ z. AckRest rs z (c ∷ x ∷ r)) (c, ps) (full h (fills-exact cut (reads-ack end) .back (x ∷ r) ps e))
+
+  pub fills-rest : Fills (ackRestFit asBytes rs end) (AckRest rs)
+  fills-rest = record { whole = rest-whole; back = rest-back }
+
+-- ---- Publish and Subscribe
+
+pub reads-ident : (q : ℕ) → Reads (identOf q) (Ident q)
+unfolding identOf
+reads-ident zero = reads-none 0
+reads-ident (suc q) = reads-only notZero (λ _. nr 12 []) (reads-big cut 2)
+
+pub reads-filter : (end : ℕ) → Reads (filterOf asBytes end) FilterOf
+unfolding filterOf
+reads-filter end = reads-map mkFilter (reads-then (reads-text end) (λ _. reads-only qosFine (λ _. nr 11 (3 ∷ [])) (reads-only ruleFine (λ _. nr 14 (3 ∷ [])) (reads-byte cut))))
+
+pub filter-solid : Solid FilterOf
+filter-solid = solid-map mkFilter (solid-then (solid-sized (big-solid 1)))
+
+pub fills-filters : (end : ℕ) → Fills (filtersFit asBytes end) (Only someOf (Many FilterOf))
+unfolding filtersFit
+fills-filters end = fills-only someOf (nr 13 []) (fills-many (reads-filter end) filter-solid)
+
+pub reads-publish-block : (end : ℕ) → Reads (blockOf asBytes publishPlace (publishAs asBytes) end) (Block publishPlace publishOf)
+reads-publish-block = reads-block publishPlace (publishAs asBytes) publishOf (λ _ _ _. refl)
+
+pub reads-subscribe-block : (end : ℕ) → Reads (blockOf asBytes subscribePlace (subscribeAs asBytes) end) (Block subscribePlace subscribeOf)
+reads-subscribe-block = reads-block subscribePlace (subscribeAs asBytes) subscribeOf (λ _ _ _. refl)
+
+-- ---- every form
+
+module _ {q : Filler Packet} {G : Gram Packet} (t : Bool) (k : Refusal) (S : Fills q G) where
+  first-whole : (v : Packet) (b : List ℕ) → Only (λ _. t) G v b → (guard t k >> q b) ≡ got v
+  first-whole v b (only h g) = rw (h, S .whole v b g)
+
+  first-back : (b : List ℕ) (v : Packet) → (guard t k >> q b) ≡ got v → Only (λ _. t) G v b
+  first-back b = from-guard t k (q b) λ h v e. only h (S .back b v e)
+
+  -- a test of the first byte alone
+  fills-first : Fills (λ b. guard t k >> q b) (Only (λ _. t) G)
+  fills-first = record { whole = first-whole; back = first-back }
+
+pub fills-fields : (f : Layout) (x end : ℕ) → Fills (fieldsFit asBytes f x end) (Fields f x)
+unfolding fieldsFit messageFit
+fills-fields aPublish x end =
+    fills-first (notThree (flagQos x)) (nr 11 (3 ∷ []))
+    (fills-map (mkPublish x)
+    (fills-then (reads-bytes end)
+    (λ _. fills-then (reads-ident (flagQos x))
+    (λ _. fills-then (reads-publish-block end)
+    (λ _. fills-string anyBytes Any cut any-fine end)))))
+fills-fields (anAck rs) x end = fills-map (mkAck x) (fills-then (reads-big cut 2) (λ _. fills-rest rs end))
+fills-fields aSubscribe x end =
+    fills-map mkSubscribe
+    (fills-then (reads-big cut 2)
+    (λ _. fills-then (reads-subscribe-block end)
+    (λ _. fills-as fills-filters end)))
+fills-fields aPing x end = fills-map (mkPing x) (fills-is anyBytes Any cut any-fine)
+
+-- ---- the body
+
+held : {G : Gram Packet} → Solid G → (v : Packet) (b : List ℕ) → G v b → not (isEmpty b) ≡ true
+held S v [] g = absurd (S v [] g refl)
+held S v (y ∷ b) g = refl
+
+-- a form that is no ping has bytes
+bytes-fine : (f : Layout) (x : ℕ) (v : Packet) (b : List ℕ) → Fields f x v b → or (isPing (some f)) (not (isEmpty b)) ≡ true
+bytes-fine aPublish x v b g = held (solid-only (publishGood x) (solid-map (mkPublish x) (solid-then (solid-sized (big-solid 1))))) v b g
+bytes-fine (anAck rs) x v b g = held (solid-map (mkAck x) (solid-then (big-solid 1))) v b g
+bytes-fine aSubscribe x v b g = held (solid-map mkSubscribe (solid-then (big-solid 1))) v b g
+bytes-fine aPing x v b g = refl
+
+-- a kind that has a form is neither 0 nor 15
+pub kind-fine : (k : ℕ) (f : Layout) → lookup kinds k ≡ some f → not (isIn k reserved) ≡ true
+unfolding kinds
+kind-fine k f e = first (eqb k 0) refl
+  where
+    second : (t : Bool) → eqb k 15 ≡ t → not (or t false) ≡ true
+    second true h = let i : k ≡ 15 = eq-of k 15 h in let z : none ≡ some f = rw i at e in cc
+    second false h = refl
+
+    first : (t : Bool) → eqb k 0 ≡ t → not (or t (or (eqb k 15) false)) ≡ true
+    first true h = let i : k ≡ 0 = eq-of k 0 h in let z : none ≡ some f = rw i at e in cc
+    first false h = second (eqb k 15) refl
+
+module _ (x end : ℕ) where
+  body-whole : (v : Packet) (b : List ℕ) → Body x v b → bodyFit asBytes x end b ≡ got v
+  unfolding bodyFit layoutFit
+  body-whole v b (body {l = f} e g) = rw (kind-fine (kindOf x) f e, e, bytes-fine f x v b g, fills-fields f x end .whole v b g)
+
+  form-back : (b : List ℕ) (o : Option Layout) → lookup kinds (kindOf x) ≡ o → (z : Packet) → layoutFit asBytes o x end b ≡ got z → Body x z b
+  unfolding layoutFit
+  form-back b none e z h = absurd (bad-got h)
+  form-back b (some f) e z h = body e (fills-fields f x end .back b z h)
+
+  body-back : (b : List ℕ) (z : Packet) → bodyFit asBytes x end b ≡ got z → Body x z b
+  unfolding bodyFit
+  body-back b =
+      from-guard (not (isIn (kindOf x) reserved)) (nr 4 (kindOf x ∷ [])) _ λ _.
+      from-guard (or (isPing (lookup kinds (kindOf x))) (not (isEmpty b))) (nr 5 []) _ λ _.
+      form-back b (lookup kinds (kindOf x)) refl
+
+  pub fills-body : Fills (bodyFit asBytes x end) (Body x)
+  fills-body = record { whole = body-whole; back = body-back }

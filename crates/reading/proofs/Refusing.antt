@@ -1,0 +1,298 @@
+-- When a reader refuses: just where its bytes have the fault, and with that refusal. One law for each way to build a reader. Assumes nothing.
+use mathlib.Core.Path.{_≡_, refl, sym, _∙_, subst}
+use mathlib.Core.Bool.{Bool, true, false}
+use mathlib.Core.Logic.{_↔_}
+use mathlib.Core.List.{List, [], _∷_, _++_}
+use Prim.Native.Nat.{ℕ, zero, suc, _+_, _-_, _≤_, _<_}
+use native.Mathlib.Omega.{arith}
+use lib.Dec.{leb, ltb, leb→le, nleb→lt}
+use lib.ListN.{length, take, drop, length-append, take-append-drop}
+use lib.Seq.{take-append-seam, drop-append-seam, length-take-le}
+use Rattle.grammar.specs.Choice.{isEmpty}
+use Rattle.grammar.specs.Gram.{Gram, forget, Solid}
+use Rattle.reading.specs.Refusal.{Refusal, nr}
+use Rattle.reading.specs.Fault.{Fault, Sound, OnlyFault, under, fails, ThenFault, first, second, SizedFault, sizes, crosses, fills, ManyFault, now, later, ExactFault, before, follows, IsFault, isnt, ByteFault, noByte, BigFault, fewer, Tops, noTops, aTop, NumFault, endless, long}
+use Rattle.reading.specs.Reader.{Fit, got, bad, Reader, Filler, _>>=_, _>>_, guard, noneOf, mapOf, onlyOf, thenOf, sizedOf, isFit, mapFit, handFit, thenFit, exactFit, runFit, chainFit, manyFit}
+use Rattle.reading.specs.Read.{bigOf, byteOf, groupOf, numOf}
+use Rattle.reading.proofs.Lists.{no-way, T-of, leb-yes, leb-no, ltb-false, ltb-no}
+use Rattle.reading.proofs.Reading.{bad-got, Reads, less}
+
+-- ---- taking a refusal apart
+
+pub got-bad : {A C : Type 0} {a : A} {k : Refusal} → got a ≡ bad k → C
+got-bad e = absurd (bad-got (sym e))
+
+pub of-bind : {A B C : Type 0} (m : Fit A) (f : A → Fit B) (k : Refusal) → (m ≡ bad k → C) → ((a : A) → m ≡ got a → f a ≡ bad k → C) → (m >>= f) ≡ bad k → C
+of-bind (got a) f k x y e = y a refl e
+of-bind (bad c) f k x y e = x (cc)
+
+pub of-guard : {B C : Type 0} (t : Bool) (c : Refusal) (m : Fit B) (k : Refusal) → (t ≡ false → c ≡ k → C) → (t ≡ true → m ≡ bad k → C) → (guard t c >> m) ≡ bad k → C
+of-guard true c m k x y e = y refl e
+of-guard false c m k x y e = x refl (cc)
+
+leb-false : (m n : ℕ) → leb m n ≡ false → n < m
+leb-false m n e = nleb→lt m n (rw e tt)
+
+-- ---- what a reader, or a filler, that refuses has to do
+
+pub record Refuses {B : Type 0} (p : List ℕ → Fit B) (F : Fault) : Type 0 where
+  pub fault : (s : List ℕ) (k : Refusal) → p s ≡ bad k → F s k
+  pub refuse : (s : List ℕ) (k : Refusal) → F s k → p s ≡ bad k
+
+-- ---- numbers
+
+module _ (c : Refusal) where
+  byte-fault : (s : List ℕ) (k : Refusal) → byteOf c s ≡ bad k → ByteFault c s k
+  unfolding byteOf
+  byte-fault [] k e = subst (ByteFault c []) (cc) noByte
+  byte-fault (x ∷ s) k e = got-bad e
+
+  byte-refuse : (s : List ℕ) (k : Refusal) → ByteFault c s k → byteOf c s ≡ bad k
+  unfolding byteOf
+  byte-refuse _ _ noByte = refl
+
+  pub refuses-byte : Refuses (byteOf c) (ByteFault c)
+  refuses-byte = record { fault = byte-fault; refuse = byte-refuse }
+
+  module _ (n : ℕ) where
+    big-fault : (s : List ℕ) (k : Refusal) → bigOf c n s ≡ bad k → BigFault c n s k
+    unfolding bigOf
+    big-fault s k = of-guard (leb n (length s)) c _ k (λ h i. subst (BigFault c n s) i (fewer (leb-false n (length s) h))) (λ _ e. got-bad e)
+
+    big-refuse : (s : List ℕ) (k : Refusal) → BigFault c n s k → bigOf c n s ≡ bad k
+    unfolding bigOf
+    big-refuse s _ (fewer h) = rw (leb-no n (length s) h)
+
+    pub refuses-big : Refuses (bigOf c n) (BigFault c n)
+    refuses-big = record { fault = big-fault; refuse = big-refuse }
+
+  -- a byte with its top bit set before a fault
+  more : (n x : ℕ) (s : List ℕ) (k : Refusal) → 128 ≤ x → NumFault c n s k → NumFault c (suc n) (x ∷ s) k
+  more n x _ _ h (endless t l) = endless (aTop h t) (omega arith)
+  more n x _ _ h (long r t l) = long r (aTop h t) (omega arith)
+
+  num-step : (n x : ℕ) (s : List ℕ) (k : Refusal) → (numOf c n s ≡ bad k → NumFault c n s k) → (t : Bool) → ltb x 128 ≡ t → groupOf t x s (numOf c n s) ≡ bad k → NumFault c (suc n) (x ∷ s) k
+  unfolding groupOf
+  num-step n x s k ih true h e = got-bad e
+  num-step n x s k ih false h e = of-bind (numOf c n s) _ k (λ e′. more n x s k (ltb-false x 128 h) (ih e′)) (λ y e′ e″. got-bad e″) e
+
+  num-fault : (n : ℕ) (s : List ℕ) (k : Refusal) → numOf c n s ≡ bad k → NumFault c n s k
+  unfolding numOf
+  num-fault zero s k e = subst (NumFault c zero s) (cc) (long s noTops refl)
+  num-fault (suc n) [] k e = subst (NumFault c (suc n) []) (cc) (endless noTops (omega arith))
+  num-fault (suc n) (x ∷ s) k e = num-step n x s k (num-fault n s k) (ltb x 128) refl e
+
+  tops-end : (n : ℕ) (s : List ℕ) → Tops s → length s < n → numOf c n s ≡ bad c
+  unfolding numOf groupOf
+  tops-end zero s t h = absurd (omega arith)
+  tops-end (suc n) _ noTops h = refl
+  tops-end (suc n) _ (aTop {x = x} {b = b} g t) h = rw (ltb-no x 128 g, tops-end n b t (omega arith))
+
+  tops-long : (n : ℕ) (b r : List ℕ) → Tops b → length b ≡ n → numOf c n (b ++ r) ≡ bad (nr 2 [])
+  unfolding numOf groupOf
+  tops-long zero _ r noTops h = refl
+  tops-long (suc n) _ r noTops h = absurd (omega arith)
+  tops-long zero _ r (aTop g t) h = absurd (omega arith)
+  tops-long (suc n) _ r (aTop {x = x} {b = b} g t) h = rw (ltb-no x 128 g, tops-long n b r t (omega arith))
+
+  num-refuse : (n : ℕ) (s : List ℕ) (k : Refusal) → NumFault c n s k → numOf c n s ≡ bad k
+  num-refuse n s _ (endless t h) = tops-end n s t h
+  num-refuse n _ _ (long {b = b} r t h) = tops-long n b r t h
+
+  pub refuses-num : (n : ℕ) → Refuses (numOf c n) (NumFault c n)
+  refuses-num n = record { fault = num-fault n; refuse = num-refuse n }
+
+-- ---- readers
+
+pub refuses-none : {A : Type 0} (a : A) → Refuses (noneOf a) Sound
+unfolding noneOf
+refuses-none a = record { fault = λ s k e. got-bad e; refuse = λ s k f. elim f [ ] }
+
+module _ {A : Type 0} {p : Reader A} {F : Fault} (P : Refuses p F) where
+  map-fault : {B : Type 0} (f : A → B) (s : List ℕ) (k : Refusal) → mapOf f p s ≡ bad k → F s k
+  unfolding mapOf
+  map-fault f s k = of-bind (p s) _ k (P .fault s k) (λ y e e′. got-bad e′)
+
+  map-refuse : {B : Type 0} (f : A → B) (s : List ℕ) (k : Refusal) → F s k → mapOf f p s ≡ bad k
+  unfolding mapOf
+  map-refuse f s k h = rw (P .refuse s k h)
+
+  pub refuses-map : {B : Type 0} (f : A → B) → Refuses (mapOf f p) F
+  refuses-map f = record { fault = map-fault f; refuse = map-refuse f }
+
+  module _ {G : Gram A} (R : Reads p G) where
+    module _ (t : A → Bool) (c : A → Refusal) where
+      only-fault : (s : List ℕ) (k : Refusal) → onlyOf t c p s ≡ bad k → OnlyFault t c G F s k
+      unfolding onlyOf
+      only-fault s k = of-bind (p s) _ k (λ e. under (P .fault s k e)) λ x e. of-guard (t (x .0)) (c (x .0)) _ k
+          (λ h i. let (b, e₁, g) = R .split s x e in rw (e₁, ← i) (fails (x .1) g h)) (λ h e′. got-bad e′)
+
+      only-refuse : (s : List ℕ) (k : Refusal) → OnlyFault t c G F s k → onlyOf t c p s ≡ bad k
+      unfolding onlyOf
+      only-refuse s k (under h) = rw (P .refuse s k h)
+      only-refuse _ _ (fails {a = a} {b = b} r g h) = rw (R .whole a b r g, h)
+
+      pub refuses-only : Refuses (onlyOf t c p) (OnlyFault t c G F)
+      refuses-only = record { fault = only-fault; refuse = only-refuse }
+
+    module _ {B : Type 0} {q : Reader B} {H : Fault} (Q : Refuses q H) where
+      then-fault : (s : List ℕ) (k : Refusal) → thenOf p (λ _. q) s ≡ bad k → ThenFault G F H s k
+      unfolding thenOf
+      then-fault s k = of-bind (p s) _ k (λ e. first (P .fault s k e)) λ x e. of-bind (q (x .1)) _ k
+          (λ e′. let (b, e₁, g) = R .split s x e in rw e₁ (second g (Q .fault (x .1) k e′))) (λ y e′ e″. got-bad e″)
+
+      then-refuse : (s : List ℕ) (k : Refusal) → ThenFault G F H s k → thenOf p (λ _. q) s ≡ bad k
+      unfolding thenOf
+      then-refuse s k (first h) = rw (P .refuse s k h)
+      then-refuse _ k (second {a = a} {b = b} {r = r} g h) = rw (R .whole a b r g, Q .refuse r k h)
+
+      pub refuses-then : Refuses (thenOf p (λ _. q)) (ThenFault G F H)
+      refuses-then = record { fault = then-fault; refuse = then-refuse }
+
+    module _ {B : Type 0} {q : Filler B} {H : Fault} (Q : Refuses q H) where
+      end-fault : (s : List ℕ) (k : Refusal) → thenFit p (λ _. q) s ≡ bad k → ThenFault G F H s k
+      unfolding thenFit
+      end-fault s k = of-bind (p s) _ k (λ e. first (P .fault s k e)) λ x e. of-bind (q (x .1)) _ k
+          (λ e′. let (b, e₁, g) = R .split s x e in rw e₁ (second g (Q .fault (x .1) k e′))) (λ y e′ e″. got-bad e″)
+
+      end-refuse : (s : List ℕ) (k : Refusal) → ThenFault G F H s k → thenFit p (λ _. q) s ≡ bad k
+      unfolding thenFit
+      end-refuse s k (first h) = rw (P .refuse s k h)
+      end-refuse _ k (second {a = a} {b = b} {r = r} g h) = rw (R .whole a b r g, Q .refuse r k h)
+
+      pub refuses-end : Refuses (thenFit p (λ _. q)) (ThenFault G F H)
+      refuses-end = record { fault = end-fault; refuse = end-refuse }
+
+    module _ (c : Refusal) where
+      after : (b r : List ℕ) (k : Refusal) (a : A) → G a b → isEmpty r ≡ false → c ≡ k → ExactFault G F c (b ++ r) k
+      after b [] k a g h i = absurd (no-way (sym h))
+      after b (y ∷ r) k a g h i = subst (ExactFault G F c (b ++ (y ∷ r))) i (follows y r g)
+
+      exact-fault : (s : List ℕ) (k : Refusal) → exactFit p c s ≡ bad k → ExactFault G F c s k
+      unfolding exactFit
+      exact-fault s k = of-bind (p s) _ k (λ e. before (P .fault s k e)) λ x e. of-guard (isEmpty (x .1)) c _ k
+          (λ h i. let (b, e₁, g) = R .split s x e in rw e₁ (after b (x .1) k (x .0) g h i)) (λ h e′. got-bad e′)
+
+      exact-refuse : (s : List ℕ) (k : Refusal) → ExactFault G F c s k → exactFit p c s ≡ bad k
+      unfolding exactFit
+      exact-refuse s k (before h) = rw (P .refuse s k h)
+      exact-refuse _ _ (follows {a = a} {b = b} y r g) = rw (R .whole a b (y ∷ r) g)
+
+      pub refuses-exact : Refuses (exactFit p c) (ExactFault G F c)
+      refuses-exact = record { fault = exact-fault; refuse = exact-refuse }
+
+    module _ (L : Solid G) where
+      run-fault : (f s : List ℕ) (k : Refusal) → length s ≤ length f → runFit forget (λ _. p) tt f s ≡ bad k → ManyFault G F s k
+      unfolding runFit
+      run-fault [] [] k h = got-bad
+      run-fault [] (x ∷ s) k h = absurd (omega arith)
+      run-fault (y ∷ f) [] k h = got-bad
+      run-fault (y ∷ f) (x ∷ s) k h = of-bind (p (x ∷ s)) _ k (λ e. now (P .fault (x ∷ s) k e)) λ z e.
+          of-bind (runFit forget (λ _. p) tt f (z .1)) _ k
+          (λ e′.
+          let l : length (z .1) < length (x ∷ s) = less R L (x ∷ s) z e in
+          let (b, e₁, g) = R .split (x ∷ s) z e in
+          rw e₁ (later g (run-fault f (z .1) k (omega arith) e′)))
+          (λ vs e′ e″. got-bad e″)
+
+      run-now : (f : List ℕ) (x : ℕ) (s : List ℕ) (k : Refusal) → length (x ∷ s) ≤ length f → F (x ∷ s) k → runFit forget (λ _. p) tt f (x ∷ s) ≡ bad k
+      unfolding runFit
+      run-now [] x s k h g = absurd (omega arith)
+      run-now (y ∷ f) x s k h g = rw (P .refuse (x ∷ s) k g)
+
+      run-later : (f : List ℕ) (a : A) (b s : List ℕ) (k : Refusal) → G a b → ((f′ : List ℕ) → length s ≤ length f′ → runFit forget (λ _. p) tt f′ s ≡ bad k)
+          → length (b ++ s) ≤ length f → runFit forget (λ _. p) tt f (b ++ s) ≡ bad k
+      unfolding runFit
+      run-later f a [] s k g ih h = absurd (L a [] g refl)
+      run-later [] a (x ∷ b) s k g ih h = absurd (omega arith)
+      run-later (y ∷ f) a (x ∷ b) s k g ih h =
+          let l : length s ≤ length f = omega (arith, length-append b s) in
+          rw (R .whole a (x ∷ b) s g, ih f l)
+
+      run-refuse : (s : List ℕ) (k : Refusal) → ManyFault G F s k → (f : List ℕ) → length s ≤ length f → runFit forget (λ _. p) tt f s ≡ bad k
+      run-refuse _ k (now {x = x} {s = s} g) f h = run-now f x s k h g
+      run-refuse _ k (later {a = a} {b = b} {s = s} g m) f h = run-later f a b s k g (λ f′ h′. run-refuse s k m f′ h′) h
+
+      many-fault : (s : List ℕ) (k : Refusal) → manyFit p s ≡ bad k → ManyFault G F s k
+      unfolding chainFit
+      many-fault s k e = run-fault s s k (omega arith) e
+
+      many-refuse : (s : List ℕ) (k : Refusal) → ManyFault G F s k → manyFit p s ≡ bad k
+      unfolding chainFit
+      many-refuse s k h = run-refuse s k h s (omega arith)
+
+      pub refuses-many : Refuses (manyFit p) (ManyFault G F)
+      refuses-many = record { fault = many-fault; refuse = many-refuse }
+
+module _ {A : Type 0} {n : Reader ℕ} {q : ℕ → Filler A} {N : Gram ℕ} {F H : Fault} (c : ℕ → List ℕ → Refusal) (R : Reads n N) (P : Refuses n F) (Q : (e : ℕ) → Refuses (q e) H) (end : ℕ) where
+  sized-fault : (s : List ℕ) (k : Refusal) → sizedOf n c q end s ≡ bad k → SizedFault N F c H s k
+  unfolding sizedOf
+  sized-fault s k = of-bind (n s) _ k (λ e. sizes (P .fault s k e)) λ x e. of-guard (leb (x .0) (length (x .1))) (c (x .0) (x .1)) _ k
+      (λ h i. let (b, e₁, g) = R .split s x e in rw (e₁, ← i) (crosses (x .1) g (leb-false (x .0) (length (x .1)) h)))
+      (λ h.
+      let l : ℕ = x .0 in
+      let r : List ℕ = x .1 in
+      of-bind (q (end - length (drop l r)) (take l r)) _ k
+      (λ e′.
+      let (d, e₁, g) = R .split s x e in
+      let m : length (take l r) ≡ l = length-take-le l r (leb→le l (length r) (T-of (leb l (length r)) h)) in
+      let e₂ : s ≡ d ++ (take l r ++ drop l r) = rw (take-append-drop l r) e₁ in
+      rw e₂ (fills {b = take l r} {d = d} (drop l r) (rw m g) (Q (end - length (drop l r)) .fault (take l r) k e′)))
+      (λ a e′ e″. got-bad e″))
+
+  sized-refuse : (s : List ℕ) (k : Refusal) → SizedFault N F c H s k → sizedOf n c q end s ≡ bad k
+  unfolding sizedOf
+  sized-refuse s k (sizes h) = rw (P .refuse s k h)
+  sized-refuse _ _ (crosses {l = l} {b = b} r g h) = rw (R .whole l b r g, leb-no l (length r) h)
+  sized-refuse _ k (fills {b = b} {d = d} r g h) =
+      rw (
+        R .whole (length b) d (b ++ r) g,
+        leb-yes (length b) (length (b ++ r)) (rw length-append (omega arith)),
+        take-append-seam b r,
+        drop-append-seam b r,
+        Q (end - length r) .refuse b k h,
+      )
+
+  pub refuses-sized : Refuses (sizedOf n c q end) (SizedFault N F c H)
+  refuses-sized = record { fault = sized-fault; refuse = sized-refuse }
+
+-- ---- fillers
+
+module _ {A B : Type 0} {F : Fault} where
+  fit-fault : (q : Filler A) (f : A → B) → Refuses q F → (s : List ℕ) (k : Refusal) → mapFit f q s ≡ bad k → F s k
+  unfolding mapFit
+  fit-fault q f Q s k = of-bind (q s) _ k (Q .fault s k) (λ a e e′. got-bad e′)
+
+  fit-refuse : (q : Filler A) (f : A → B) → Refuses q F → (s : List ℕ) (k : Refusal) → F s k → mapFit f q s ≡ bad k
+  unfolding mapFit
+  fit-refuse q f Q s k h = rw (Q .refuse s k h)
+
+  pub refuses-fit : {q : Filler A} (f : A → B) → Refuses q F → Refuses (mapFit f q) F
+  refuses-fit {q = q} f Q = record { fault = fit-fault q f Q; refuse = fit-refuse q f Q }
+
+  hand-fault : (q : ℕ → Filler A) (f : A → List ℕ → ℕ → B) (end : ℕ) → Refuses (q end) F → (s : List ℕ) (k : Refusal) → handFit f q end s ≡ bad k → F s k
+  unfolding handFit
+  hand-fault q f end Q s k = of-bind (q end s) _ k (Q .fault s k) (λ a e e′. got-bad e′)
+
+  hand-refuse : (q : ℕ → Filler A) (f : A → List ℕ → ℕ → B) (end : ℕ) → Refuses (q end) F → (s : List ℕ) (k : Refusal) → F s k → handFit f q end s ≡ bad k
+  unfolding handFit
+  hand-refuse q f end Q s k h = rw (Q .refuse s k h)
+
+  pub refuses-hand : {q : ℕ → Filler A} (f : A → List ℕ → ℕ → B) → ((e : ℕ) → Refuses (q e) F) → (end : ℕ) → Refuses (handFit f q end) F
+  refuses-hand {q = q} f Q end = record { fault = hand-fault q f end (Q end); refuse = hand-refuse q f end (Q end) }
+
+module _ (t : List ℕ → Bool) (P : List ℕ → Type 0) (c : Refusal) (D : (b : List ℕ) → (t b ≡ true) ↔ P b) where
+  is-fault : (s : List ℕ) (k : Refusal) → isFit t c s ≡ bad k → IsFault P c s k
+  unfolding isFit
+  is-fault s k = of-guard (t s) c _ k (λ h i. subst (IsFault P c s) i (isnt (λ g. no-way (sym h ∙ D s .1 g)))) (λ _ e. got-bad e)
+
+  fails-test : (s : List ℕ) → (P s → ⊥) → (b : Bool) → t s ≡ b → t s ≡ false
+  fails-test s h true e = absurd (h (D s .0 e))
+  fails-test s h false e = e
+
+  is-refuse : (s : List ℕ) (k : Refusal) → IsFault P c s k → isFit t c s ≡ bad k
+  unfolding isFit
+  is-refuse s _ (isnt h) = rw (fails-test s h (t s) refl)
+
+  pub refuses-is : Refuses (isFit t c) (IsFault P c)
+  refuses-is = record { fault = is-fault; refuse = is-refuse }

@@ -1,0 +1,139 @@
+-- What a longer stream, a shorter one, and a limit do to an answer, whatever strings are handed back as. Assumes nothing.
+use mathlib.Core.Path.{_≡_, refl, sym, ap, _∙_}
+use mathlib.Core.Bool.{Bool, true, false}
+use mathlib.Core.Option.{Option, none, some}
+use mathlib.Core.Logic.{inl, inr}
+use mathlib.Core.List.{List, [], _∷_, _++_, append-assoc}
+use Prim.Native.Nat.{ℕ, _+_, _-_, _≤_, _<_}
+use native.Mathlib.Omega.{arith}
+use lib.ListN.{length, length-append}
+use Rattle.grammar.specs.Gram.{Only, only, both, sized, is}
+use Rattle.grammar.specs.Number.{byte, Groups, last, next, Spells}
+use Rattle.grammar.specs.Record.{PacketOf}
+use Rattle.grammar.specs.Sentence.{Packet, Frame, framed, Sentence}
+use Rattle.reading.specs.Refusal.{Refusal, nr, within, over, Answer, refused}
+use Rattle.reading.specs.Fault.{fails, second, sizes, Tops, noTops, aTop, FrameFault, Passing}
+use Rattle.reading.specs.Reader.{Fit, got, bad, onlyOf, thenOf, sizedOf}
+use Rattle.reading.specs.Read.{byteOf, numOf, Shape, frameOf, frameAnswer, readAs, readOf}
+use Rattle.reading.specs.Rows.{Row, underTwo, noEnd, partly, allTops, lacks}
+use Rattle.reading.proofs.Lists.{leb-yes, leb-no, ltb-no, Cuts, cut-in}
+use Rattle.reading.proofs.Fields.{reads-num}
+use Rattle.reading.proofs.Demand.{all-within, whole-answer}
+use Rattle.reading.proofs.Faults.{refuses-frame}
+use Rattle.reading.proofs.Rows.{framing-rows}
+
+module _ (h : Shape) where
+  abbrev refusedBy : Refusal → ℕ → Answer (PacketOf (h .Str) (h .Run))
+  refusedBy (nr k vs) t = refused k vs t
+
+  -- no frame, no bytes taken, whatever strings are handed back as
+  no-frame : (limit : Option ℕ) (s : List ℕ) (k : Refusal) → FrameFault limit s k → readAs h limit s ≡ refusedBy k 0
+  unfolding readAs frameAnswer
+  no-frame limit s (nr k vs) f = rw (refuses-frame limit (length s) .refuse s (nr k vs) f)
+
+  -- a length number that the limit does not let pass
+  too-large : (limit : Option ℕ) (x l : ℕ) (c r : List ℕ) → Spells l c → within limit l ≡ false → readAs h limit (x ∷ (c ++ r)) ≡ refusedBy (over limit l) 0
+  too-large limit x l c r g w = no-frame limit (x ∷ (c ++ r)) (over limit l) (second byte (sizes (fails r g w)))
+
+  -- ---- bytes after a whole frame never alter its answer, refused frames included
+
+  pub frame-suffix : (limit : Option ℕ) (z : ℕ × List ℕ) (c r r′ : List ℕ) → Frame Spells z c → readAs h limit (c ++ r) ≡ readAs h limit (c ++ r′)
+  frame-suffix limit _ _ r r′ (both {a = x} byte (sized {b = b} {c = c} g (is y))) = go (within limit (length b)) refl
+    where
+      go : (t : Bool) → within limit (length b) ≡ t → readAs h limit (x ∷ ((c ++ b) ++ r)) ≡ readAs h limit (x ∷ ((c ++ b) ++ r′))
+      go true w =
+          let f : Passing limit (x, b) (x ∷ (c ++ b)) = both byte (sized (only w g) (is y)) in
+          whole-answer h limit (x, b) (x ∷ (c ++ b)) r f ∙ sym (whole-answer h limit (x, b) (x ∷ (c ++ b)) r′ f)
+      go false w = rw (append-assoc c b r, append-assoc c b r′) (too-large limit x (length b) c (b ++ r) g w ∙ sym (too-large limit x (length b) c (b ++ r′) g w))
+
+  -- ---- a limit changes one thing
+
+  -- a whole header whose R is above the limit: 3, with R and the limit, and nothing taken
+  pub limit-refuses : (m x l : ℕ) (c r : List ℕ) → Spells l c → m < l → readAs h (some m) (x ∷ (c ++ r)) ≡ refused 3 (l ∷ m ∷ []) 0
+  unfolding within over
+  limit-refuses m x l c r g o = too-large (some m) x l c r g (leb-no l m o)
+
+-- every length number that s begins with, after its first byte, is at most m
+abbrev pub AtMost : ℕ → List ℕ → Type 0
+AtMost m s = (x l : ℕ) (c r : List ℕ) → s ≡ x ∷ (c ++ r) → Spells l c → l ≤ m
+
+same-frame : (m end : ℕ) (s : List ℕ) → AtMost m s → frameOf (some m) end s ≡ frameOf none end s
+unfolding frameOf thenOf byteOf sizedOf onlyOf within
+same-frame m end [] h = refl
+same-frame m end (x ∷ s) h = go (numOf (nr 1 (1 ∷ [])) 4 s) refl
+  where
+    go : (n : Fit (ℕ × List ℕ)) → numOf (nr 1 (1 ∷ [])) 4 s ≡ n → frameOf (some m) end (x ∷ s) ≡ frameOf none end (x ∷ s)
+    go (bad k) e = rw e
+    go (got z) e =
+        let (c, e₁, g) = reads-num (nr 1 (1 ∷ [])) 4 .split s z e in
+        rw (e, leb-yes (z .0) m (h x (z .0) c (z .1) (ap (λ (l : List ℕ). x ∷ l) e₁) g))
+
+-- otherwise the answer is that with no limit
+pub limit-passes : (h : Shape) (m : ℕ) (s : List ℕ) → AtMost m s → readAs h (some m) s ≡ readAs h none s
+unfolding readAs
+limit-passes h m s o = rw (same-frame m (length s) s o)
+
+-- ---- a strict front of a sentence lacks bytes, and just so many
+
+top-test : (b : List ℕ) → Tops b → allTops b ≡ true
+top-test _ noTops = refl
+top-test _ (aTop {x = x} {b = b} h t) = rw (leb-yes 128 x h) (top-test b t)
+
+-- what ends a number is no byte with its top bit set
+no-top : (k l : ℕ) (c r : List ℕ) → Groups k l c → allTops (c ++ r) ≡ false
+no-top _ _ _ r (last {x = x} h) = rw (leb-no 128 x h)
+no-top _ _ _ r (next {k = k} {x = x} {n = n} {b = b} h g) = rw (leb-yes 128 x h) (no-top k n b r g)
+
+-- a strict front of a number: tops, and fewer than it may have
+front-tops : (k l : ℕ) (c u w : List ℕ) (y : ℕ) → Groups k l c → c ≡ u ++ (y ∷ w) → Tops u × (length u < k)
+front-tops _ _ _ [] w y (last h) e = (noTops, omega arith)
+front-tops _ _ _ (z ∷ u) w y (last h) e = absurd (omega (arith, ap length e, length-append u (y ∷ w)))
+front-tops _ _ _ [] w y (next h g) e = (noTops, omega arith)
+front-tops _ _ _ (z ∷ u) w y (next {k = k} {x = x} {n = n} {b = b} h g) e =
+    let q : b ≡ u ++ (y ∷ w) = cc in
+    let i : x ≡ z = cc in
+    let (t, l) = front-tops k n b u w y g q in
+    (aTop {x = z} (omega arith) t, omega arith)
+
+module _ (limit : Option ℕ) where
+  answer-of : (s : List ℕ) (n : ℕ) → Row limit s (nr 1 (n ∷ [])) 0 → readOf limit s ≡ refused 1 (n ∷ []) 0
+  answer-of s n w = framing-rows limit s (n ∷ []) 1 0 refl .1 w
+
+  module _ (x : ℕ) (c b w : List ℕ) (y : ℕ) (i : within limit (length b) ≡ true) (g : Spells (length b) c) where
+    frame-front : (u : List ℕ) → c ++ b ≡ u ++ (y ∷ w) → readOf limit (x ∷ u) ≡ refused 1 (lacks (x ∷ u) (length (x ∷ (c ++ b))) ∷ []) 0
+    unfolding lacks
+    frame-front [] e = answer-of (x ∷ []) 1 (underTwo {s = x ∷ []} (omega arith))
+    frame-front (z ∷ u) e = go (cut-in c b (z ∷ u) w y e)
+      where
+        go : Cuts c b (z ∷ u) w y → readOf limit (x ∷ z ∷ u) ≡ refused 1 (lacks (x ∷ z ∷ u) (length (x ∷ (c ++ b))) ∷ []) 0
+        go (inl t) =
+            let (d, l) = front-tops 4 (length b) c (z ∷ u) (t .0) y g (t .1) in
+            rw (ltb-no (length (x ∷ z ∷ u)) 2 (omega arith), top-test (z ∷ u) d) (answer-of (x ∷ z ∷ u) 1 (noEnd d l))
+        go (inr t) =
+            let (v, e₁, e₂) = t in
+            let l : length v < length b = omega (arith, ap length e₂, length-append v (y ∷ w)) in
+            let n : allTops (z ∷ u) ≡ false = ap allTops e₁ ∙ no-top 4 (length b) c v g in
+            let a : 1 + length c + length b - length (x ∷ (c ++ v)) ≡ length (x ∷ (c ++ b)) - length (x ∷ z ∷ u) = omega (arith, length-append c b, length-append c v, ap length e₁) in
+            let q : readOf limit (x ∷ (c ++ v)) ≡ refused 1 ((1 + length c + length b - length (x ∷ (c ++ v))) ∷ []) 0 = answer-of (x ∷ (c ++ v)) _ (partly v g i l) in
+            rw (ltb-no (length (x ∷ z ∷ u)) 2 (omega arith), n, ← a, e₁) q
+
+  first-byte : (x y : ℕ) (c b u w : List ℕ) → Only (within limit) Spells (length b) c → x ∷ (c ++ b) ≡ u ++ (y ∷ w) → readOf limit u ≡ refused 1 (lacks u (length (x ∷ (c ++ b))) ∷ []) 0
+  unfolding lacks
+  first-byte x y c b [] w g e = answer-of [] 2 (underTwo {s = []} (omega arith))
+  first-byte x y c b (z ∷ u) w (only i g) e =
+      let j : x ≡ z = cc in
+      let q : c ++ b ≡ u ++ (y ∷ w) = cc in
+      rw (← j) (frame-front x c b w y i g u q)
+
+  -- 01: "n is 2 less the bytes held if under two; 1 while the length number lacks its end; else F less the bytes held", of each strict
+  -- front of a frame that the limit lets pass
+  pub front-lacks : (z : ℕ × List ℕ) (f u w : List ℕ) (y : ℕ) → Passing limit z f → f ≡ u ++ (y ∷ w) → readOf limit u ≡ refused 1 (lacks u (length f) ∷ []) 0
+  front-lacks _ _ u w y (both {a = x} byte (sized {b = b} {c = c} g (is i))) e = first-byte x y c b u w g e
+
+-- no limit lets every frame pass
+passes : (z : ℕ × List ℕ) (f : List ℕ) → Frame Spells z f → Passing none z f
+passes _ _ (both i (sized {b = b} {c = c} g j)) = both i (sized (all-within (length b) c .1 g) j)
+
+-- so of each strict front of a sentence
+pub sentence-front : (v : Packet) (f u w : List ℕ) (y : ℕ) → Sentence v f → f ≡ u ++ (y ∷ w) → readOf none u ≡ refused 1 (lacks u (length f) ∷ []) 0
+sentence-front v f u w y (framed {x = x} {b = b} h i) e = front-lacks none (x, b) f u w y (passes (x, b) f h) e

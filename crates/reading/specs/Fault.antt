@@ -1,0 +1,169 @@
+-- What is wrong with bytes that are no sentence: a good front, then the first fault from the left. Nothing here knows of a reader.
+-- F s k says that s, read within its room, breaks with the refusal k. Assumes nothing.
+use mathlib.Core.Path.{_≡_}
+use mathlib.Core.Bool.{Bool, true, false, not}
+use mathlib.Core.Option.{Option, none, some}
+use mathlib.Core.List.{List, [], _∷_, _++_}
+use Prim.Native.Nat.{ℕ, zero, suc, _/_, _≤_, _<_}
+use lib.ListN.{length}
+use Rattle.grammar.specs.Choice.{or, isIn, lookup, isEmpty}
+use Rattle.grammar.specs.Gram.{Gram, Only}
+use Rattle.grammar.specs.Number.{Byte, Big, Spells}
+use Rattle.grammar.specs.Text.{Utf8}
+use Rattle.grammar.specs.Tables.{Form, u8, u16, u32, number, text, bytes, pair, Place, publishPlace, subscribePlace, ackPlace, Layout, aPublish, anAck, aSubscribe, aPing, kinds, reserved, isPing}
+use Rattle.grammar.specs.Record.{kindOf, flagQos}
+use Rattle.grammar.specs.Sentence.{Bytes, Text, Property, Block, publishOf, subscribeOf, ackOf, notThree, notZero, Ident, qosFine, ruleFine, FilterOf, Packet, Body, Frame}
+use Rattle.reading.specs.Refusal.{Refusal, nr, cut, crossed, lacking, within, over, Answer, accepted, refused}
+
+-- bytes, and the refusal with which they break
+abbrev pub Fault : Type 1
+Fault = List ℕ → Refusal → Type 0
+
+-- ---- one for each way to build a grammar
+
+-- what cannot break
+pub data Sound : List ℕ → Refusal → Type 0 where
+
+-- a good front a that fails the test
+pub data OnlyFault {A : Type 0} (t : A → Bool) (c : A → Refusal) (G : Gram A) (F : Fault) : List ℕ → Refusal → Type 0 where
+  under : {s : List ℕ} {k : Refusal} → F s k → OnlyFault t c G F s k
+  fails : {a : A} {b : List ℕ} (r : List ℕ) → G a b → t a ≡ false → OnlyFault t c G F (b ++ r) (c a)
+
+-- the first breaks, or is good and the second breaks
+pub data ThenFault {A : Type 0} (G : Gram A) (F H : Fault) : List ℕ → Refusal → Type 0 where
+  first : {s : List ℕ} {k : Refusal} → F s k → ThenFault G F H s k
+  second : {a : A} {b r : List ℕ} {k : Refusal} → G a b → H r k → ThenFault G F H (b ++ r) k
+
+-- the length breaks; or is more than the bytes r that are left; or what fills so many bytes breaks
+pub data SizedFault (N : Gram ℕ) (F : Fault) (c : ℕ → List ℕ → Refusal) (H : Fault) : List ℕ → Refusal → Type 0 where
+  sizes : {s : List ℕ} {k : Refusal} → F s k → SizedFault N F c H s k
+  crosses : {l : ℕ} {b : List ℕ} (r : List ℕ) → N l b → length r < l → SizedFault N F c H (b ++ r) (c l r)
+  fills : {b d : List ℕ} {k : Refusal} (r : List ℕ) → N (length b) d → H b k → SizedFault N F c H (d ++ (b ++ r)) k
+
+-- some good ones, then one that breaks
+pub data ManyFault {A : Type 0} (G : Gram A) (F : Fault) : List ℕ → Refusal → Type 0 where
+  now : {x : ℕ} {s : List ℕ} {k : Refusal} → F (x ∷ s) k → ManyFault G F (x ∷ s) k
+  later : {a : A} {b s : List ℕ} {k : Refusal} → G a b → ManyFault G F s k → ManyFault G F (b ++ s) k
+
+-- it breaks, or bytes follow
+pub data ExactFault {A : Type 0} (G : Gram A) (F : Fault) (c : Refusal) : List ℕ → Refusal → Type 0 where
+  before : {s : List ℕ} {k : Refusal} → F s k → ExactFault G F c s k
+  follows : {a : A} {b : List ℕ} (y : ℕ) (r : List ℕ) → G a b → ExactFault G F c (b ++ (y ∷ r)) c
+
+-- bytes of which P does not hold
+pub data IsFault (P : List ℕ → Type 0) (c : Refusal) : List ℕ → Refusal → Type 0 where
+  isnt : {b : List ℕ} → (P b → ⊥) → IsFault P c b c
+
+-- ---- numbers; c is given where the bytes end before the number does
+
+-- 01, row 7, or row 1 in the header: there is no byte
+pub data ByteFault (c : Refusal) : List ℕ → Refusal → Type 0 where
+  noByte : ByteFault c [] c
+
+-- 01, row 7: fewer than n bytes
+pub data BigFault (c : Refusal) (n : ℕ) : List ℕ → Refusal → Type 0 where
+  fewer : {s : List ℕ} → length s < n → BigFault c n s c
+
+-- bytes whose top bit is set
+pub data Tops : List ℕ → Type 0 where
+  noTops : Tops []
+  aTop : {x : ℕ} {b : List ℕ} → 128 ≤ x → Tops b → Tops (x ∷ b)
+
+-- 01, row 2: "fourth byte of a variable length number has its top bit set"
+pub data NumFault (c : Refusal) (n : ℕ) : List ℕ → Refusal → Type 0 where
+  endless : {s : List ℕ} → Tops s → length s < n → NumFault c n s c
+  long : {b : List ℕ} (r : List ℕ) → Tops b → length b ≡ n → NumFault c n (b ++ r) (nr 2 [])
+
+-- ---- strings and properties
+
+-- 01, rows 7 and 8
+abbrev pub BytesFault : Fault
+BytesFault = SizedFault (Big 2) (BigFault cut 2) crossed Sound
+
+-- 01, row 9: "text not UTF-8"
+abbrev pub TextFault : Fault
+TextFault = SizedFault (Big 2) (BigFault cut 2) crossed (IsFault Utf8 (nr 9 []))
+
+-- 01, table of properties
+abbrev pub ValueFault : Form → Fault
+ValueFault u8 = ByteFault cut
+ValueFault u16 = BigFault cut 2
+ValueFault u32 = BigFault cut 4
+ValueFault number = NumFault cut 4
+ValueFault text = TextFault
+ValueFault bytes = BytesFault
+ValueFault pair = ThenFault Text TextFault TextFault
+
+-- 01, row 10: "identifier not in its place's row"
+pub data PropertyFault (place : Place) : List ℕ → Refusal → Type 0 where
+  noId : PropertyFault place [] cut
+  unknown : {i : ℕ} {s : List ℕ} → lookup place i ≡ none → PropertyFault place (i ∷ s) (nr 10 (i ∷ []))
+  value : {i : ℕ} {kind : Form} {s : List ℕ} {k : Refusal} → lookup place i ≡ some kind → ValueFault kind s k → PropertyFault place (i ∷ s) k
+
+-- 01, rows 7, 2 and 8 for L, then the first property that breaks
+abbrev pub BlockFault : Place → Fault
+BlockFault place = SizedFault Spells (NumFault cut 4) crossed (ManyFault (Property place) (PropertyFault place))
+
+-- ---- bodies
+
+-- 01, rows 15 and 7: "not one of the nine"; "bytes after a PubAck's block"
+pub data AckFault (rs : List ℕ) : List ℕ → Refusal → Type 0 where
+  reason : {c : ℕ} {r : List ℕ} → isIn c rs ≡ false → AckFault rs (c ∷ r) (nr 15 (c ∷ []))
+  block : {c x : ℕ} {r : List ℕ} {k : Refusal} → isIn c rs ≡ true → ExactFault (Block ackPlace ackOf) (BlockFault ackPlace) cut (x ∷ r) k → AckFault rs (c ∷ x ∷ r) k
+
+-- 01, row 12: "Publish, QoS 1 or 2, identifier 0"
+abbrev pub IdentFault : ℕ → Fault
+IdentFault zero = Sound
+IdentFault (suc q) = OnlyFault notZero (λ _. nr 12 []) (Big 2) (BigFault cut 2)
+
+-- 01, rows 14 and 11: "both rule bits set"; "both QoS bits set"
+abbrev pub FilterFault : Fault
+FilterFault = ThenFault Text TextFault (OnlyFault qosFine (λ _. nr 11 (3 ∷ [])) (Only ruleFine Byte) (OnlyFault ruleFine (λ _. nr 14 (3 ∷ [])) Byte (ByteFault cut)))
+
+-- 01, row 13: "no filters"
+pub data FiltersFault : List ℕ → Refusal → Type 0 where
+  noFilters : FiltersFault [] (nr 13 [])
+  filter : {s : List ℕ} {k : Refusal} → ManyFault FilterOf FilterFault s k → FiltersFault s k
+
+-- 01: "Topic as bytes; u16 identifier; block; the rest is payload", where QoS is q
+abbrev pub MessageFault : ℕ → Fault
+MessageFault q = ThenFault Bytes BytesFault (ThenFault (Ident q) (IdentFault q) (ThenFault (Block publishPlace publishOf) (BlockFault publishPlace) Sound))
+
+-- 01, row 11, and reading order: "then QoS for Publish; then fields left to right"
+pub data PublishFault (x : ℕ) : List ℕ → Refusal → Type 0 where
+  qos : {s : List ℕ} → notThree (flagQos x) ≡ false → PublishFault x s (nr 11 (3 ∷ []))
+  fields : {s : List ℕ} {k : Refusal} → notThree (flagQos x) ≡ true → MessageFault (flagQos x) s k → PublishFault x s k
+
+-- 01, reading order: "fields left to right"
+abbrev pub FieldsFault : Layout → ℕ → Fault
+FieldsFault aPublish x = PublishFault x
+FieldsFault (anAck rs) x = ThenFault (Big 2) (BigFault cut 2) (AckFault rs)
+FieldsFault aSubscribe x = ThenFault (Big 2) (BigFault cut 2) (ThenFault (Block subscribePlace subscribeOf) (BlockFault subscribePlace) FiltersFault)
+FieldsFault aPing x = Sound
+
+-- 01, rows 4 to 6, in this order; x is the first byte, x / 16 the kind
+pub data BodyFault (x : ℕ) : List ℕ → Refusal → Type 0 where
+  kind : {b : List ℕ} → isIn (kindOf x) reserved ≡ true → BodyFault x b (nr 4 (kindOf x ∷ []))
+  noBytes : isIn (kindOf x) reserved ≡ false → isPing (lookup kinds (kindOf x)) ≡ false → BodyFault x [] (nr 5 [])
+  foreign : {y : ℕ} {b : List ℕ} → isIn (kindOf x) reserved ≡ false → lookup kinds (kindOf x) ≡ none → BodyFault x (y ∷ b) (nr 6 (kindOf x ∷ []))
+  content : {f : Layout} {b : List ℕ} {k : Refusal} → lookup kinds (kindOf x) ≡ some f → or (isPing (some f)) (not (isEmpty b)) ≡ true → FieldsFault f x b k → BodyFault x b k
+
+-- ---- framing: 01, rows 1 to 3, reading order "1 while the header is incomplete, or 2; then 3; then 1"
+
+-- a first byte, the length within the limit, and as many bytes
+abbrev pub FrameFault : Option ℕ → Fault
+FrameFault limit =
+    ThenFault Byte (ByteFault (nr 1 (2 ∷ [])))
+    (SizedFault (Only (within limit) Spells) (OnlyFault (within limit) (over limit) Spells (NumFault (nr 1 (1 ∷ [])) 4)) lacking Sound)
+
+-- ---- the one answer to a stream
+
+-- a frame that the limit lets pass: the first byte, and the bytes that its length counts
+abbrev pub Passing : Option ℕ → ℕ × List ℕ → List ℕ → Type 0
+Passing limit = Frame (Only (within limit) Spells)
+
+-- 01, Taken: the whole frame, or 0 where there is none to take
+pub data Verdict (limit : Option ℕ) : List ℕ → Answer Packet → Type 0 where
+  says : {x : ℕ} {b c : List ℕ} {v : Packet} (r : List ℕ) → Passing limit (x, b) c → Body x v b → Verdict limit (c ++ r) (accepted v (length c))
+  breaks : {x k : ℕ} {b c vs : List ℕ} (r : List ℕ) → Passing limit (x, b) c → BodyFault x b (nr k vs) → Verdict limit (c ++ r) (refused k vs (length c))
+  noFrame : {k : ℕ} {s vs : List ℕ} → FrameFault limit s (nr k vs) → Verdict limit s (refused k vs 0)

@@ -1,0 +1,159 @@
+-- The reader whose answer holds places, where strings and lists stand in the stream; items read at a place; and what a placed answer
+-- says once its places are looked up. Assumes nothing.
+use mathlib.Core.Option.{Option, none, some}
+use mathlib.Core.List.{List, [], _∷_}
+use Prim.Native.Nat.{ℕ, zero, suc, _+_, _-_}
+use lib.Dec.{leb}
+use lib.ListN.{length, take, drop}
+use Rattle.grammar.specs.Tables.{Place, publishPlace, subscribePlace, ackPlace}
+use Rattle.grammar.specs.Record.{Val, num, str, duo, Prop, allOf, PublishProps, SubscribeProps, AckProps, Filter, PacketOf, publish, ack, subscribe, ping}
+use Rattle.grammar.specs.Sentence.{Value, Packet}
+use Rattle.reading.specs.Refusal.{Refusal, nr, Answer, accepted, refused}
+use Rattle.reading.specs.Reader.{Fit, got, bad, Filler, _>>=_, _>>_, guard}
+use Rattle.reading.specs.Read.{Shape, asBytes, propertiesFit, filtersFit, readAs}
+
+-- 01, "What must change shape": "handed back as parts of the caller's stream"; "the place of the block or filters"
+pub record Span : Type 0 where
+  pub start : ℕ
+  pub len : ℕ
+
+-- the span of the bytes b that end at index `end`
+abbrev pub spanOf : List ℕ → ℕ → Span
+spanOf b end = record { start = end - length b; len = length b }
+
+-- 01: "parts of the caller's stream"
+abbrev pub partOf : List ℕ → Span → List ℕ
+partOf s p = take (p .len) (drop (p .start) s)
+
+-- a string is handed back as its span, a list as the span that its items fill
+abbrev pub asPlaces : Shape
+asPlaces = record { Str = Span; Run = λ A. Span; string = spanOf; run = λ A vs b end. spanOf b end }
+
+-- a packet with spans for strings and lists
+abbrev pub Placed : Type 0
+Placed = PacketOf Span (λ A. Span)
+
+-- the answer with every number and place in it
+abbrev pub readPlacedOf : Option ℕ → List ℕ → Answer Placed
+readPlacedOf = readAs asPlaces
+
+-- ---- items at a place; 01, row 21: "the place is not a well-formed block of the kind asked, or filter run, of the lent bytes, or n is past its last item"
+
+-- 01, row 21
+abbrev pub noItem : Refusal
+noItem = nr 21 []
+
+-- 01, row 21: whatever breaks there
+abbrev pub orNoItem : {A : Type 0} → Fit A → Fit A
+orNoItem (got a) = got a
+orNoItem (bad k) = bad noItem
+
+-- what fills the part of s at p
+unfoldable pub again : {A : Type 0} → (ℕ → Filler A) → List ℕ → Span → Fit A
+again q s p = do
+  guard (leb (p .start + p .len) (length s)) noItem
+  orNoItem (q (p .start + p .len) (partOf s p))
+
+-- 01, row 21: "or n is past its last item"
+abbrev pub nthOf : {A : Type 0} → ℕ → List A → Fit A
+nthOf n [] = bad noItem
+nthOf zero (a ∷ vs) = got a
+nthOf (suc n) (a ∷ vs) = nthOf n vs
+
+module _ (h : Shape) (s : List ℕ) (p : Span) where
+  -- all values of property i in the block of a place's row
+  unfoldable pub valuesAt : Place → ℕ → Fit (List (Val (h .Str)))
+  valuesAt place i = do
+    ps ← again (propertiesFit h place) s p
+    got (allOf i ps)
+
+  -- 01: "a way to get the n-th pair, identifier or filter, n from 0, each list apart"
+  unfoldable pub userAt : Place → ℕ → Fit (Val (h .Str))
+  userAt place n = do
+    vs ← valuesAt place 38
+    nthOf n vs
+
+  -- 01: the n-th identifier of a Publish block
+  unfoldable pub subscriptionAt : ℕ → Fit (Val (h .Str))
+  subscriptionAt n = do
+    vs ← valuesAt publishPlace 11
+    nthOf n vs
+
+  -- 01: the n-th filter of a run
+  unfoldable pub filterAt : ℕ → Fit (Filter (h .Str))
+  filterAt n = do
+    fs ← again (filtersFit h) s p
+    nthOf n fs
+
+-- ---- what a placed record says of the stream s: a string is the part at its span, a list the items that fill the part
+
+-- the items, if they were read
+abbrev pub listOf : {A : Type 0} → Fit (List A) → List A
+listOf (got vs) = vs
+listOf (bad k) = []
+
+-- f of what was read
+abbrev pub onGot : {A B : Type 0} → (A → B) → Fit A → Fit B
+onGot f (got a) = got (f a)
+onGot f (bad k) = bad k
+
+-- f of what is present
+abbrev pub onSome : {A B : Type 0} → (A → B) → Option A → Option B
+onSome f none = none
+onSome f (some a) = some (f a)
+
+module _ (s : List ℕ) where
+  -- a value
+  abbrev pub sayVal : Val Span → Value
+  sayVal (num n) = num n
+  sayVal (str p) = str (partOf s p)
+  sayVal (duo p q) = duo (partOf s p) (partOf s q)
+
+  -- a property
+  abbrev pub sayProp : Prop Span → Prop (List ℕ)
+  sayProp p = (p .0, sayVal (p .1))
+
+  -- a filter
+  abbrev pub sayFilter : Filter Span → Filter (List ℕ)
+  sayFilter f = record { path = partOf s (f .path); qos = f .qos; noLocal = f .noLocal; preserve = f .preserve; rule = f .rule }
+
+  -- the lists are what is read at their span
+  abbrev pub sayPublishProps : PublishProps Span (λ A. Span) → PublishProps (List ℕ) List
+  sayPublishProps ps = record {
+    format = onSome sayVal (ps .format);
+    expiry = onSome sayVal (ps .expiry);
+    alias = onSome sayVal (ps .alias);
+    response = onSome sayVal (ps .response);
+    correlation = onSome sayVal (ps .correlation);
+    user = listOf (valuesAt asBytes s (ps .user) publishPlace 38);
+    subscriptions = listOf (valuesAt asBytes s (ps .subscriptions) publishPlace 11);
+    content = onSome sayVal (ps .content);
+  }
+
+  -- the list is what is read at its span
+  abbrev pub saySubscribeProps : SubscribeProps Span (λ A. Span) → SubscribeProps (List ℕ) List
+  saySubscribeProps ps = record { ident = onSome sayVal (ps .ident); user = listOf (valuesAt asBytes s (ps .user) subscribePlace 38) }
+
+  -- the list is what is read at its span
+  abbrev pub sayAckProps : AckProps Span (λ A. Span) → AckProps (List ℕ) List
+  sayAckProps ps = record { reason = onSome sayVal (ps .reason); user = listOf (valuesAt asBytes s (ps .user) ackPlace 38) }
+
+  -- a packet
+  abbrev pub say : Placed → Packet
+  say (publish m) = publish (record {
+    dup = m .dup;
+    qos = m .qos;
+    retain = m .retain;
+    topic = partOf s (m .topic);
+    ident = m .ident;
+    props = onSome sayPublishProps (m .props);
+    payload = partOf s (m .payload);
+  })
+  say (ack k m) = ack k (record { ident = m .ident; reason = m .reason; props = onSome sayAckProps (m .props) })
+  say (subscribe m) = subscribe (record { ident = m .ident; props = onSome saySubscribeProps (m .props); filters = listOf (again (filtersFit asBytes) s (m .filters)) })
+  say (ping k) = ping k
+
+  -- an answer; a refusal says itself
+  abbrev pub sayAnswer : Answer Placed → Answer Packet
+  sayAnswer (accepted v n) = accepted (say v) n
+  sayAnswer (refused k vs n) = refused k vs n

@@ -1,0 +1,224 @@
+-- The answer to every stream, in 01's reading order, with each refusal's number, values and bytes taken. It is defined once, for
+-- every way to hand strings and lists back. Assumes nothing.
+use mathlib.Core.Bool.{Bool, true, false, not}
+use mathlib.Core.Option.{Option, none, some}
+use mathlib.Core.List.{List, [], _∷_}
+use Prim.Native.Nat.{ℕ, zero, suc, _+_, _-_, _*_, _/_}
+use lib.Dec.{leb, ltb}
+use lib.ListN.{length, take, drop}
+use Rattle.grammar.specs.Choice.{or, isIn, lookup, isEmpty}
+use Rattle.grammar.specs.Number.{bigFrom}
+use Rattle.grammar.specs.Text.{Range, inRange, rows, rowAt, cons}
+use Rattle.grammar.specs.Tables.{Form, u8, u16, u32, number, text, bytes, pair, Place, publishPlace, subscribePlace, ackPlace, Layout, aPublish, anAck, aSubscribe, aPing, kinds, reserved, isPing}
+use Rattle.grammar.specs.Record.{Val, num, str, Prop, unlessEmpty, PublishProps, publishProps, SubscribeProps, subscribeProps, AckProps, ackProps, Filter, PacketOf, kindOf, flagQos, mkPublish, mkAck, mkFilter, mkSubscribe, mkPing}
+use Rattle.grammar.specs.Sentence.{duoOf, notThree, notZero, qosFine, ruleFine, someOf}
+use Rattle.reading.specs.Refusal.{Refusal, nr, cut, crossed, lacking, within, over, Answer, accepted, refused}
+use Rattle.reading.specs.Reader.{Fit, got, bad, Reader, Filler, _>>=_, _>>_, guard, noneOf, neverOf, mapOf, onlyOf, thenOf, sizedOf, isFit, mapFit, handFit, onlyFit, thenFit, exactFit, manyFit, isGot}
+
+-- ---- numbers; c is given where the bytes end before the number does
+
+-- 01: "Numbers are big-endian": k bytes
+unfoldable pub bigOf : Refusal → ℕ → Reader ℕ
+bigOf c k s = do
+  guard (leb k (length s)) c
+  got (bigFrom 0 (take k s), drop k s)
+
+-- one byte
+unfoldable pub byteOf : Refusal → Reader ℕ
+byteOf c [] = bad c
+byteOf c (x ∷ s) = got (x, s)
+
+-- 01: "seven bits each, low group first": the byte x ends the number, or m is the rest of it
+unfoldable pub groupOf : Bool → ℕ → List ℕ → Fit (ℕ × List ℕ) → Fit (ℕ × List ℕ)
+groupOf true x s m = got (x, s)
+groupOf false x s m = do
+  (n, r) ← m
+  got (x - 128 + 128 * n, r)
+
+-- 01, row 2: "fourth byte of a variable length number has its top bit set"
+unfoldable pub numOf : Refusal → ℕ → Reader ℕ
+numOf c zero s = bad (nr 2 [])
+numOf c (suc k) [] = bad c
+numOf c (suc k) (x ∷ s) = groupOf (ltb x 128) x s (numOf c k s)
+
+-- 01, row 12: "Publish, QoS 1 or 2, identifier 0"
+unfoldable pub identOf : ℕ → Reader ℕ
+identOf zero = noneOf 0
+identOf (suc q) = onlyOf notZero (λ _. nr 12 []) (bigOf cut 2)
+
+-- ---- text
+
+-- a byte in each range
+unfoldable pub followOf : List Range → Reader (List ℕ)
+followOf [] = noneOf []
+followOf (r ∷ rs) = mapOf cons (thenOf (onlyOf (inRange r) (λ _. nr 9 []) (byteOf (nr 9 []))) (λ _. followOf rs))
+
+-- what the row of a first byte asks for
+unfoldable pub restOf : Option (List Range) → Reader (List ℕ)
+restOf none = neverOf (nr 9 [])
+restOf (some rs) = followOf rs
+
+-- one character
+unfoldable pub charOf : Reader (List ℕ)
+charOf = mapOf cons (thenOf (byteOf (nr 9 [])) (λ x. restOf (rowAt rows x)))
+
+-- 01, row 9: "text not UTF-8"
+unfoldable pub isText : List ℕ → Bool
+isText b = isGot (manyFit charOf b)
+
+-- 01: "Topic as bytes, not tested as text"
+abbrev pub anyBytes : List ℕ → Bool
+anyBytes b = true
+
+-- ---- what strings and lists are handed back as
+
+-- 01, "What must change shape". A string of bytes b that end at index `end` of the stream is handed back as `string b end`;
+-- the items vs, which fill the bytes b, which end at `end`, as `run A vs b end`
+pub record Shape : Type 1 where
+  pub Str : Type 0
+  pub Run : Type 0 → Type 0
+  pub string : List ℕ → ℕ → Str
+  pub run : (A : Type 0) → List A → List ℕ → ℕ → Run A
+
+-- the language's way: bytes, and lists
+abbrev pub asBytes : Shape
+asBytes = record { Str = List ℕ; Run = List; string = λ b end. b; run = λ A vs b end. vs }
+
+-- 01: "A frame is one byte, a variable length number R, then R bytes"; reading order: "1 while the header is incomplete, or 2; then 3; then 1"
+unfoldable pub frameOf : Option ℕ → ℕ → Reader (ℕ × List ℕ)
+frameOf limit end =
+    thenOf (byteOf (nr 1 (2 ∷ [])))
+    (λ _. sizedOf (onlyOf (within limit) (over limit) (numOf (nr 1 (1 ∷ [])) 4)) lacking (λ _. isFit anyBytes cut) end)
+
+-- 01, Taken: F for each refusal of a whole frame
+unfoldable pub bodyAnswer : {A : Type 0} → ℕ → Fit A → Answer A
+bodyAnswer n (got v) = accepted v n
+bodyAnswer n (bad (nr k vs)) = refused k vs n
+
+module _ (h : Shape) where
+  -- ---- strings
+
+  -- bytes that pass the test, handed back
+  unfoldable pub stringFit : (List ℕ → Bool) → Refusal → ℕ → Filler (h .Str)
+  stringFit t c = handFit (λ b _ end. h .string b end) (λ _. isFit t c)
+
+  -- 01: "A string is a u16 length and that many bytes"; 7, 8, then 9
+  unfoldable pub bytesOf : ℕ → Reader (h .Str)
+  bytesOf = sizedOf (bigOf cut 2) crossed (stringFit anyBytes cut)
+
+  -- 01: "text must be UTF-8"
+  unfoldable pub textOf : ℕ → Reader (h .Str)
+  textOf = sizedOf (bigOf cut 2) crossed (stringFit isText (nr 9 []))
+
+  -- ---- properties
+
+  -- 01, table of properties
+  unfoldable pub valueOf : Form → ℕ → Reader (Val (h .Str))
+  valueOf u8 end = mapOf num (byteOf cut)
+  valueOf u16 end = mapOf num (bigOf cut 2)
+  valueOf u32 end = mapOf num (bigOf cut 4)
+  valueOf number end = mapOf num (numOf cut 4)
+  valueOf text end = mapOf str (textOf end)
+  valueOf bytes end = mapOf str (bytesOf end)
+  valueOf pair end = mapOf duoOf (thenOf (textOf end) (λ _. textOf end))
+
+  -- 01, row 10: "identifier not in its place's row"
+  unfoldable pub valueAt : Option Form → ℕ → ℕ → Reader (Prop (h .Str))
+  valueAt none i end s = bad (nr 10 (i ∷ []))
+  valueAt (some k) i end s = do
+    (v, r) ← valueOf k end s
+    got ((i, v), r)
+
+  -- 01: "an identifier byte and a value"
+  unfoldable pub propertyOf : Place → ℕ → Reader (Prop (h .Str))
+  propertyOf place end [] = bad cut
+  propertyOf place end (i ∷ s) = valueAt (lookup place i) i end s
+
+  -- the properties that fill the bytes given
+  unfoldable pub propertiesFit : Place → ℕ → Filler (List (Prop (h .Str)))
+  propertiesFit place end = manyFit (propertyOf place end)
+
+  -- 01: "A property block is a variable length number L and L bytes"; f makes the record
+  unfoldable pub blockOf : {A : Type 0} → Place → (List (Prop (h .Str)) → List ℕ → ℕ → A) → ℕ → Reader A
+  blockOf place f = sizedOf (numOf cut 4) crossed (handFit f (propertiesFit place))
+
+  -- 01: "L = 0 means absent"; Publish
+  abbrev pub publishAs : List (Prop (h .Str)) → List ℕ → ℕ → Option (PublishProps (h .Str) (h .Run))
+  publishAs ps b end = unlessEmpty (publishProps (h .Str) (h .Run) (λ vs. h .run (Val (h .Str)) vs b end)) ps
+
+  -- 01: "L = 0 means absent"; Subscribe
+  abbrev pub subscribeAs : List (Prop (h .Str)) → List ℕ → ℕ → Option (SubscribeProps (h .Str) (h .Run))
+  subscribeAs ps b end = unlessEmpty (subscribeProps (h .Str) (h .Run) (λ vs. h .run (Val (h .Str)) vs b end)) ps
+
+  -- 01: "L = 0 means absent"; PubAck
+  abbrev pub ackAs : List (Prop (h .Str)) → List ℕ → ℕ → Option (AckProps (h .Str) (h .Run))
+  ackAs ps b end = unlessEmpty (ackProps (h .Str) (h .Run) (λ vs. h .run (Val (h .Str)) vs b end)) ps
+
+  -- ---- bodies
+
+  -- 01, rows 15 and 7: "not one of the nine"; "bytes after a PubAck's block"
+  unfoldable pub ackRestFit : List ℕ → ℕ → Filler (ℕ × Option (AckProps (h .Str) (h .Run)))
+  ackRestFit rs end [] = got (0, none)
+  ackRestFit rs end (c ∷ []) = do
+    guard (isIn c rs) (nr 15 (c ∷ []))
+    got (c, none)
+  ackRestFit rs end (c ∷ x ∷ r) = do
+    guard (isIn c rs) (nr 15 (c ∷ []))
+    ps ← exactFit (blockOf ackPlace ackAs end) cut (x ∷ r)
+    got (c, ps)
+
+  -- 01, rows 14 and 11: "within a filter the forward rule before QoS"
+  unfoldable pub filterOf : ℕ → Reader (Filter (h .Str))
+  filterOf end = mapOf mkFilter (thenOf (textOf end) (λ _. onlyOf qosFine (λ _. nr 11 (3 ∷ [])) (onlyOf ruleFine (λ _. nr 14 (3 ∷ [])) (byteOf cut))))
+
+  -- 01, row 13: "no filters"
+  unfoldable pub filtersFit : ℕ → Filler (List (Filter (h .Str)))
+  filtersFit end = onlyFit someOf (nr 13 []) (manyFit (filterOf end))
+
+  -- 01: "Topic as bytes; u16 identifier; block; the rest is payload"
+  unfoldable pub messageFit : ℕ → ℕ → Filler (PacketOf (h .Str) (h .Run))
+  messageFit x end =
+      mapFit (mkPublish x) (thenFit (bytesOf end) (λ _. thenFit (identOf (flagQos x)) (λ _. thenFit (blockOf publishPlace publishAs end) (λ _. stringFit anyBytes cut end))))
+
+  -- 01, reading order: "then QoS for Publish; then fields left to right"
+  unfoldable pub fieldsFit : Layout → ℕ → ℕ → Filler (PacketOf (h .Str) (h .Run))
+  fieldsFit aPublish x end b = do
+    guard (notThree (flagQos x)) (nr 11 (3 ∷ []))
+    messageFit x end b
+  fieldsFit (anAck rs) x end b = mapFit (mkAck x) (thenFit (bigOf cut 2) (λ _. ackRestFit rs end)) b
+  fieldsFit aSubscribe x end b =
+      mapFit mkSubscribe (thenFit (bigOf cut 2) (λ _. thenFit (blockOf subscribePlace subscribeAs end) (λ _. handFit (λ vs. h .run (Filter (h .Str)) vs) filtersFit end))) b
+  fieldsFit aPing x end b = mapFit (mkPing x) (isFit anyBytes cut) b
+
+  -- 01, row 6: "kind 1, 2, 5-7, 9-11, 14"
+  unfoldable pub layoutFit : Option Layout → ℕ → ℕ → Filler (PacketOf (h .Str) (h .Run))
+  layoutFit none x end b = bad (nr 6 (kindOf x ∷ []))
+  layoutFit (some f) x end b = fieldsFit f x end b
+
+  -- 01, reading order: "then 4, 5, 6"; row 5: "R = 0, kind not a ping"
+  unfoldable pub bodyFit : ℕ → ℕ → Filler (PacketOf (h .Str) (h .Run))
+  bodyFit x end b = do
+    guard (not (isIn (kindOf x) reserved)) (nr 4 (kindOf x ∷ []))
+    guard (or (isPing (lookup kinds (kindOf x))) (not (isEmpty b))) (nr 5 [])
+    layoutFit (lookup kinds (kindOf x)) x end b
+
+  -- ---- the answer; n bytes are the frame
+
+  -- the answer to a whole frame: its first byte and its body, which ends where the frame does
+  unfoldable pub wholeAnswer : ℕ → ℕ × List ℕ → Answer (PacketOf (h .Str) (h .Run))
+  wholeAnswer n z = bodyAnswer n (bodyFit (z .0) n (z .1))
+
+  -- 01, Taken: 0 where the frame is not whole, its own length is malformed, or it is above the limit
+  unfoldable pub frameAnswer : List ℕ → Fit ((ℕ × List ℕ) × List ℕ) → Answer (PacketOf (h .Str) (h .Run))
+  frameAnswer s (got z) = wholeAnswer (length s - length (z .1)) (z .0)
+  frameAnswer s (bad (nr k vs)) = refused k vs 0
+
+  -- the answer to the stream s
+  unfoldable pub readAs : Option ℕ → List ℕ → Answer (PacketOf (h .Str) (h .Run))
+  readAs limit s = frameAnswer s (frameOf limit (length s) s)
+
+-- ---- demand 3 speaks of bytes
+
+-- strings are bytes, and lists are lists
+abbrev pub readOf : Option ℕ → List ℕ → Answer (PacketOf (List ℕ) List)
+readOf = readAs asBytes

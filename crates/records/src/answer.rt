@@ -1,0 +1,47 @@
+// The answers: of a read, a size, a write, and an item.
+use crate::error::Error;
+use crate::packet::Packet;
+use crate::span::Span;
+use crate::subscribe::Filter;
+
+// The largest R that is read, or the largest size that is written; AtMost(0) is a limit.
+pub enum Limit {
+    Unlimited,
+    AtMost(usize),
+}
+
+// The record or the refusal, and how many bytes of the stream are taken.
+pub enum Read {
+    Packet(Packet, usize),
+    Refused(Error, usize),
+}
+
+// How many bytes a record takes to write.
+pub enum Sized {
+    Size(usize),
+    Refused(Error),
+}
+
+// How many bytes were written.
+pub enum Written {
+    Size(usize),
+    Refused(Error),
+}
+
+// The n-th user property: where its key and its value stand.
+pub enum UserItem {
+    Pair(Span, Span),
+    NoItem,
+}
+
+// The n-th subscription identifier.
+pub enum IdentifierItem {
+    Number(u32),
+    NoItem,
+}
+
+// The n-th filter.
+pub enum FilterItem {
+    Filter(Filter),
+    NoItem,
+}

@@ -1,0 +1,10 @@
+// What the codec hands over and hands back: quality of service, refusals, records as read, answers. It follows mqttbytes/mod.rs and the
+// structs of puback.rs, subscribe.rs and publish.rs; strings and lists are places in the lent stream.
+pub mod answer;
+pub mod error;
+pub mod packet;
+pub mod puback;
+pub mod publish;
+pub mod qos;
+pub mod span;
+pub mod subscribe;

@@ -1,0 +1,7 @@
+// Quality of service, as in mqttbytes/mod.rs.
+
+pub enum QoS {
+    AtMostOnce,
+    AtLeastOnce,
+    ExactlyOnce,
+}

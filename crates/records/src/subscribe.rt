@@ -1,0 +1,36 @@
+// A Subscribe as read, and one filter, after subscribe.rs.
+use crate::qos::QoS;
+use crate::span::MaybeU32;
+use crate::span::Span;
+
+pub struct Subscribe {
+    pub pkid: u16,
+    // where the filters stand
+    pub filters: Span,
+    pub properties: MaybeSubscribeProperties,
+}
+
+pub enum MaybeSubscribeProperties {
+    Absent,
+    Present(SubscribeProperties),
+}
+
+pub struct SubscribeProperties {
+    pub id: MaybeU32,
+    // where the properties stand: the user properties are read there
+    pub block: Span,
+}
+
+pub enum RetainForwardRule {
+    OnEverySubscribe,
+    OnNewSubscribe,
+    Never,
+}
+
+pub struct Filter {
+    pub path: Span,
+    pub qos: QoS,
+    pub nolocal: bool,
+    pub preserve_retain: bool,
+    pub retain_forward_rule: RetainForwardRule,
+}
