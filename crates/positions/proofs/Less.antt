@@ -35,4 +35,3 @@ property-less place end = placed-less end (propertyOf asPlaces place end) (prope
 
 pub filter-less : (end : ℕ) → Less end (filterOf asPlaces end)
 filter-less end = placed-less end (filterOf asPlaces end) (filterOf asBytes end) sayFilter (λ s. filter-says s end) (reads-filter end) filter-solid
-

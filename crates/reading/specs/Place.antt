@@ -6,6 +6,7 @@ use Prim.Native.Nat.{ℕ, zero, suc, _+_, _-_}
 use lib.Dec.{leb}
 use lib.ListN.{length, take, drop}
 use Rattle.grammar.specs.Tables.{Place, publishPlace, subscribePlace, ackPlace}
+use Rattle.grammar.specs.Choice.{pick}
 use Rattle.grammar.specs.Record.{Val, num, str, duo, Prop, allOf, PublishProps, SubscribeProps, AckProps, Filter, PacketOf, publish, ack, subscribe, ping}
 use Rattle.grammar.specs.Sentence.{Value, Packet}
 use Rattle.reading.specs.Refusal.{Refusal, nr, Answer, accepted, refused}
@@ -24,6 +25,10 @@ spanOf b end = record { start = end - length b; len = length b }
 -- 01: "parts of the caller's stream"
 abbrev pub partOf : List ℕ → Span → List ℕ
 partOf s p = take (p .len) (drop (p .start) s)
+
+-- demand 1: "any record may be handed to any public entry point": the part if it lies within the stream, else the empty part
+unfoldable pub heldOf : List ℕ → Span → List ℕ
+heldOf s p = pick (leb (p .start + p .len) (length s)) (partOf s p) []
 
 -- a string is handed back as its span, a list as the span that its items fill
 abbrev pub asPlaces : Shape
