@@ -202,7 +202,7 @@ module _ (x end : ℕ) where
   body-refuse b _ (kind h) = rw h
   body-refuse _ _ (noBytes h h′) = rw (h, h′)
   body-refuse _ _ (foreign h e) = rw (h, e)
-  body-refuse b k (content {f = f} e h g) = rw (kind-fine (kindOf x) f e, e, h, refuses-fields f .refuse b k g)
+  body-refuse b k (content {l = f} e h g) = rw (kind-fine (kindOf x) f e, e, h, refuses-fields f .refuse b k g)
 
   pub refuses-body : Refuses (bodyFit asBytes x end) (BodyFault x)
   refuses-body = record { fault = body-fault; refuse = body-refuse }
