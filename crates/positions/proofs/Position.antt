@@ -7,9 +7,9 @@ use lib.ListN.{length, take, drop, length-append, length-drop, take-append-drop}
 use lib.Seq.{drop-append-seam}
 use Rattle.grammar.specs.Gram.{Gram}
 use Rattle.reading.specs.Refusal.{Refusal}
-use Rattle.reading.specs.Reader.{Fit, got, bad, Reader, _>>=_}
-use Rattle.reading.proofs.Reading.{Reads, from-bind, from-got}
-use Rattle.reading.proofs.Refusing.{of-bind, got-bad}
+use Rattle.reading.specs.Reader.{got, bad, Reader}
+use Rattle.reading.proofs.Reading.{from-got, from-bind, Reads}
+use Rattle.reading.proofs.Refusing.{got-bad, of-bind}
 use Rattle.positions.specs.Position.{fromAt}
 
 -- what a reader leaves is an end of what it was given

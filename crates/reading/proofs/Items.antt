@@ -14,7 +14,7 @@ use Rattle.grammar.specs.Gram.{Gram, Only, Many}
 use Rattle.grammar.specs.Tables.{Place, publishPlace, subscribePlace, ackPlace}
 use Rattle.grammar.specs.Record.{Prop, allOf, PublishProps, SubscribeProps, AckProps, Filter, publish, ack, subscribe, ping}
 use Rattle.grammar.specs.Sentence.{Value, Property, FilterOf, someOf, Packet}
-use Rattle.reading.specs.Refusal.{Refusal, accepted}
+use Rattle.reading.specs.Refusal.{Refusal, nr, accepted}
 use Rattle.reading.specs.Reader.{Fit, got, bad, Filler, _>>=_, _>>_, guard}
 use Rattle.reading.specs.Read.{Shape, asBytes, propertiesFit, filtersFit, readOf}
 use Rattle.reading.specs.Place.{Span, partOf, asPlaces, Placed, readPlacedOf, noItem, orNoItem, again, nthOf, valuesAt, userAt, subscriptionAt, filterAt, onGot, ifSome, sayVal, sayProp, sayFilter, sayPublishProps, saySubscribeProps, sayAckProps, say, Lists, OnBoth, neither, each, PublishItems, SubscribeItems, AckItems, Items, ofPublish, ofAck, ofSubscribe, ofPing}
@@ -51,11 +51,11 @@ again-like {q = q} {q′ = q′} s H p =
     or-like (q e (partOf s p)) (q′ e (partOf s p)) (H e .like (partOf s p) (span-stands s p (leb→le e (length s) (T-of (leb e (length s)) t))))
 
 -- the only refusal is 21
-again-bad : {A : Type 0} (q : ℕ → Filler A) (s : List ℕ) (p : Span) (k : Refusal) → again q s p ≡ bad k → k ≡ noItem
+again-bad : {A : Type 0} (q : ℕ → Filler A) (s : List ℕ) (p : Span) (k : Refusal) → again q s p ≡ bad k → k ≡ nr 21 []
 unfolding again
 again-bad {A} q s p k = go (leb (p .start + p .len) (length s)) (q (p .start + p .len) (partOf s p))
   where
-    go : (t : Bool) (m : Fit A) → (guard t noItem >> orNoItem m) ≡ bad k → k ≡ noItem
+    go : (t : Bool) (m : Fit A) → (guard t noItem >> orNoItem m) ≡ bad k → k ≡ nr 21 []
     go false m e = cc
     go true (bad k′) e = cc
     go true (got a) e = cc
@@ -70,7 +70,7 @@ nth-like {A = A} f n vs ws e = rw (← e) (go n vs)
     go zero (a ∷ vs) = gots refl
     go (suc n) (a ∷ vs) = go n vs
 
-nth-bad : {A : Type 0} (n : ℕ) (vs : List A) (k : Refusal) → nthOf n vs ≡ bad k → k ≡ noItem
+nth-bad : {A : Type 0} (n : ℕ) (vs : List A) (k : Refusal) → nthOf n vs ≡ bad k → k ≡ nr 21 []
 nth-bad n [] k e = cc
 nth-bad zero (a ∷ vs) k e = got-bad e
 nth-bad (suc n) (a ∷ vs) k e = nth-bad n vs k e
@@ -85,7 +85,7 @@ all-says s i (p ∷ ps) = one (eqb (p .0) i) (all-says s i ps)
     one true e = ap (λ (l : List Value). sayVal s (p .1) ∷ l) e
     one false e = e
 
-values-only : (h : Shape) (s : List ℕ) (p : Span) (k : Refusal) (place : Place) (i : ℕ) → valuesAt h s p place i ≡ bad k → k ≡ noItem
+values-only : (h : Shape) (s : List ℕ) (p : Span) (k : Refusal) (place : Place) (i : ℕ) → valuesAt h s p place i ≡ bad k → k ≡ nr 21 []
 unfolding valuesAt
 values-only h s p k place i = of-bind (again (propertiesFit h place) s p) _ k (again-bad (propertiesFit h place) s p k) (λ ps e e′. got-bad e′)
 
@@ -151,7 +151,7 @@ module _ (s : List ℕ) (p : Span) (n : ℕ) where
   unfolding valuesAt
   nth-iff place i v = (
     from-bind {C = λ (y : Value). (ps : List (Prop (List ℕ))) × (p .start + p .len ≤ length s) × Many (Property place) ps (partOf s p) × (nthOf n (allOf i ps) ≡ got y)}
-    (valuesAt asBytes s p place i) (nthOf n) (from-values place i) v,
+        (valuesAt asBytes s p place i) (nthOf n) (from-values place i) v,
     λ (ps, h, g, e). rw (block-iff place s p ps .1 (h, g)) e,
   )
     where
@@ -184,15 +184,15 @@ module _ (s : List ℕ) (p : Span) (n : ℕ) where
 
 module _ (h : Shape) (s : List ℕ) (p : Span) (k : Refusal) where
   -- no other refusal is given, whatever the bytes, the place and n
-  pub user-only : (place : Place) (n : ℕ) → userAt h s p place n ≡ bad k → k ≡ noItem
+  pub user-only : (place : Place) (n : ℕ) → userAt h s p place n ≡ bad k → k ≡ nr 21 []
   unfolding userAt
   user-only place n = of-bind (valuesAt h s p place 38) _ k (values-only h s p k place 38) (λ vs e. nth-bad n vs k)
 
-  pub subscription-only : (n : ℕ) → subscriptionAt h s p n ≡ bad k → k ≡ noItem
+  pub subscription-only : (n : ℕ) → subscriptionAt h s p n ≡ bad k → k ≡ nr 21 []
   unfolding subscriptionAt
   subscription-only n = of-bind (valuesAt h s p publishPlace 11) _ k (values-only h s p k publishPlace 11) (λ vs e. nth-bad n vs k)
 
-  pub filter-only : (n : ℕ) → filterAt h s p n ≡ bad k → k ≡ noItem
+  pub filter-only : (n : ℕ) → filterAt h s p n ≡ bad k → k ≡ nr 21 []
   unfolding filterAt
   filter-only n = of-bind (again (filtersFit h) s p) _ k (again-bad (filtersFit h) s p k) (λ vs e. nth-bad n vs k)
 

@@ -11,3 +11,4 @@ pub mod Faults
 pub mod Numbers
 pub mod Rows
 pub mod Stream
+pub mod Theorems

@@ -112,4 +112,3 @@ kept-fields aPing x = kept-sound
 -- so of a frame whose fields break
 pub field-numbers : (limit : Option ℕ) (s : List ℕ) (k t : ℕ) (vs : List ℕ) → Breaks limit s (nr k vs) t → isIn k ofFields ≡ true
 field-numbers limit s k t vs (x, l, b, f, e, h, g) = kept-fields l x b (nr k vs) g
-

@@ -16,8 +16,8 @@ use Rattle.grammar.specs.Tables.{Form, u8, u16, u32, number, text, bytes, pair,
 use Rattle.grammar.specs.Record.{Val, num, str, Prop, lastFrom, lastOf, allOf, unlessEmpty, publishProps, subscribeProps, AckProps, ackProps, Filter, kindOf, flagQos, mkPublish, mkAck, mkFilter, mkSubscribe, mkPing}
 use Rattle.grammar.specs.Sentence.{Value, duoOf, notThree, someOf, Packet, Frame}
 use Rattle.reading.specs.Refusal.{Refusal, nr, Answer, accepted, refused, cut, crossed}
-use Rattle.reading.specs.Reader.{Fit, got, bad, Filler, isFit, exactFit}
-use Rattle.reading.specs.Read.{bigOf, byteOf, numOf, identOf, isText, anyBytes, asBytes, frameOf, bodyAnswer, stringFit, bytesOf, textOf, valueOf, valueAt, propertyOf, propertiesFit, blockOf, publishAs, subscribeAs, ackAs, ackRestFit, filterOf, filtersFit, messageFit, fieldsFit, layoutFit, bodyFit, wholeAnswer, frameAnswer, readAs, readOf}
+use Rattle.reading.specs.Reader.{Fit, got, bad, Filler, isFit}
+use Rattle.reading.specs.Read.{bigOf, byteOf, numOf, identOf, isText, anyBytes, asBytes, frameOf, bodyAnswer, stringFit, bytesOf, textOf, valueOf, valueAt, propertyOf, propertiesFit, blockOf, publishAs, subscribeAs, ackAs, ackBlockFit, ackRestFit, filterOf, filtersFit, messageFit, fieldsFit, layoutFit, bodyFit, wholeAnswer, frameAnswer, readAs, readOf}
 use Rattle.reading.specs.Place.{Span, spanOf, heldOf, asPlaces, Placed, readPlacedOf, again, valuesAt, onGot, onSome, ifSome, sayVal, sayProp, sayFilter, sayPublishProps, saySubscribeProps, sayAckProps, say, sayAnswer}
 use Rattle.reading.proofs.Lists.{leb-yes}
 use Rattle.reading.proofs.Reading.{bad-got, got-inj, from-got, from-guard}
@@ -153,14 +153,17 @@ module _ (s : List ℕ) where
   abbrev Rest : ℕ × Option (AckProps Span (λ A. Span)) → ℕ × Option (AckProps (List ℕ) List) → Type 0
   Rest = Both (Via (λ c. c)) (Reading (ifSome (sayAckProps s)))
 
+  block-like : (end : ℕ) (l : List ℕ) → Stands s end l → Like (Reading (ifSome (sayAckProps s))) (ackBlockFit asPlaces end l) (ackBlockFit asBytes end l)
+  unfolding ackBlockFit
+  block-like end [] w = gots refl
+  block-like end (x ∷ r) w = drops-exact (block-says ackPlace (ackAs asPlaces) (ackAs asBytes) (ifSome (sayAckProps s)) ack-as end) cut .like (x ∷ r) w
+
   rest-like : (rs : List ℕ) (end : ℕ) (l : List ℕ) → Stands s end l → Like Rest (ackRestFit asPlaces rs end l) (ackRestFit asBytes rs end l)
   unfolding ackRestFit
   rest-like rs end [] w = gots (refl, refl)
-  rest-like rs end (c ∷ []) w = like-guard (isIn c rs) (nr 15 (c ∷ [])) (got (c, none)) (got (c, none)) λ _. gots (refl, refl)
-  rest-like rs end (c ∷ x ∷ r) w =
+  rest-like rs end (c ∷ r) w =
       like-guard (isIn c rs) (nr 15 (c ∷ [])) _ _ λ _.
-      like-bind (exactFit (blockOf asPlaces ackPlace (ackAs asPlaces) end) cut (x ∷ r)) (exactFit (blockOf asBytes ackPlace (ackAs asBytes) end) cut (x ∷ r)) _ _
-      (drops-exact (block-says ackPlace (ackAs asPlaces) (ackAs asBytes) (ifSome (sayAckProps s)) ack-as end) cut .like (x ∷ r) (stands-rest (c ∷ x ∷ r) (c ∷ []) (x ∷ r) refl w)) λ ps qs _ _ h.
+      like-bind (ackBlockFit asPlaces end r) (ackBlockFit asBytes end r) _ _ (block-like end r (stands-rest (c ∷ r) (c ∷ []) r refl w)) λ ps qs _ _ h.
       gots (refl, h)
 
   rest-says : (rs : List ℕ) (end : ℕ) → Drops s end Rest (ackRestFit asPlaces rs end) (ackRestFit asBytes rs end)
