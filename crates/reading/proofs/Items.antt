@@ -10,7 +10,7 @@ use lib.Dec.{eqb, leb, leb→le}
 use lib.ListN.{length, replicate, length-replicate, take, drop, length-drop, take-append-drop}
 use lib.Seq.{length-take-le}
 use Rattle.grammar.specs.Choice.{pick}
-use Rattle.grammar.specs.Gram.{Gram, Only, Many}
+use Rattle.grammar.specs.Gram.{Only, Many}
 use Rattle.grammar.specs.Tables.{Place, publishPlace, subscribePlace, ackPlace}
 use Rattle.grammar.specs.Record.{Prop, allOf, PublishProps, SubscribeProps, AckProps, Filter, publish, ack, subscribe, ping}
 use Rattle.grammar.specs.Sentence.{Value, Property, FilterOf, someOf, Packet}
@@ -18,12 +18,10 @@ use Rattle.reading.specs.Refusal.{Refusal, nr, accepted}
 use Rattle.reading.specs.Reader.{Fit, got, bad, Filler, _>>=_, _>>_, guard}
 use Rattle.reading.specs.Read.{Shape, asBytes, propertiesFit, filtersFit, readOf}
 use Rattle.reading.specs.Place.{Span, partOf, asPlaces, Placed, readPlacedOf, noItem, orNoItem, again, nthOf, valuesAt, userAt, subscriptionAt, filterAt, onGot, ifSome, sayVal, sayProp, sayFilter, sayPublishProps, saySubscribeProps, sayAckProps, say, Lists, OnBoth, neither, each, PublishItems, SubscribeItems, AckItems, Items, ofPublish, ofAck, ofSubscribe, ofPing}
-use Rattle.reading.proofs.Lists.{T-of, leb-yes}
-use Rattle.reading.proofs.Reading.{bad-got, got-inj, from-got, from-bind, Fills}
-use Rattle.reading.proofs.Fields.{fills-properties}
-use Rattle.reading.proofs.Packets.{fills-filters}
+use Rattle.reading.proofs.Lists.{T-of}
+use Rattle.reading.proofs.Reading.{bad-got, got-inj, from-got, from-bind}
 use Rattle.reading.proofs.Forget.{Like, gots, bads, Via, like-bind, like-guard, like-is, Stands, Drops}
-use Rattle.reading.proofs.Places.{properties-says, filters-says, placed-accepted}
+use Rattle.reading.proofs.Places.{block-iff, run-iff, properties-says, filters-says, placed-accepted}
 use Rattle.reading.proofs.Refusing.{got-bad, of-bind}
 
 -- ---- any place within s
@@ -104,11 +102,11 @@ module _ (s : List ℕ) (p : Span) where
 
   pub nth-user : (place : Place) (n : ℕ) → onGot (sayVal s) (userAt asPlaces s p place n) ≡ userAt asBytes s p place n
   unfolding userAt
-  nth-user place n = nth-value place 38 n
+  nth-user place n = nth-value place _ n
 
   pub nth-subscription : (n : ℕ) → onGot (sayVal s) (subscriptionAt asPlaces s p n) ≡ subscriptionAt asBytes s p n
   unfolding subscriptionAt
-  nth-subscription n = nth-value publishPlace 11 n
+  nth-subscription n = nth-value _ _ n
 
   pub nth-filter : (n : ℕ) → onGot (sayFilter s) (filterAt asPlaces s p n) ≡ filterAt asBytes s p n
   unfolding filterAt
@@ -116,31 +114,7 @@ module _ (s : List ℕ) (p : Span) where
       like-is (filterAt asPlaces s p n) (filterAt asBytes s p n) (onGot (sayFilter s)) (λ _. refl) (λ _. refl)
       (like-bind (again (filtersFit asPlaces) s p) (again (filtersFit asBytes) s p) (nthOf n) (nthOf n) (again-like s (filters-says s) p) λ vs ws _ _ r. nth-like (sayFilter s) n vs ws r)
 
--- ---- 01, row 21, without the reader: what is read at a place fills it by the grammar, within the bytes, and all else is 21
-
-module _ {A : Type 0} {q : ℕ → Filler A} {G : Gram A} (S : (e : ℕ) → Fills (q e) G) (s : List ℕ) (p : Span) (v : A) where
-  or-got : (m : Fit A) → orNoItem m ≡ got v → m ≡ got v
-  or-got (got a) e = e
-  or-got (bad k) e = absurd (bad-got e)
-
-  fills-there : (t : Bool) → leb (p .start + p .len) (length s) ≡ t → (guard t noItem >> orNoItem (q (p .start + p .len) (partOf s p))) ≡ got v → (p .start + p .len ≤ length s) × G v (partOf s p)
-  fills-there true h e =
-      (leb→le (p .start + p .len) (length s) (T-of (leb (p .start + p .len) (length s)) h), S (p .start + p .len) .back (partOf s p) v (or-got (q (p .start + p .len) (partOf s p)) e))
-  fills-there false h e = absurd (bad-got e)
-
-  -- the place lies within the bytes, and v fills it
-  pub again-iff : (again q s p ≡ got v) ↔ ((p .start + p .len ≤ length s) × G v (partOf s p))
-  unfolding again
-  again-iff = (
-    fills-there (leb (p .start + p .len) (length s)) refl,
-    λ t. rw (leb-yes (p .start + p .len) (length s) (t .0), S (p .start + p .len) .whole v (partOf s p) (t .1)),
-  )
-
-pub block-iff : (place : Place) (s : List ℕ) (p : Span) (ps : List (Prop (List ℕ))) → (again (propertiesFit asBytes place) s p ≡ got ps) ↔ ((p .start + p .len ≤ length s) × Many (Property place) ps (partOf s p))
-block-iff place s p ps = again-iff (fills-properties place) s p ps
-
-pub run-iff : (s : List ℕ) (p : Span) (fs : List (Filter (List ℕ))) → (again (filtersFit asBytes) s p ≡ got fs) ↔ ((p .start + p .len ≤ length s) × Only someOf (Many FilterOf) fs (partOf s p))
-run-iff s p fs = again-iff fills-filters s p fs
+-- ---- 01, row 21, without the reader: an item is given exactly when the place holds a list that has it, and all else is 21
 
 bind-iff : {A B : Type 0} (m : Fit A) (f : A → Fit B) (z : B) → ((m >>= f) ≡ got z) ↔ ((a : A) × (m ≡ got a) × (f a ≡ got z))
 bind-iff {A = A} {B = B} m f z = (from-bind {C = λ (y : B). (a : A) × (m ≡ got a) × (f a ≡ got y)} m f (λ a e y e′. (a, e, e′)) z, λ (a, e, e′). rw e e′)

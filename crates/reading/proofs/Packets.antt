@@ -10,7 +10,7 @@ use Rattle.grammar.specs.Gram.{Gram, Only, only, Many, Solid}
 use Rattle.grammar.specs.Tables.{publishPlace, subscribePlace, ackPlace, Layout, aPublish, anAck, aSubscribe, aPing, kinds, reserved, isPing}
 use Rattle.grammar.specs.Record.{AckProps, kindOf, flagQos, mkPublish, mkAck, mkFilter, mkSubscribe, mkPing}
 use Rattle.grammar.specs.Sentence.{Any, Block, publishOf, subscribeOf, ackOf, notThree, notZero, Ident, publishGood, qosFine, ruleFine, FilterOf, someOf, AckRest, plain, coded, full, Packet, Fields, Body, body}
-use Rattle.reading.specs.Refusal.{Refusal, nr, cut}
+use Rattle.reading.specs.Refusal.{Refusal, cut}
 use Rattle.reading.specs.Reader.{got, Filler, _>>=_, _>>_, guard}
 use Rattle.reading.specs.Read.{identOf, anyBytes, asBytes, blockOf, publishAs, subscribeAs, ackAs, ackBlockFit, ackRestFit, filterOf, filtersFit, messageFit, fieldsFit, layoutFit, bodyFit}
 use Rattle.reading.proofs.Lists.{eq-of}
@@ -43,7 +43,7 @@ module _ (rs : List ℕ) (end : ℕ) where
   unfolding ackRestFit
   rest-back [] = from-got (λ z. AckRest rs z []) (0, none) plain
   rest-back (c ∷ r) =
-      from-guard (isIn c rs) (nr 15 (c ∷ [])) (ackBlockFit asBytes end r >>= λ ps. got (c, ps)) λ h.
+      from-guard (isIn c rs) _ (ackBlockFit asBytes end r >>= λ ps. got (c, ps)) λ h.
       from-bind (ackBlockFit asBytes end r) (λ ps. got (c, ps)) λ ps e.
       from-got (λ z. AckRest rs z (c ∷ r)) (c, ps) (block-back c r h ps e)
 
@@ -55,18 +55,18 @@ module _ (rs : List ℕ) (end : ℕ) where
 pub reads-ident : (q : ℕ) → Reads (identOf q) (Ident q)
 unfolding identOf
 reads-ident zero = reads-none 0
-reads-ident (suc q) = reads-only notZero (λ _. nr 12 []) (reads-big cut 2)
+reads-ident (suc q) = reads-only notZero _ (reads-big _ 2)
 
 pub reads-filter : (end : ℕ) → Reads (filterOf asBytes end) FilterOf
 unfolding filterOf
-reads-filter end = reads-map mkFilter (reads-then (reads-text end) (λ _. reads-only qosFine (λ _. nr 11 (3 ∷ [])) (reads-only ruleFine (λ _. nr 14 (3 ∷ [])) (reads-byte cut))))
+reads-filter end = reads-map mkFilter (reads-then (reads-text end) (λ _. reads-only qosFine _ (reads-only ruleFine _ (reads-byte _))))
 
 pub filter-solid : Solid FilterOf
 filter-solid = solid-map mkFilter (solid-then (solid-sized (big-solid 1)))
 
 pub fills-filters : (end : ℕ) → Fills (filtersFit asBytes end) (Only someOf (Many FilterOf))
 unfolding filtersFit
-fills-filters end = fills-only someOf (nr 13 []) (fills-many (reads-filter end) filter-solid)
+fills-filters end = fills-only someOf _ (fills-many (reads-filter end) filter-solid)
 
 pub reads-publish-block : (end : ℕ) → Reads (blockOf asBytes publishPlace (publishAs asBytes) end) (Block publishPlace publishOf)
 reads-publish-block = reads-block publishPlace (publishAs asBytes) publishOf (λ _ _ _. refl)
@@ -90,7 +90,7 @@ module _ {q : Filler Packet} {G : Gram Packet} (t : Bool) (k : Refusal) (S : Fil
 pub fills-fields : (f : Layout) (x end : ℕ) → Fills (fieldsFit asBytes f x end) (Fields f x)
 unfolding fieldsFit messageFit
 fills-fields aPublish x end =
-    fills-first (notThree (flagQos x)) (nr 11 (3 ∷ []))
+    fills-first (notThree (flagQos x)) _
     (fills-map (mkPublish x)
     (fills-then (reads-bytes end)
     (λ _. fills-then (reads-ident (flagQos x))
@@ -143,8 +143,8 @@ module _ (x end : ℕ) where
   body-back : (b : List ℕ) (z : Packet) → bodyFit asBytes x end b ≡ got z → Body x z b
   unfolding bodyFit
   body-back b =
-      from-guard (not (isIn (kindOf x) reserved)) (nr 4 (kindOf x ∷ [])) _ λ _.
-      from-guard (or (isPing (lookup kinds (kindOf x))) (not (isEmpty b))) (nr 5 []) _ λ _.
+      from-guard (not (isIn (kindOf x) reserved)) _ _ λ _.
+      from-guard (or (isPing (lookup kinds (kindOf x))) (not (isEmpty b))) _ _ λ _.
       form-back b (lookup kinds (kindOf x)) refl
 
   pub fills-body : Fills (bodyFit asBytes x end) (Body x)

@@ -5,39 +5,63 @@ use mathlib.Core.Bool.{Bool, true, false, not}
 use mathlib.Core.Option.{Option, none, some}
 use mathlib.Core.Logic.{_↔_}
 use mathlib.Core.List.{List, [], _∷_, _++_, map, append-assoc}
-use Prim.Native.Nat.{ℕ, _+_, _-_, _/_}
+use Prim.Native.Nat.{ℕ, _+_, _-_, _≤_}
 use native.Mathlib.Omega.{arith}
 use lib.Dec.{eqb, leb, leb→le}
 use lib.ListN.{length, take, drop, length-append}
 use Rattle.grammar.specs.Choice.{pick, or, isIn, lookup, isEmpty}
-use Rattle.grammar.specs.Gram.{Gram, both, sized, is}
+use Rattle.grammar.specs.Gram.{Gram, Only, both, sized, Many, is}
 use Rattle.grammar.specs.Number.{byte}
 use Rattle.grammar.specs.Tables.{Form, u8, u16, u32, number, text, bytes, pair, Place, publishPlace, subscribePlace, ackPlace, Layout, aPublish, anAck, aSubscribe, aPing, kinds, reserved, isPing}
 use Rattle.grammar.specs.Record.{Val, num, str, Prop, lastFrom, lastOf, allOf, unlessEmpty, publishProps, subscribeProps, AckProps, ackProps, Filter, kindOf, flagQos, mkPublish, mkAck, mkFilter, mkSubscribe, mkPing}
-use Rattle.grammar.specs.Sentence.{Value, duoOf, notThree, someOf, Packet, Frame}
+use Rattle.grammar.specs.Sentence.{Value, duoOf, Property, notThree, FilterOf, someOf, Packet, Frame}
 use Rattle.reading.specs.Refusal.{Refusal, nr, Answer, accepted, refused, cut, crossed}
-use Rattle.reading.specs.Reader.{Fit, got, bad, Filler, isFit}
+use Rattle.reading.specs.Reader.{Fit, got, bad, Filler, _>>_, guard, isFit}
 use Rattle.reading.specs.Read.{bigOf, byteOf, numOf, identOf, isText, anyBytes, asBytes, frameOf, bodyAnswer, stringFit, bytesOf, textOf, valueOf, valueAt, propertyOf, propertiesFit, blockOf, publishAs, subscribeAs, ackAs, ackBlockFit, ackRestFit, filterOf, filtersFit, messageFit, fieldsFit, layoutFit, bodyFit, wholeAnswer, frameAnswer, readAs, readOf}
-use Rattle.reading.specs.Place.{Span, spanOf, heldOf, asPlaces, Placed, readPlacedOf, again, valuesAt, onGot, onSome, ifSome, sayVal, sayProp, sayFilter, sayPublishProps, saySubscribeProps, sayAckProps, say, sayAnswer}
-use Rattle.reading.proofs.Lists.{leb-yes}
-use Rattle.reading.proofs.Reading.{bad-got, got-inj, from-got, from-guard}
-use Rattle.reading.proofs.Fields.{reads-big, reads-num, reads-bytes, reads-text, reads-property}
-use Rattle.reading.proofs.Packets.{reads-ident, reads-filter, reads-publish-block, reads-subscribe-block}
+use Rattle.reading.specs.Place.{Span, spanOf, partOf, heldOf, asPlaces, Placed, readPlacedOf, noItem, orNoItem, again, valuesAt, onGot, onSome, ifSome, sayVal, sayProp, sayFilter, sayPublishProps, saySubscribeProps, sayAckProps, say, sayAnswer}
+use Rattle.reading.proofs.Lists.{T-of, leb-yes}
+use Rattle.reading.proofs.Reading.{bad-got, got-inj, from-got, from-guard, Fills}
+use Rattle.reading.proofs.Fields.{reads-big, reads-num, reads-bytes, reads-text, reads-property, fills-properties}
+use Rattle.reading.proofs.Packets.{reads-ident, reads-filter, fills-filters, reads-publish-block, reads-subscribe-block}
 use Rattle.reading.proofs.Demand.{no-accept, reads-length, reads-frame}
 use Rattle.reading.proofs.Forget.{Like, gots, bads, Via, Reading, Both, First, like-bind, like-guard, Stands, stands-rest, stands-within, stands-span, stands-held, Forgets, Drops, forgets-same, drops-same, forgets-map, drops-exact, forgets-then, drops-then, drops-many, drops-map, drops-only, drops-hand, forgets-sized}
 
--- ---- what is read at a span again
+-- ---- what is read at a place: just what fills it by the grammar, within the bytes
 
-again-right : {s : List ℕ} {end : ℕ} {A : Type 0} (q : ℕ → Filler A) (b : List ℕ) (v : A) → Stands s end b → q end b ≡ got v → again q s (spanOf b end) ≡ got v
-unfolding again
-again-right {s} {end} q b v w e =
+module _ {A : Type 0} {q : ℕ → Filler A} {G : Gram A} (S : (e : ℕ) → Fills (q e) G) (s : List ℕ) (p : Span) (v : A) where
+  or-got : (m : Fit A) → orNoItem m ≡ got v → m ≡ got v
+  or-got (got a) e = e
+  or-got (bad k) e = absurd (bad-got e)
+
+  fills-there : (t : Bool) → leb (p .start + p .len) (length s) ≡ t → (guard t noItem >> orNoItem (q (p .start + p .len) (partOf s p))) ≡ got v → (p .start + p .len ≤ length s) × G v (partOf s p)
+  fills-there true h e =
+      (leb→le (p .start + p .len) (length s) (T-of (leb (p .start + p .len) (length s)) h), S (p .start + p .len) .back (partOf s p) v (or-got (q (p .start + p .len) (partOf s p)) e))
+  fills-there false h e = absurd (bad-got e)
+
+  -- the place lies within the bytes, and v fills it
+  pub again-iff : (again q s p ≡ got v) ↔ ((p .start + p .len ≤ length s) × G v (partOf s p))
+  unfolding again
+  again-iff = (
+    fills-there (leb (p .start + p .len) (length s)) refl,
+    λ t. rw (leb-yes (p .start + p .len) (length s) (t .0), S (p .start + p .len) .whole v (partOf s p) (t .1)),
+  )
+
+pub block-iff : (place : Place) (s : List ℕ) (p : Span) (ps : List (Prop (List ℕ))) → (again (propertiesFit asBytes place) s p ≡ got ps) ↔ ((p .start + p .len ≤ length s) × Many (Property place) ps (partOf s p))
+block-iff place s p ps = again-iff (fills-properties place) s p ps
+
+pub run-iff : (s : List ℕ) (p : Span) (fs : List (Filter (List ℕ))) → (again (filtersFit asBytes) s p ≡ got fs) ↔ ((p .start + p .len ≤ length s) × Only someOf (Many FilterOf) fs (partOf s p))
+run-iff s p fs = again-iff fills-filters s p fs
+
+-- so where it was read once
+again-right : {s : List ℕ} {end : ℕ} {A : Type 0} {q : ℕ → Filler A} {G : Gram A} → ((e : ℕ) → Fills (q e) G) → (b : List ℕ) (v : A) → Stands s end b → q end b ≡ got v → again q s (spanOf b end) ≡ got v
+again-right {s} {end} S b v w e =
     let (h, i) = stands-within b w in
-    rw (i, leb-yes end (length s) h, stands-span b w, e)
+    again-iff S s (spanOf b end) v .1 (omega arith, rw (stands-span b w) (S end .back b v e))
 
 values-right : {s : List ℕ} {end : ℕ} (place : Place) (i : ℕ) (b : List ℕ) (ps : List (Prop (List ℕ))) → Stands s end b → propertiesFit asBytes place end b ≡ got ps
     → valuesAt asBytes s (spanOf b end) place i ≡ got (allOf i ps)
 unfolding valuesAt
-values-right place i b ps w e = rw (again-right (propertiesFit asBytes place) b ps w e)
+values-right place i b ps w e = rw (again-right (fills-properties place) b ps w e)
 
 -- ---- single values
 
@@ -191,7 +215,7 @@ module _ (s : List ℕ) where
       drops-map
       (drops-then (forgets-same (bigOf cut 2)) (reads-big cut 2)
       (drops-then (block-says subscribePlace (subscribeAs asPlaces) (subscribeAs asBytes) (ifSome (saySubscribeProps s)) subscribe-as end) (reads-subscribe-block end)
-      (drops-hand filters-says end (Reading (again (filtersFit asBytes) s)) _ _ (λ fs gs b w′ e r. again-right (filtersFit asBytes) b gs w′ e))))
+      (drops-hand filters-says end (Reading (again (filtersFit asBytes) s)) _ _ (λ fs gs b w′ e r. again-right fills-filters b gs w′ e))))
       {Q = Reading (say s)} mkSubscribe mkSubscribe (λ a b r. rw (r .1 .0, r .1 .1, r .0)) .like l w
   fields-like aPing x end l w = drops-map (drops-same (isFit anyBytes cut)) {Q = Reading (say s)} (mkPing x) (mkPing x) (λ a b r. refl) .like l w
 
