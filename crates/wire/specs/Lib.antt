@@ -1,1 +1,3 @@
 pub mod Told
+pub mod Property
+pub mod Qos
