@@ -1,3 +1,4 @@
 pub mod Told
 pub mod Property
 pub mod Qos
+pub mod Text

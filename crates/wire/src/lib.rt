@@ -2,3 +2,4 @@
 pub mod got;
 pub mod property;
 pub mod qos;
+pub mod text;
