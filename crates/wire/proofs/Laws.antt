@@ -1,1 +1,3 @@
 pub mod Fixed
+pub mod Length
+pub mod Put

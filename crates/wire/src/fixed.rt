@@ -44,7 +44,9 @@ pub fn read_u16(s: &[u8], at: usize) -> GotU16
     if left(s, at) < 2 {
         return GotU16::Refused(Error::MalformedPacket);
     }
-    GotU16::Value(digit(digit(0, s[at]), s[at + 1]) as u16, at + 2)
+    let high = s[at];
+    let low = s[at + 1];
+    GotU16::Value(digit(digit(0, high), low) as u16, at + 2)
 }
 
 pub fn read_u32(s: &[u8], at: usize) -> GotU32
@@ -60,4 +62,30 @@ pub fn read_u32(s: &[u8], at: usize) -> GotU32
         ),
         at + 4,
     )
+}
+
+pub fn put_u8(out: &mut [u8], at: usize, n: u8)
+    ensures { λ r. ⌜ now (out .exit) ≡ sets (now (out .entry)) at (wide 1 n) ⌝ }
+{
+    if at < out.len() {
+        out[at] = n;
+    }
+}
+
+pub fn put_u16(out: &mut [u8], at: usize, n: u16)
+    ensures { λ r. ⌜ now (out .exit) ≡ sets (now (out .entry)) at (wide 2 n) ⌝ }
+{
+    if at < out.len() {
+        put_u8(&mut *out, at, (n / 256) as u8);
+        put_u8(&mut *out, at + 1, (n % 256) as u8);
+    }
+}
+
+pub fn put_u32(out: &mut [u8], at: usize, n: u32)
+    ensures { λ r. ⌜ now (out .exit) ≡ sets (now (out .entry)) at (wide 4 n) ⌝ }
+{
+    if at < out.len() {
+        put_u16(&mut *out, at, (n / 65536) as u16);
+        put_u16(&mut *out, at + 2, (n % 65536) as u16);
+    }
 }

@@ -12,26 +12,26 @@ left-requires c κs = search needs
 returns : tie.Need-returns
 returns c = fixed-cut cut 2 _ _ (omega arith)
 
-shared-slice-read-digit : tie.Need-shared-slice-read-digit
-shared-slice-read-digit c = search needs
+shared-slice-read-high : tie.Need-shared-slice-read-high
+shared-slice-read-high c = search needs
+
+add-low : tie.Need-add-low
+add-low c = search needs
+
+shared-slice-read-low : tie.Need-shared-slice-read-low
+shared-slice-read-low c = search needs
 
 digit-requires : tie.Need-digit-requires
 digit-requires c κs = search needs
 
-add-digit : tie.Need-add-digit
-add-digit c = search needs
-
-shared-slice-read-digit-2 : tie.Need-shared-slice-read-digit-2
-shared-slice-read-digit-2 c = search needs
-
 digit-requires-2 : tie.Need-digit-requires-2
 digit-requires-2 c κs = search needs
 
-cast-t12 : tie.Need-cast-t12
-cast-t12 c = search needs
+cast-t13 : tie.Need-cast-t13
+cast-t13 c = search needs
 
-add-t13 : tie.Need-add-t13
-add-t13 c = search needs
+add-t5 : tie.Need-add-t5
+add-t5 c = search needs
 
 returns-2 : tie.Need-returns-2
 returns-2 c = fixed-at cut 2 _ _ _ (omega arith) (omega arith)
@@ -42,11 +42,11 @@ read-u16-spec =
     (tie.spec
     left-requires
     returns
-    shared-slice-read-digit
+    shared-slice-read-high
+    add-low
+    shared-slice-read-low
     digit-requires
-    add-digit
-    shared-slice-read-digit-2
     digit-requires-2
-    cast-t12
-    add-t13
+    cast-t13
+    add-t5
     returns-2)
