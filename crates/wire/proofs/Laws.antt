@@ -1,2 +1,5 @@
+pub mod Fixed
+pub mod Put
+pub mod Length
 pub mod Property
 pub mod Text
