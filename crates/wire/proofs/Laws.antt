@@ -3,3 +3,4 @@ pub mod Put
 pub mod Length
 pub mod Property
 pub mod Text
+pub mod Strings

@@ -4,4 +4,5 @@ pub mod got;
 pub mod length;
 pub mod property;
 pub mod qos;
+pub mod string;
 pub mod text;
