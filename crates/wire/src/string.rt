@@ -38,8 +38,8 @@ pub fn read_mqtt_string(s: &[u8], at: usize) -> GotSpan
     match read_mqtt_bytes(s, at) {
         GotSpan::Refused(e) => GotSpan::Refused(e),
         GotSpan::Value(p, next) => {
-            let start = p.start;
-            if text::is_utf8(&s[start..next]) {
+            let from = p.start;
+            if text::is_utf8(&s[from..next]) {
                 return GotSpan::Value(p, next);
             }
             GotSpan::Refused(Error::TopicNotUtf8)
