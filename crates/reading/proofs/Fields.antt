@@ -97,7 +97,7 @@ unfolding restOf
 reads-rest none = reads-never _
 reads-rest (some rs) = reads-follow rs
 
-reads-char : Reads charOf Char
+pub reads-char : Reads charOf Char
 unfolding charOf
 reads-char = reads-map cons (reads-then (reads-byte _) (λ x. reads-rest (rowAt rows x)))
 

@@ -1,1 +1,5 @@
 pub mod Told
+pub mod Length
+pub mod Property
+pub mod Qos
+pub mod Text

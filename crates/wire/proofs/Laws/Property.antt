@@ -1,0 +1,21 @@
+-- A number that no entry of a table has is not found there. Assumes nothing.
+use mathlib.Core.Path.{_≡_, refl, sym}
+use mathlib.Core.Option.{none}
+use mathlib.Core.List.{List, [], _∷_}
+use Prim.Native.Nat.{ℕ}
+use borrow.Author.Tests.{ne-eqb}
+use Rattle.grammar.specs.Choice.{lookup}
+
+-- P, and i is the number of no entry: what is known after the arms of a `match`, in the order of the table
+abbrev pub Absent : {A : Type 0} → Type 0 → List (ℕ × A) → ℕ → Type 0
+Absent P [] i = P
+Absent P (p ∷ ps) i = Absent (P × (i ≡ p .0 → ⊥)) ps i
+
+absent : {A : Type 0} (P : Type 0) (table : List (ℕ × A)) (i : ℕ) → Absent P table i → P × (lookup table i ≡ none)
+absent P [] i h = (h, refl)
+absent P (p ∷ ps) i h =
+    let ((q, ne), e) = absent (P × (i ≡ p .0 → ⊥)) ps i h in
+    (q, rw (ne-eqb (p .0) i (λ e′. ne (sym e′))) e)
+
+pub lookup-absent : {A : Type 0} (table : List (ℕ × A)) (i : ℕ) → Absent (Unit {0}) table i → lookup table i ≡ none
+lookup-absent table i h = absent (Unit {0}) table i h .1

@@ -1,0 +1,31 @@
+-- `wire::length::read_length` is right since inside a frame a number cut off is a field that ends early. Assumes nothing.
+use borrow.Author.Needs.{needs}
+use Rattle.reading.specs.Refusal.{cut}
+use Rattle.wire.proofs.length.read_length.Statement.{statement}
+use Rattle.wire.proofs.length.read_length.Tie as tie
+
+length-requires : tie.Need-length-requires
+length-requires c κs = search needs
+
+enum-known-n : tie.Need-enum-known-n
+enum-known-n c = search needs
+
+enum-told : tie.Need-enum-told
+enum-told c = search needs
+
+enum-told-2 : tie.Need-enum-told-2
+enum-told-2 c = search needs
+
+returns : tie.Need-returns
+returns c = rw (c .before .n .given .1) at (c .before .before .before .length .ensures cut)
+
+returns-2 : tie.Need-returns-2
+returns-2 c = rw (c .enum-told .given .1) at (c .before .before .length .ensures cut)
+
+returns-3 : tie.Need-returns-3
+returns-3 c = rw (c .enum-told2 .given .1) at (c .before .before .length .ensures cut)
+
+pub read-length-spec : {M : Type 1} → statement M
+read-length-spec =
+    tie.close
+    (tie.spec length-requires enum-known-n enum-told enum-told-2 returns returns-2 returns-3)

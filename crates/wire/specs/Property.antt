@@ -1,0 +1,24 @@
+-- What the answers on properties tell: a row of 01's table, and the form of a value there. Assumes nothing.
+use mathlib.Core.Option.{Option, none, some}
+use Rattle.grammar.specs.Tables as tables
+use Rattle.wire.specs.declared.property.PropertyPlace.{PropertyPlace}
+use Rattle.wire.specs.declared.property.PropertyPlace.the-variants.{Publish, Subscribe, PubAck}
+use Rattle.wire.specs.declared.property.PropertyForm.{PropertyForm}
+use Rattle.wire.specs.declared.property.PropertyForm.the-variants.{U8, U16, U32, Number, Text, Bytes, Pair, NotHere}
+
+-- 01, table of properties: the row of a place
+abbrev pub placeOf : PropertyPlace → tables.Place
+placeOf Publish = tables.publishPlace
+placeOf Subscribe = tables.subscribePlace
+placeOf PubAck = tables.ackPlace
+
+-- 01, table of properties: the form of a value, if the row has the identifier
+abbrev pub toldForm : PropertyForm → Option tables.Form
+toldForm U8 = some tables.u8
+toldForm U16 = some tables.u16
+toldForm U32 = some tables.u32
+toldForm Number = some tables.number
+toldForm Text = some tables.text
+toldForm Bytes = some tables.bytes
+toldForm Pair = some tables.pair
+toldForm NotHere = none

@@ -1,0 +1,27 @@
+-- A number as a quality of service, and what the answer tells. Assumes nothing.
+use mathlib.Core.List.{[], _∷_}
+use Prim.Native.Nat.{ℕ}
+use lib.Dec.{ltb}
+use Rattle.reading.specs.Refusal.{nr}
+use Rattle.reading.specs.Reader.{Fit, got, bad, _>>_, guard}
+use Rattle.records.specs.Told.{toldError}
+use Rattle.records.specs.declared.qos.QoS.{QoS}
+use Rattle.records.specs.declared.qos.QoS.the-variants.{AtMostOnce, AtLeastOnce, ExactlyOnce}
+use Rattle.wire.specs.declared.qos.GotQos.{GotQos}
+use Rattle.wire.specs.declared.qos.GotQos.the-variants.{Value, Refused}
+
+-- the number of a quality of service, as the crate gives it
+abbrev pub toldQoS : QoS → ℕ
+toldQoS AtMostOnce = 0
+toldQoS AtLeastOnce = 1
+toldQoS ExactlyOnce = 2
+
+abbrev pub toldGotQos : GotQos → Fit ℕ
+toldGotQos (Value q) = got (toldQoS q)
+toldGotQos (Refused e) = bad (toldError e)
+
+-- the crate: 0, 1 and 2 are; 01, row 11, for any other number
+abbrev pub qosOf : ℕ → Fit ℕ
+qosOf n = do
+  guard (ltb n 3) (nr 11 (n ∷ []))
+  got n

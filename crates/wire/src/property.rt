@@ -1,0 +1,71 @@
+// Which form a property's value has at a place: `property` of v5/mod.rs, with the rows of 01's table in place of the reads'
+// own matches.
+ghost use mathlib.Core.Path.{_≡_};
+ghost use Rattle.grammar.specs.Choice.{lookup};
+ghost use Rattle.grammar.specs.Tables.{publishPlace, subscribePlace, ackPlace};
+ghost use Rattle.wire.specs.Property.{toldForm, placeOf};
+
+// Where a block stands.
+pub enum PropertyPlace {
+    Publish,
+    Subscribe,
+    PubAck,
+}
+
+// The form of a property's value, or that the place has no such property.
+pub enum PropertyForm {
+    U8,
+    U16,
+    U32,
+    Number,
+    Text,
+    Bytes,
+    Pair,
+    NotHere,
+}
+
+pub fn publish_property(num: u8) -> PropertyForm
+    ensures { λ r. ⌜ toldForm r ≡ lookup publishPlace num ⌝ }
+{
+    match num {
+        1 => PropertyForm::U8,
+        2 => PropertyForm::U32,
+        35 => PropertyForm::U16,
+        8 => PropertyForm::Text,
+        9 => PropertyForm::Bytes,
+        38 => PropertyForm::Pair,
+        11 => PropertyForm::Number,
+        3 => PropertyForm::Text,
+        0 | 4..=7 | 10 | 12..=34 | 36..=37 | 39..=255 => PropertyForm::NotHere,
+    }
+}
+
+pub fn subscribe_property(num: u8) -> PropertyForm
+    ensures { λ r. ⌜ toldForm r ≡ lookup subscribePlace num ⌝ }
+{
+    match num {
+        11 => PropertyForm::Number,
+        38 => PropertyForm::Pair,
+        0..=10 | 12..=37 | 39..=255 => PropertyForm::NotHere,
+    }
+}
+
+pub fn puback_property(num: u8) -> PropertyForm
+    ensures { λ r. ⌜ toldForm r ≡ lookup ackPlace num ⌝ }
+{
+    match num {
+        31 => PropertyForm::Text,
+        38 => PropertyForm::Pair,
+        0..=30 | 32..=37 | 39..=255 => PropertyForm::NotHere,
+    }
+}
+
+pub fn property(place: PropertyPlace, num: u8) -> PropertyForm
+    ensures { λ r. ⌜ toldForm r ≡ lookup (placeOf place) num ⌝ }
+{
+    match place {
+        PropertyPlace::Publish => publish_property(num),
+        PropertyPlace::Subscribe => subscribe_property(num),
+        PropertyPlace::PubAck => puback_property(num),
+    }
+}

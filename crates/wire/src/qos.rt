@@ -1,0 +1,21 @@
+// A number as a quality of service: `qos` of mqttbytes/mod.rs, with the refusal that its callers give.
+use records::error::Error;
+use records::qos::QoS;
+ghost use mathlib.Core.Path.{_≡_};
+ghost use Rattle.wire.specs.Qos.{toldGotQos, qosOf};
+
+pub enum GotQos {
+    Value(QoS),
+    Refused(Error),
+}
+
+pub fn qos(num: u8) -> GotQos
+    ensures { λ r. ⌜ toldGotQos r ≡ qosOf num ⌝ }
+{
+    match num {
+        0 => GotQos::Value(QoS::AtMostOnce),
+        1 => GotQos::Value(QoS::AtLeastOnce),
+        2 => GotQos::Value(QoS::ExactlyOnce),
+        _ => GotQos::Refused(Error::InvalidQoS(num)),
+    }
+}
