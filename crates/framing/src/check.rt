@@ -1,0 +1,69 @@
+// Whether a stream starts with a whole frame, after `parse_fixed_header` and `check` of v5/mod.rs: refusals 1, 2 and 3 in 01's order.
+use crate::header::FixedHeader;
+use records::answer::Limit;
+use records::error::Error;
+use wire::length;
+use wire::length::GotLength;
+ghost use mathlib.Core.Path.{_≡_};
+ghost use mathlib.Core.Bool.{true};
+ghost use mathlib.Core.Option.{Option};
+ghost use Prim.Native.Nat.{ℕ};
+ghost use lib.ListN as list;
+ghost use Rattle.reading.specs.Refusal.{within};
+ghost use Rattle.reading.specs.Read.{frameOf};
+ghost use Rattle.positions.specs.Position.{fromAt};
+ghost use Rattle.framing.specs.Told.{limitOf, headerOf, toldHeader, toldChecked};
+
+pub enum Checked {
+    Header(FixedHeader),
+    Refused(Error),
+}
+
+// The first byte and R, whether or not R bytes follow.
+pub fn parse_fixed_header(stream: &[u8]) -> Checked
+    ensures { λ r. ⌜ toldHeader r ≡ fromAt headerOf (now (stream .entry)) 0 ⌝ }
+{
+    if stream.len() < 1 {
+        return Checked::Refused(Error::InsufficientBytes(2));
+    }
+    let byte1 = stream[0];
+    match length::length(stream, 1) {
+        GotLength::Number(n, next) => Checked::Header(FixedHeader {
+            byte1,
+            fixed_header_len: next,
+            remaining_len: n as usize,
+        }),
+        GotLength::Cut => Checked::Refused(Error::InsufficientBytes(1)),
+        GotLength::Long => Checked::Refused(Error::MalformedRemainingLength),
+    }
+}
+
+// The header, if R bytes follow it.
+fn complete(stream: &[u8], h: FixedHeader) -> Checked
+    requires { ⌜ toldHeader (Checked.Header h) ≡ fromAt headerOf (now stream) 0 ⌝ }
+    ensures { λ r. ⌜ ((m : Option ℕ) → within m (h .«remaining_len») ≡ true → toldChecked (now (stream .entry)) r ≡ fromAt (frameOf m (list.length (now (stream .entry)))) (now (stream .entry)) 0) ⌝ }
+{
+    let held = stream.len() - h.fixed_header_len;
+    if held < h.remaining_len {
+        return Checked::Refused(Error::InsufficientBytes(h.remaining_len - held));
+    }
+    Checked::Header(h)
+}
+
+// The header, if the limit lets R pass and R bytes follow.
+pub fn check(stream: &[u8], limit: Limit) -> Checked
+    ensures { λ r. ⌜ toldChecked (now (stream .entry)) r ≡ fromAt (frameOf (limitOf limit) (list.length (now (stream .entry)))) (now (stream .entry)) 0 ⌝ }
+{
+    match parse_fixed_header(stream) {
+        Checked::Refused(e) => Checked::Refused(e),
+        Checked::Header(h) => match limit {
+            Limit::Unlimited => complete(stream, h),
+            Limit::AtMost(most) => {
+                if most < h.remaining_len {
+                    return Checked::Refused(Error::PayloadSizeLimitExceeded(h.remaining_len, most));
+                }
+                complete(stream, h)
+            }
+        },
+    }
+}
