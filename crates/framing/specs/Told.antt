@@ -3,13 +3,15 @@ use mathlib.Core.Bool.{Bool, true, false}
 use mathlib.Core.Option.{Option, none, some}
 use mathlib.Core.List.{List, [], _∷_}
 use Prim.Native.Nat.{ℕ, _+_}
+use lib.ListN.{length}
 use Rattle.grammar.specs.Choice.{isIn, lookup}
 use Rattle.grammar.specs.Tables.{reasons, Layout, aPublish, anAck, aSubscribe, aPing, kinds, reserved}
 use Rattle.grammar.specs.Record.{kindOf}
 use Rattle.reading.specs.Refusal.{nr}
 use Rattle.reading.specs.Reader.{Fit, got, bad, Reader, thenOf}
-use Rattle.reading.specs.Read.{byteOf, numOf}
+use Rattle.reading.specs.Read.{byteOf, numOf, frameOf}
 use Rattle.reading.specs.Place.{partOf}
+use Rattle.positions.specs.Position.{fromAt}
 use Rattle.records.specs.Told.{toldError}
 use Rattle.records.specs.declared.answer.Limit.{Limit}
 use Rattle.records.specs.declared.answer.Limit.the-variants.{Unlimited, AtMost}
@@ -49,6 +51,10 @@ headerOf = thenOf (byteOf (nr 1 (2 ∷ []))) (λ _. numOf (nr 1 (1 ∷ [])) 4)
 abbrev pub toldHeader : Checked → Fit ((ℕ × ℕ) × ℕ)
 toldHeader (Header h) = got ((h .byte1, h .«remaining_len»), h .«fixed_header_len»)
 toldHeader (Refused e) = bad (toldError e)
+
+-- a frame at the start of the stream s
+abbrev pub frameAt : Option ℕ → List ℕ → Fit ((ℕ × List ℕ) × ℕ)
+frameAt limit s = fromAt (frameOf limit (length s)) s 0
 
 -- of the stream s: the first byte and the R bytes of the frame, and the index after them
 abbrev pub toldChecked : List ℕ → Checked → Fit ((ℕ × List ℕ) × ℕ)

@@ -5,14 +5,8 @@ use records::error::Error;
 use wire::length;
 use wire::length::GotLength;
 ghost use mathlib.Core.Path.{_≡_};
-ghost use mathlib.Core.Bool.{true};
-ghost use mathlib.Core.Option.{Option};
-ghost use Prim.Native.Nat.{ℕ};
-ghost use lib.ListN as list;
-ghost use Rattle.reading.specs.Refusal.{within};
-ghost use Rattle.reading.specs.Read.{frameOf};
 ghost use Rattle.positions.specs.Position.{fromAt};
-ghost use Rattle.framing.specs.Told.{limitOf, headerOf, toldHeader, toldChecked};
+ghost use Rattle.framing.specs.Told.{limitOf, headerOf, toldHeader, frameAt, toldChecked};
 
 pub enum Checked {
     Header(FixedHeader),
@@ -38,32 +32,24 @@ pub fn parse_fixed_header(stream: &[u8]) -> Checked
     }
 }
 
-// The header, if R bytes follow it.
-fn complete(stream: &[u8], h: FixedHeader) -> Checked
-    requires { ⌜ toldHeader (Checked.Header h) ≡ fromAt headerOf (now stream) 0 ⌝ }
-    ensures { λ r. ⌜ ((m : Option ℕ) → within m (h .«remaining_len») ≡ true → toldChecked (now (stream .entry)) r ≡ fromAt (frameOf m (list.length (now (stream .entry)))) (now (stream .entry)) 0) ⌝ }
-{
-    let held = stream.len() - h.fixed_header_len;
-    if held < h.remaining_len {
-        return Checked::Refused(Error::InsufficientBytes(h.remaining_len - held));
-    }
-    Checked::Header(h)
-}
-
 // The header, if the limit lets R pass and R bytes follow.
 pub fn check(stream: &[u8], limit: Limit) -> Checked
-    ensures { λ r. ⌜ toldChecked (now (stream .entry)) r ≡ fromAt (frameOf (limitOf limit) (list.length (now (stream .entry)))) (now (stream .entry)) 0 ⌝ }
+    ensures { λ r. ⌜ toldChecked (now (stream .entry)) r ≡ frameAt (limitOf limit) (now (stream .entry)) ⌝ }
 {
     match parse_fixed_header(stream) {
         Checked::Refused(e) => Checked::Refused(e),
-        Checked::Header(h) => match limit {
-            Limit::Unlimited => complete(stream, h),
-            Limit::AtMost(most) => {
-                if most < h.remaining_len {
-                    return Checked::Refused(Error::PayloadSizeLimitExceeded(h.remaining_len, most));
+        Checked::Header(h) => {
+            let rest = h.remaining_len;
+            let held = stream.len() - h.fixed_header_len;
+            if let Limit::AtMost(most) = limit {
+                if most < rest {
+                    return Checked::Refused(Error::PayloadSizeLimitExceeded(rest, most));
                 }
-                complete(stream, h)
             }
-        },
+            if held < rest {
+                return Checked::Refused(Error::InsufficientBytes(rest - held));
+            }
+            Checked::Header(h)
+        }
     }
 }

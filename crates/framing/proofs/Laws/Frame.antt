@@ -19,7 +19,9 @@ use Rattle.reading.proofs.Demand.{reads-length, reads-frame}
 use Rattle.positions.specs.Position.{fromAt}
 use Rattle.positions.proofs.At.{part-slice}
 use Rattle.positions.proofs.Position.{Trails, reads-trails, got-left, got-within, bad-left, left-at, left-bad}
-use Rattle.framing.specs.Told.{headerOf}
+use Rattle.framing.specs.Told.{limitOf, headerOf, frameAt}
+use Rattle.records.specs.declared.answer.Limit.{Limit}
+use Rattle.records.specs.declared.answer.Limit.the-variants.{Unlimited, AtMost}
 
 -- ---- the header
 
@@ -70,15 +72,23 @@ frame-framed limit end (x ∷ t) = go (numOf (nr 1 (1 ∷ [])) 4 t)
     go (got z) = refl
     go (bad k) = refl
 
+-- what the limit lets pass
+pub at-most : {limit : Limit} {m l : ℕ} → limit ≡ AtMost m → l ≤ m → within (limitOf limit) l ≡ true
+unfolding within
+at-most {m = m} {l = l} e h = rw e (leb-yes l m h)
+
+pub unlimited : {limit : Limit} (l : ℕ) → limit ≡ Unlimited → within (limitOf limit) l ≡ true
+unfolding within
+unlimited l e = rw e
+
 header-trails : Trails headerOf
 header-trails = reads-trails (reads-then (reads-byte (nr 1 (2 ∷ []))) (λ _. reads-num (nr 1 (1 ∷ [])) 4))
 
-module _ (limit : Option ℕ) (s : List ℕ) where
-  -- what a frame is, at the start of the stream
-  abbrev pub frameAt : Fit ((ℕ × List ℕ) × ℕ)
-  frameAt = fromAt (frameOf limit (length s)) s 0
+pub header-within : (s : List ℕ) (x l m : ℕ) → got ((x, l), m) ≡ fromAt headerOf s 0 → m ≤ length s
+header-within s x l m e = got-within headerOf s 0 header-trails (x, l) m (sym e)
 
-  pub frame-refused : (k : Refusal) → bad k ≡ fromAt headerOf s 0 → bad k ≡ frameAt
+module _ (limit : Option ℕ) (s : List ℕ) where
+  pub frame-refused : (k : Refusal) → bad k ≡ fromAt headerOf s 0 → bad k ≡ frameAt limit s
   frame-refused k e = sym (left-bad (frameOf limit (length s)) s 0 k (frame-framed limit (length s) s ∙ rw (bad-left headerOf s 0 k (sym e))))
 
   -- R = l is read, and the bytes after it start at m
@@ -86,24 +96,21 @@ module _ (limit : Option ℕ) (s : List ℕ) where
     header-left : headerOf s ≡ got ((x, l), drop m s)
     header-left = got-left headerOf s 0 header-trails (x, l) m (sym e)
 
-    pub header-within : m ≤ length s
-    header-within = got-within headerOf s 0 header-trails (x, l) m (sym e)
-
-    pub frame-over : within limit l ≡ false → bad (over limit l) ≡ frameAt
+    pub frame-over : within limit l ≡ false → bad (over limit l) ≡ frameAt limit s
     frame-over w = sym (left-bad (frameOf limit (length s)) s 0 (over limit l) (frame-framed limit (length s) s ∙ rw (header-left, w)))
 
     module _ (w : within limit l ≡ true) where
-      pub frame-lacking : length s - m < l → bad (nr 1 ((l - (length s - m)) ∷ [])) ≡ frameAt
+      pub frame-lacking : length s - m < l → bad (nr 1 ((l - (length s - m)) ∷ [])) ≡ frameAt limit s
       frame-lacking h =
           let b : leb l (length (drop m s)) ≡ false = leb-no l (length (drop m s)) (rw length-drop h) in
           sym (left-bad (frameOf limit (length s)) s 0 (nr 1 ((l - (length s - m)) ∷ [])) (frame-framed limit (length s) s ∙ rw (header-left, w, b, length-drop m s)))
 
-      pub frame-whole : l ≤ length s - m → got ((x, take l (drop m s)), m + l) ≡ frameAt
+      pub frame-whole : l ≤ length s - m → got ((x, take l (drop m s)), m + l) ≡ frameAt limit s
       frame-whole h =
           let b : leb l (length (drop m s)) ≡ true = leb-yes l (length (drop m s)) (rw length-drop h) in
           sym (left-at (frameOf limit (length s)) s 0 (x, take l (drop m s)) (m + l)
           (frame-framed limit (length s) s ∙ rw (header-left, w, b, drop-drop l m s))
-          (omega (arith, header-within)))
+          (omega (arith, header-within s x l m e)))
 
   -- ---- the readers of fields go on from a checked frame
 
@@ -111,11 +118,11 @@ module _ (limit : Option ℕ) (s : List ℕ) where
   frame-trails = reads-trails (reads-frame limit (reads-length limit) (length s))
 
   module _ (h : Shape) where
-    pub checked-refused : (k : ℕ) (vs : List ℕ) → bad (nr k vs) ≡ frameAt → readAs h limit s ≡ refused k vs 0
+    pub checked-refused : (k : ℕ) (vs : List ℕ) → bad (nr k vs) ≡ frameAt limit s → readAs h limit s ≡ refused k vs 0
     unfolding readAs frameAnswer
     checked-refused k vs e = rw (bad-left (frameOf limit (length s)) s 0 (nr k vs) (sym e))
 
-    module _ (x l m : ℕ) (e : got ((x, take l (drop m s)), m + l) ≡ frameAt) where
+    module _ (x l m : ℕ) (e : got ((x, take l (drop m s)), m + l) ≡ frameAt limit s) where
       pub checked-within : m + l ≤ length s
       checked-within = got-within (frameOf limit (length s)) s 0 frame-trails (x, take l (drop m s)) (m + l) (sym e)
 
