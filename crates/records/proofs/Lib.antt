@@ -1,0 +1,4 @@
+pub mod Laws
+pub mod Told
+pub mod Said
+pub mod Answered
