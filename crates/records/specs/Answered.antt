@@ -1,12 +1,15 @@
--- What each answer tells: of a read, a size, a write, and an item. Assumes nothing.
+-- What each answer tells: of a read, a size, a write, an item, and a reason. Assumes nothing.
+use mathlib.Core.List.{[], _∷_}
 use Prim.Native.Nat.{ℕ}
+use Rattle.grammar.specs.Choice.{isIn}
+use Rattle.grammar.specs.Tables.{reasons}
 use Rattle.grammar.specs.Record.{Val, num, duo}
 use Rattle.grammar.specs.Record as record-of
 use Rattle.reading.specs.Refusal.{Refusal, nr, Answer, accepted, refused}
-use Rattle.reading.specs.Reader.{Fit, got, bad}
+use Rattle.reading.specs.Reader.{Fit, got, bad, _>>_, guard}
 use Rattle.reading.specs.Place.{Placed, noItem}
 use Rattle.reading.specs.Place as place
-use Rattle.records.specs.Told.{toldError, toldSpan}
+use Rattle.records.specs.Told.{toldError, toldReason, toldSpan}
 use Rattle.records.specs.Said.{toldPacket, toldFilter}
 use Rattle.records.specs.declared.answer.Read.{Read}
 use Rattle.records.specs.declared.answer.Sized.{Sized}
@@ -14,6 +17,7 @@ use Rattle.records.specs.declared.answer.Written.{Written}
 use Rattle.records.specs.declared.answer.UserItem.{UserItem}
 use Rattle.records.specs.declared.answer.IdentifierItem.{IdentifierItem}
 use Rattle.records.specs.declared.answer.FilterItem.{FilterItem}
+use Rattle.records.specs.declared.puback.GotReason.{GotReason}
 
 -- 01, "When the desk says no": a refusal, and the count in its column Taken
 abbrev pub withTaken : {A : Type 0} → Refusal → ℕ → Answer A
@@ -48,3 +52,12 @@ toldIdentifier IdentifierItem.NoItem = bad noItem
 abbrev pub toldFilterItem : FilterItem → Fit (record-of.Filter place.Span)
 toldFilterItem (FilterItem.Filter f) = got (toldFilter f)
 toldFilterItem FilterItem.NoItem = bad noItem
+
+-- 01, row 15: "not one of the nine"
+abbrev pub toldGotReason : GotReason → Fit ℕ
+toldGotReason (GotReason.Value a) = got (toldReason a)
+toldGotReason (GotReason.Refused e) = bad (toldError e)
+
+-- 01, row 15, of the number k
+abbrev pub reasonOf : ℕ → Fit ℕ
+reasonOf k = guard (isIn k reasons) (nr 15 (k ∷ [])) >> got k

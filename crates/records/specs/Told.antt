@@ -10,6 +10,7 @@ use Rattle.records.specs.declared.answer.Limit.{Limit}
 use Rattle.records.specs.declared.error.Error.{Error}
 use Rattle.records.specs.declared.puback.PubAckReason.{PubAckReason}
 use Rattle.records.specs.declared.qos.QoS.{QoS}
+use Rattle.records.specs.declared.shown.Values.{Values}
 use Rattle.records.specs.declared.span.Span.{Span}
 use Rattle.records.specs.declared.span.MaybeU8.{MaybeU8}
 use Rattle.records.specs.declared.span.MaybeU16.{MaybeU16}
@@ -42,6 +43,20 @@ toldError (Error.StringTooLong n) = nr 18 (n ∷ [])
 toldError (Error.NoRoom n) = nr 19 (n ∷ [])
 toldError Error.ListMismatch = nr 20 []
 toldError Error.NoItem = nr 21 []
+
+-- 01, "When the desk says no": the column No.
+abbrev pub rowOf : Refusal → ℕ
+rowOf (nr k vs) = k
+
+-- 01, "When the desk says no": the values beside the name
+abbrev pub valuesOf : Refusal → List ℕ
+valuesOf (nr k vs) = vs
+
+-- 01, "When the desk says no": none, one or two values
+abbrev pub toldValues : Values → List ℕ
+toldValues Values.None = []
+toldValues (Values.One n) = n ∷ []
+toldValues (Values.Two m n) = m ∷ n ∷ []
 
 -- 01, rows 3 and 16: the limit, if there is one; 0 is a limit
 abbrev pub limitOf : Limit → Option ℕ

@@ -1,4 +1,9 @@
-// The refusals of 01, in its order; `Error` of mqttbytes/mod.rs where the crate has the case.
+// The refusals of 01, in its order, with what a program prints of them; `Error` of mqttbytes/mod.rs where the crate has the case.
+ghost use mathlib.Core.Path.{_≡_};
+ghost use Rattle.records.specs.Told.{toldError, rowOf, valuesOf, toldValues};
+ghost use Rattle.records.specs.Names.{nameOf, padded};
+use crate::shown::Name;
+use crate::shown::Values;
 
 pub enum Error {
     // 1: how many bytes are lacking at least
@@ -43,4 +48,154 @@ pub enum Error {
     ListMismatch,
     // 21: no block or run at the place, or n is past its last item
     NoItem,
+}
+
+// The number of the row.
+pub fn number(e: Error) -> u8
+    ensures { λ r. ⌜ r ≡ rowOf (toldError e) ⌝ }
+{
+    match e {
+        Error::InsufficientBytes(_) => 1,
+        Error::MalformedRemainingLength => 2,
+        Error::PayloadSizeLimitExceeded(_, _) => 3,
+        Error::InvalidPacketType(_) => 4,
+        Error::PayloadRequired => 5,
+        Error::KindNotCarried(_) => 6,
+        Error::MalformedPacket => 7,
+        Error::BoundaryCrossed(_) => 8,
+        Error::TopicNotUtf8 => 9,
+        Error::InvalidPropertyType(_) => 10,
+        Error::InvalidQoS(_) => 11,
+        Error::PacketIdZero => 12,
+        Error::EmptySubscription => 13,
+        Error::InvalidRetainForwardRule(_) => 14,
+        Error::InvalidReason(_) => 15,
+        Error::OutgoingPacketTooLarge(_, _) => 16,
+        Error::PayloadTooLong => 17,
+        Error::StringTooLong(_) => 18,
+        Error::NoRoom(_) => 19,
+        Error::ListMismatch => 20,
+        Error::NoItem => 21,
+    }
+}
+
+// The values of the row.
+pub fn values(e: Error) -> Values
+    ensures { λ r. ⌜ toldValues r ≡ valuesOf (toldError e) ⌝ }
+{
+    match e {
+        Error::InsufficientBytes(n) => Values::One(n),
+        Error::MalformedRemainingLength => Values::None,
+        Error::PayloadSizeLimitExceeded(m, n) => Values::Two(m, n),
+        Error::InvalidPacketType(n) => Values::One(n as usize),
+        Error::PayloadRequired => Values::None,
+        Error::KindNotCarried(n) => Values::One(n as usize),
+        Error::MalformedPacket => Values::None,
+        Error::BoundaryCrossed(n) => Values::One(n),
+        Error::TopicNotUtf8 => Values::None,
+        Error::InvalidPropertyType(n) => Values::One(n as usize),
+        Error::InvalidQoS(n) => Values::One(n as usize),
+        Error::PacketIdZero => Values::None,
+        Error::EmptySubscription => Values::None,
+        Error::InvalidRetainForwardRule(n) => Values::One(n as usize),
+        Error::InvalidReason(n) => Values::One(n as usize),
+        Error::OutgoingPacketTooLarge(m, n) => Values::Two(m, n),
+        Error::PayloadTooLong => Values::None,
+        Error::StringTooLong(n) => Values::One(n),
+        Error::NoRoom(n) => Values::One(n),
+        Error::ListMismatch => Values::None,
+        Error::NoItem => Values::None,
+    }
+}
+
+// The name of the case.
+pub fn name(e: Error) -> Name
+    ensures { λ r. ⌜ r ≡ padded (nameOf e) ⌝ }
+{
+    match e {
+        Error::InsufficientBytes(_) => Name {
+            bytes: *b"InsufficientBytes\0\0\0\0\0\0\0",
+            len: 17,
+        },
+        Error::MalformedRemainingLength => Name {
+            bytes: *b"MalformedRemainingLength",
+            len: 24,
+        },
+        Error::PayloadSizeLimitExceeded(_, _) => Name {
+            bytes: *b"PayloadSizeLimitExceeded",
+            len: 24,
+        },
+        Error::InvalidPacketType(_) => Name {
+            bytes: *b"InvalidPacketType\0\0\0\0\0\0\0",
+            len: 17,
+        },
+        Error::PayloadRequired => Name {
+            bytes: *b"PayloadRequired\0\0\0\0\0\0\0\0\0",
+            len: 15,
+        },
+        Error::KindNotCarried(_) => Name {
+            bytes: *b"KindNotCarried\0\0\0\0\0\0\0\0\0\0",
+            len: 14,
+        },
+        Error::MalformedPacket => Name {
+            bytes: *b"MalformedPacket\0\0\0\0\0\0\0\0\0",
+            len: 15,
+        },
+        Error::BoundaryCrossed(_) => Name {
+            bytes: *b"BoundaryCrossed\0\0\0\0\0\0\0\0\0",
+            len: 15,
+        },
+        Error::TopicNotUtf8 => Name {
+            bytes: *b"TopicNotUtf8\0\0\0\0\0\0\0\0\0\0\0\0",
+            len: 12,
+        },
+        Error::InvalidPropertyType(_) => Name {
+            bytes: *b"InvalidPropertyType\0\0\0\0\0",
+            len: 19,
+        },
+        Error::InvalidQoS(_) => Name {
+            bytes: *b"InvalidQoS\0\0\0\0\0\0\0\0\0\0\0\0\0\0",
+            len: 10,
+        },
+        Error::PacketIdZero => Name {
+            bytes: *b"PacketIdZero\0\0\0\0\0\0\0\0\0\0\0\0",
+            len: 12,
+        },
+        Error::EmptySubscription => Name {
+            bytes: *b"EmptySubscription\0\0\0\0\0\0\0",
+            len: 17,
+        },
+        Error::InvalidRetainForwardRule(_) => Name {
+            bytes: *b"InvalidRetainForwardRule",
+            len: 24,
+        },
+        Error::InvalidReason(_) => Name {
+            bytes: *b"InvalidReason\0\0\0\0\0\0\0\0\0\0\0",
+            len: 13,
+        },
+        Error::OutgoingPacketTooLarge(_, _) => Name {
+            bytes: *b"OutgoingPacketTooLarge\0\0",
+            len: 22,
+        },
+        Error::PayloadTooLong => Name {
+            bytes: *b"PayloadTooLong\0\0\0\0\0\0\0\0\0\0",
+            len: 14,
+        },
+        Error::StringTooLong(_) => Name {
+            bytes: *b"StringTooLong\0\0\0\0\0\0\0\0\0\0\0",
+            len: 13,
+        },
+        Error::NoRoom(_) => Name {
+            bytes: *b"NoRoom\0\0\0\0\0\0\0\0\0\0\0\0\0\0\0\0\0\0",
+            len: 6,
+        },
+        Error::ListMismatch => Name {
+            bytes: *b"ListMismatch\0\0\0\0\0\0\0\0\0\0\0\0",
+            len: 12,
+        },
+        Error::NoItem => Name {
+            bytes: *b"NoItem\0\0\0\0\0\0\0\0\0\0\0\0\0\0\0\0\0\0",
+            len: 6,
+        },
+    }
 }
