@@ -8,15 +8,16 @@ use Rattle.reading.specs.Reader.{Fit, got, bad}
 use Rattle.reading.specs.Place.{Placed}
 use Rattle.reading.specs.Place as place
 use Rattle.records.specs.Told.{toldError, toldSpan}
-use Rattle.records.specs.Answered.{withTaken, told, toldSized, toldWritten, toldUser, toldIdentifier, toldFilterItem}
+use Rattle.records.specs.Answered.{withTaken, told, toldSized, toldWritten, toldUser, toldIdentifier, toldFilterItem, toldGotReason}
 use Rattle.records.specs.declared.answer.Read.{Read}
 use Rattle.records.specs.declared.answer.Sized.{Sized}
 use Rattle.records.specs.declared.answer.Written.{Written}
 use Rattle.records.specs.declared.answer.UserItem.{UserItem}
 use Rattle.records.specs.declared.answer.IdentifierItem.{IdentifierItem}
 use Rattle.records.specs.declared.answer.FilterItem.{FilterItem}
+use Rattle.records.specs.declared.puback.GotReason.{GotReason}
 use Rattle.records.proofs.Laws.{injective-by}
-use Rattle.records.proofs.Told.{backError, backSpan, back-error, back-span}
+use Rattle.records.proofs.Told.{backError, backReason, backSpan, back-error, back-reason, back-span}
 use Rattle.records.proofs.Said.{backPacket, backFilter, back-packet, back-filter}
 
 -- ---- reading
@@ -95,6 +96,17 @@ unfolding backFilterItem
 back-filter-item (FilterItem.Filter f) = ap FilterItem.Filter (back-filter f)
 back-filter-item FilterItem.NoItem = refl
 
+-- ---- reasons
+
+pub backGotReason : Fit ℕ → GotReason
+backGotReason (got n) = GotReason.Value (backReason n)
+backGotReason (bad k) = GotReason.Refused (backError k)
+
+pub back-got-reason : (r : GotReason) → backGotReason (toldGotReason r) ≡ r
+unfolding backGotReason
+back-got-reason (GotReason.Value a) = ap GotReason.Value (back-reason a)
+back-got-reason (GotReason.Refused e) = ap GotReason.Refused (back-error e)
+
 -- ---- one answer only
 
 pub read-injective : {a b : Read} → told a ≡ told b → a ≡ b
@@ -114,3 +126,6 @@ identifier-injective = injective-by toldIdentifier backIdentifier back-identifie
 
 pub filter-item-injective : {a b : FilterItem} → toldFilterItem a ≡ toldFilterItem b → a ≡ b
 filter-item-injective = injective-by toldFilterItem backFilterItem back-filter-item
+
+pub got-reason-injective : {a b : GotReason} → toldGotReason a ≡ toldGotReason b → a ≡ b
+got-reason-injective = injective-by toldGotReason backGotReason back-got-reason

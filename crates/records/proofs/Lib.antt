@@ -2,3 +2,4 @@ pub mod Laws
 pub mod Told
 pub mod Said
 pub mod Answered
+pub mod Names

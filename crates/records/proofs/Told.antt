@@ -9,11 +9,12 @@ use Rattle.grammar.specs.Choice.{lookup}
 use Rattle.grammar.specs.Record.{Val, num, str, duo}
 use Rattle.reading.specs.Refusal.{Refusal, nr}
 use Rattle.reading.specs.Place as place
-use Rattle.records.specs.Told.{toldError, limitOf, toldBool, toldQoS, toldReason, toldRule, toldSpan, toldU8, toldU16, toldU32, toldString}
+use Rattle.records.specs.Told.{toldError, toldValues, limitOf, toldBool, toldQoS, toldReason, toldRule, toldSpan, toldU8, toldU16, toldU32, toldString}
 use Rattle.records.specs.declared.answer.Limit.{Limit}
 use Rattle.records.specs.declared.error.Error.{Error}
 use Rattle.records.specs.declared.puback.PubAckReason.{PubAckReason}
 use Rattle.records.specs.declared.qos.QoS.{QoS}
+use Rattle.records.specs.declared.shown.Values.{Values}
 use Rattle.records.specs.declared.span.Span.{Span}
 use Rattle.records.specs.declared.span.MaybeU8.{MaybeU8}
 use Rattle.records.specs.declared.span.MaybeU16.{MaybeU16}
@@ -81,6 +82,17 @@ back-error (Error.StringTooLong n) = refl
 back-error (Error.NoRoom n) = refl
 back-error Error.ListMismatch = refl
 back-error Error.NoItem = refl
+
+pub backValues : List ℕ → Values
+backValues [] = Values.None
+backValues (m ∷ []) = Values.One m
+backValues (m ∷ n ∷ l) = Values.Two m n
+
+pub back-values : (v : Values) → backValues (toldValues v) ≡ v
+unfolding backValues
+back-values Values.None = refl
+back-values (Values.One n) = refl
+back-values (Values.Two m n) = refl
 
 pub backLimit : Option ℕ → Limit
 backLimit none = Limit.Unlimited
@@ -213,6 +225,9 @@ back-string (MaybeSpan.Present p) = refl
 
 pub error-injective : {a b : Error} → toldError a ≡ toldError b → a ≡ b
 error-injective = injective-by toldError backError back-error
+
+pub values-injective : {a b : Values} → toldValues a ≡ toldValues b → a ≡ b
+values-injective = injective-by toldValues backValues back-values
 
 pub limit-injective : {a b : Limit} → limitOf a ≡ limitOf b → a ≡ b
 limit-injective = injective-by limitOf backLimit back-limit

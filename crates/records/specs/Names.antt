@@ -1,40 +1,47 @@
 -- The name of each refusal, as ASCII bytes. Assumes nothing.
-use mathlib.Core.List.{List, _++_, [] as nil, _∷_ as _then_}
+use mathlib.Core.List.{List, [], _∷_, _++_}
 use Prim.Native.Nat.{ℕ, _-_}
 use Prim.Native.Char.{code}
-use Prim.Native.String.{String, [], _∷_}
-use lib.ListN.{length, replicate}
+use Prim.Native.String.{String, [] as empty, _∷_ as _then_}
+use lib.ListN.{length, getD, replicate}
+use Rattle.records.specs.Told.{toldError, rowOf}
 use Rattle.records.specs.declared.error.Error.{Error}
 use Rattle.records.specs.declared.shown.Name.{Name}
 
+-- 01, "When the desk says no": the column Refusal, in the order of the column No., which begins at 1
+unfoldable pub names : List String
+names =
+    "InsufficientBytes" ∷
+    "MalformedRemainingLength" ∷
+    "PayloadSizeLimitExceeded" ∷
+    "InvalidPacketType" ∷
+    "PayloadRequired" ∷
+    "KindNotCarried" ∷
+    "MalformedPacket" ∷
+    "BoundaryCrossed" ∷
+    "TopicNotUtf8" ∷
+    "InvalidPropertyType" ∷
+    "InvalidQoS" ∷
+    "PacketIdZero" ∷
+    "EmptySubscription" ∷
+    "InvalidRetainForwardRule" ∷
+    "InvalidReason" ∷
+    "OutgoingPacketTooLarge" ∷
+    "PayloadTooLong" ∷
+    "StringTooLong" ∷
+    "NoRoom" ∷
+    "ListMismatch" ∷
+    "NoItem" ∷
+    []
+
 -- the codes of a text's characters
 abbrev pub codesOf : String → List ℕ
-codesOf [] = nil
-codesOf (c ∷ s) = code c then codesOf s
+codesOf empty = []
+codesOf (c then s) = code c ∷ codesOf s
 
--- 01, "When the desk says no": the column Refusal
+-- 01, "When the desk says no": the name in the refusal's row
 abbrev pub nameOf : Error → List ℕ
-nameOf (Error.InsufficientBytes n) = codesOf "InsufficientBytes"
-nameOf Error.MalformedRemainingLength = codesOf "MalformedRemainingLength"
-nameOf (Error.PayloadSizeLimitExceeded m n) = codesOf "PayloadSizeLimitExceeded"
-nameOf (Error.InvalidPacketType n) = codesOf "InvalidPacketType"
-nameOf Error.PayloadRequired = codesOf "PayloadRequired"
-nameOf (Error.KindNotCarried n) = codesOf "KindNotCarried"
-nameOf Error.MalformedPacket = codesOf "MalformedPacket"
-nameOf (Error.BoundaryCrossed n) = codesOf "BoundaryCrossed"
-nameOf Error.TopicNotUtf8 = codesOf "TopicNotUtf8"
-nameOf (Error.InvalidPropertyType n) = codesOf "InvalidPropertyType"
-nameOf (Error.InvalidQoS n) = codesOf "InvalidQoS"
-nameOf Error.PacketIdZero = codesOf "PacketIdZero"
-nameOf Error.EmptySubscription = codesOf "EmptySubscription"
-nameOf (Error.InvalidRetainForwardRule n) = codesOf "InvalidRetainForwardRule"
-nameOf (Error.InvalidReason n) = codesOf "InvalidReason"
-nameOf (Error.OutgoingPacketTooLarge m n) = codesOf "OutgoingPacketTooLarge"
-nameOf Error.PayloadTooLong = codesOf "PayloadTooLong"
-nameOf (Error.StringTooLong n) = codesOf "StringTooLong"
-nameOf (Error.NoRoom n) = codesOf "NoRoom"
-nameOf Error.ListMismatch = codesOf "ListMismatch"
-nameOf Error.NoItem = codesOf "NoItem"
+nameOf e = codesOf (getD names (rowOf (toldError e) - 1) "")
 
 -- a name and its length, with 0 in what is left of the 24 bytes
 abbrev pub padded : List ℕ → Name

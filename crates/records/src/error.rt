@@ -108,94 +108,64 @@ pub fn values(e: Error) -> Values
     }
 }
 
+// The names of the cases in their order, and 0 in the bytes that are left.
+const NAMES: [[u8; 24]; 21] = [
+    *b"InsufficientBytes\0\0\0\0\0\0\0",
+    *b"MalformedRemainingLength",
+    *b"PayloadSizeLimitExceeded",
+    *b"InvalidPacketType\0\0\0\0\0\0\0",
+    *b"PayloadRequired\0\0\0\0\0\0\0\0\0",
+    *b"KindNotCarried\0\0\0\0\0\0\0\0\0\0",
+    *b"MalformedPacket\0\0\0\0\0\0\0\0\0",
+    *b"BoundaryCrossed\0\0\0\0\0\0\0\0\0",
+    *b"TopicNotUtf8\0\0\0\0\0\0\0\0\0\0\0\0",
+    *b"InvalidPropertyType\0\0\0\0\0",
+    *b"InvalidQoS\0\0\0\0\0\0\0\0\0\0\0\0\0\0",
+    *b"PacketIdZero\0\0\0\0\0\0\0\0\0\0\0\0",
+    *b"EmptySubscription\0\0\0\0\0\0\0",
+    *b"InvalidRetainForwardRule",
+    *b"InvalidReason\0\0\0\0\0\0\0\0\0\0\0",
+    *b"OutgoingPacketTooLarge\0\0",
+    *b"PayloadTooLong\0\0\0\0\0\0\0\0\0\0",
+    *b"StringTooLong\0\0\0\0\0\0\0\0\0\0\0",
+    *b"NoRoom\0\0\0\0\0\0\0\0\0\0\0\0\0\0\0\0\0\0",
+    *b"ListMismatch\0\0\0\0\0\0\0\0\0\0\0\0",
+    *b"NoItem\0\0\0\0\0\0\0\0\0\0\0\0\0\0\0\0\0\0",
+];
+
+// The lengths of the names.
+const LENGTHS: [usize; 21] = [
+    17,
+    24,
+    24,
+    17,
+    15,
+    14,
+    15,
+    15,
+    12,
+    19,
+    10,
+    12,
+    17,
+    24,
+    13,
+    22,
+    14,
+    13,
+    6,
+    12,
+    6,
+];
+
 // The name of the case.
 pub fn name(e: Error) -> Name
     ensures { λ r. ⌜ r ≡ padded (nameOf e) ⌝ }
 {
-    match e {
-        Error::InsufficientBytes(_) => Name {
-            bytes: *b"InsufficientBytes\0\0\0\0\0\0\0",
-            len: 17,
-        },
-        Error::MalformedRemainingLength => Name {
-            bytes: *b"MalformedRemainingLength",
-            len: 24,
-        },
-        Error::PayloadSizeLimitExceeded(_, _) => Name {
-            bytes: *b"PayloadSizeLimitExceeded",
-            len: 24,
-        },
-        Error::InvalidPacketType(_) => Name {
-            bytes: *b"InvalidPacketType\0\0\0\0\0\0\0",
-            len: 17,
-        },
-        Error::PayloadRequired => Name {
-            bytes: *b"PayloadRequired\0\0\0\0\0\0\0\0\0",
-            len: 15,
-        },
-        Error::KindNotCarried(_) => Name {
-            bytes: *b"KindNotCarried\0\0\0\0\0\0\0\0\0\0",
-            len: 14,
-        },
-        Error::MalformedPacket => Name {
-            bytes: *b"MalformedPacket\0\0\0\0\0\0\0\0\0",
-            len: 15,
-        },
-        Error::BoundaryCrossed(_) => Name {
-            bytes: *b"BoundaryCrossed\0\0\0\0\0\0\0\0\0",
-            len: 15,
-        },
-        Error::TopicNotUtf8 => Name {
-            bytes: *b"TopicNotUtf8\0\0\0\0\0\0\0\0\0\0\0\0",
-            len: 12,
-        },
-        Error::InvalidPropertyType(_) => Name {
-            bytes: *b"InvalidPropertyType\0\0\0\0\0",
-            len: 19,
-        },
-        Error::InvalidQoS(_) => Name {
-            bytes: *b"InvalidQoS\0\0\0\0\0\0\0\0\0\0\0\0\0\0",
-            len: 10,
-        },
-        Error::PacketIdZero => Name {
-            bytes: *b"PacketIdZero\0\0\0\0\0\0\0\0\0\0\0\0",
-            len: 12,
-        },
-        Error::EmptySubscription => Name {
-            bytes: *b"EmptySubscription\0\0\0\0\0\0\0",
-            len: 17,
-        },
-        Error::InvalidRetainForwardRule(_) => Name {
-            bytes: *b"InvalidRetainForwardRule",
-            len: 24,
-        },
-        Error::InvalidReason(_) => Name {
-            bytes: *b"InvalidReason\0\0\0\0\0\0\0\0\0\0\0",
-            len: 13,
-        },
-        Error::OutgoingPacketTooLarge(_, _) => Name {
-            bytes: *b"OutgoingPacketTooLarge\0\0",
-            len: 22,
-        },
-        Error::PayloadTooLong => Name {
-            bytes: *b"PayloadTooLong\0\0\0\0\0\0\0\0\0\0",
-            len: 14,
-        },
-        Error::StringTooLong(_) => Name {
-            bytes: *b"StringTooLong\0\0\0\0\0\0\0\0\0\0\0",
-            len: 13,
-        },
-        Error::NoRoom(_) => Name {
-            bytes: *b"NoRoom\0\0\0\0\0\0\0\0\0\0\0\0\0\0\0\0\0\0",
-            len: 6,
-        },
-        Error::ListMismatch => Name {
-            bytes: *b"ListMismatch\0\0\0\0\0\0\0\0\0\0\0\0",
-            len: 12,
-        },
-        Error::NoItem => Name {
-            bytes: *b"NoItem\0\0\0\0\0\0\0\0\0\0\0\0\0\0\0\0\0\0",
-            len: 6,
-        },
+    let i = number(e) as usize - 1;
+    let bytes = NAMES[i];
+    Name {
+        bytes,
+        len: LENGTHS[i],
     }
 }

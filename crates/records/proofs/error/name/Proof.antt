@@ -1,51 +1,46 @@
--- Each case has its own arm, which gives the name that `nameOf` has for it.
+-- The row is a place in both tables, and they are the names' bytes and lengths.
+use Prim.Native.Nat.{_≤_, _<_, _-_}
+use native.Mathlib.Omega.{arith}
 use borrow.Author.Needs.{needs}
+use Rattle.records.specs.Names.{names}
+use Rattle.records.proofs.Names.{has-row, named}
 use Rattle.records.proofs.error.name.Statement.{statement}
 use Rattle.records.proofs.error.name.Tie as tie
+
+number-requires : tie.Need-number-requires
+number-requires c κs = search needs
+
+cast-i : tie.Need-cast-i
+cast-i c = search needs
+
+sub-i : tie.Need-sub-i
+sub-i c = omega (arith, has-row (c .before .args .e) .low, c .number .ensures)
+
+mul-bytes : tie.Need-mul-bytes
+mul-bytes c = search needs
+
+array-copy-out-bytes : tie.Need-array-copy-out-bytes
+array-copy-out-bytes c = rw (c .number .ensures) (has-row (c .before .args .e) .high)
+
+mul-t5 : tie.Need-mul-t5
+mul-t5 c = search needs
+
+array-read-t34 : tie.Need-array-read-t34
+array-read-t34 c = rw (c .before .number .ensures) (has-row (c .before .before .args .e) .high)
+
+returns : tie.Need-returns
+unfolding names
+returns c = rw (c .before .number .ensures) (named _ (c .before .before .args .e))
 
 pub name-spec : {M : Type 1} → statement M
 name-spec =
     tie.close
     (tie.spec
-    (λ c. search needs)
-    (λ c. search needs)
-    (λ c. search needs)
-    (λ c. search needs)
-    (λ c. search needs)
-    (λ c. search needs)
-    (λ c. search needs)
-    (λ c. search needs)
-    (λ c. search needs)
-    (λ c. search needs)
-    (λ c. search needs)
-    (λ c. search needs)
-    (λ c. search needs)
-    (λ c. search needs)
-    (λ c. search needs)
-    (λ c. search needs)
-    (λ c. search needs)
-    (λ c. search needs)
-    (λ c. search needs)
-    (λ c. search needs)
-    (λ c. search needs)
-    (λ c. rw (c .before .before .enum-told .given .1))
-    (λ c. rw (c .before .before .enum-told2 .given .1))
-    (λ c. rw (c .before .before .enum-told3 .given .1))
-    (λ c. rw (c .before .before .enum-told4 .given .1))
-    (λ c. rw (c .before .before .enum-told5 .given .1))
-    (λ c. rw (c .before .before .enum-told6 .given .1))
-    (λ c. rw (c .before .before .enum-told7 .given .1))
-    (λ c. rw (c .before .before .enum-told8 .given .1))
-    (λ c. rw (c .before .before .enum-told9 .given .1))
-    (λ c. rw (c .before .before .enum-told10 .given .1))
-    (λ c. rw (c .before .before .enum-told11 .given .1))
-    (λ c. rw (c .before .before .enum-told12 .given .1))
-    (λ c. rw (c .before .before .enum-told13 .given .1))
-    (λ c. rw (c .before .before .enum-told14 .given .1))
-    (λ c. rw (c .before .before .enum-told15 .given .1))
-    (λ c. rw (c .before .before .enum-told16 .given .1))
-    (λ c. rw (c .before .before .enum-told17 .given .1))
-    (λ c. rw (c .before .before .enum-told18 .given .1))
-    (λ c. rw (c .before .before .enum-told19 .given .1))
-    (λ c. rw (c .before .before .enum-told20 .given .1))
-    (λ c. rw (c .before .before .enum-told21 .given .1)))
+    number-requires
+    cast-i
+    sub-i
+    mul-bytes
+    array-copy-out-bytes
+    mul-t5
+    array-read-t34
+    returns)
