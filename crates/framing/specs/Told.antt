@@ -13,17 +13,10 @@ use Rattle.reading.specs.Read.{byteOf, numOf, frameOf}
 use Rattle.reading.specs.Place.{partOf}
 use Rattle.positions.specs.Position.{fromAt}
 use Rattle.records.specs.Told.{toldError}
-use Rattle.records.specs.declared.answer.Limit.{Limit}
-use Rattle.records.specs.declared.answer.Limit.the-variants.{Unlimited, AtMost}
 use Rattle.framing.specs.declared.check.Checked.{Checked}
 use Rattle.framing.specs.declared.check.Checked.the-variants.{Header, Refused}
 use Rattle.framing.specs.declared.header.Kind.{Kind}
 use Rattle.framing.specs.declared.header.Kind.the-variants as kind
-
--- 01, row 3: "the limit"
-abbrev pub limitOf : Limit → Option ℕ
-limitOf Unlimited = none
-limitOf (AtMost n) = some n
 
 -- ---- kinds
 

@@ -6,7 +6,8 @@ use wire::length;
 use wire::length::GotLength;
 ghost use mathlib.Core.Path.{_≡_};
 ghost use Rattle.positions.specs.Position.{fromAt};
-ghost use Rattle.framing.specs.Told.{limitOf, headerOf, toldHeader, frameAt, toldChecked};
+ghost use Rattle.records.specs.Told.{limitOf};
+ghost use Rattle.framing.specs.Told.{headerOf, toldHeader, frameAt, toldChecked};
 
 pub enum Checked {
     Header(FixedHeader),

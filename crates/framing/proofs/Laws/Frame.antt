@@ -18,8 +18,10 @@ use Rattle.reading.proofs.Fields.{reads-byte, reads-num}
 use Rattle.reading.proofs.Demand.{reads-length, reads-frame}
 use Rattle.positions.specs.Position.{fromAt}
 use Rattle.positions.proofs.At.{part-slice}
-use Rattle.positions.proofs.Position.{Trails, reads-trails, got-left, got-within, bad-left, left-at, left-bad}
-use Rattle.framing.specs.Told.{limitOf, headerOf, frameAt}
+use Rattle.positions.proofs.Trails.{Trails, trails-reads}
+use Rattle.positions.proofs.Position.{got-left, got-within, bad-left, left-at, left-bad}
+use Rattle.records.specs.Told.{limitOf}
+use Rattle.framing.specs.Told.{headerOf, frameAt}
 use Rattle.records.specs.declared.answer.Limit.{Limit}
 use Rattle.records.specs.declared.answer.Limit.the-variants.{Unlimited, AtMost}
 
@@ -82,7 +84,7 @@ unfolding within
 unlimited l e = rw e
 
 header-trails : Trails headerOf
-header-trails = reads-trails (reads-then (reads-byte (nr 1 (2 ∷ []))) (λ _. reads-num (nr 1 (1 ∷ [])) 4))
+header-trails = trails-reads (reads-then (reads-byte (nr 1 (2 ∷ []))) (λ _. reads-num (nr 1 (1 ∷ [])) 4))
 
 pub header-within : (s : List ℕ) (x l m : ℕ) → got ((x, l), m) ≡ fromAt headerOf s 0 → m ≤ length s
 header-within s x l m e = got-within headerOf s 0 header-trails (x, l) m (sym e)
@@ -115,7 +117,7 @@ module _ (limit : Option ℕ) (s : List ℕ) where
   -- ---- the readers of fields go on from a checked frame
 
   frame-trails : Trails (frameOf limit (length s))
-  frame-trails = reads-trails (reads-frame limit (reads-length limit) (length s))
+  frame-trails = trails-reads (reads-frame limit (reads-length limit) (length s))
 
   module _ (h : Shape) where
     pub checked-refused : (k : ℕ) (vs : List ℕ) → bad (nr k vs) ≡ frameAt limit s → readAs h limit s ≡ refused k vs 0
