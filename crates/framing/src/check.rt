@@ -48,7 +48,8 @@ pub fn check(stream: &[u8], limit: Limit) -> Checked
                 }
             }
             if held < rest {
-                return Checked::Refused(Error::InsufficientBytes(rest - held));
+                let lacks = rest - held;
+                return Checked::Refused(Error::InsufficientBytes(lacks));
             }
             Checked::Header(h)
         }

@@ -1,14 +1,14 @@
 -- A frame is its header, then the limit, then whether its bytes are there; and what a reader of the frame's fields goes on from.
 -- Assumes nothing.
 use mathlib.Core.Path.{_≡_, refl, sym, ap, _∙_}
-use mathlib.Core.Bool.{Bool, true, false}
+use mathlib.Core.Bool.{true, false}
 use mathlib.Core.Option.{Option}
 use mathlib.Core.List.{List, [], _∷_}
 use Prim.Native.Nat.{ℕ, _+_, _-_, _≤_, _<_}
 use native.Mathlib.Omega.{arith}
 use lib.Dec.{leb}
 use lib.ListN.{length, take, drop, getD, length-drop}
-use lib.Seq.{drop-drop}
+use lib.Seq.{drop-drop, length-take-le}
 use Rattle.reading.specs.Refusal.{Refusal, nr, lacking, within, over, refused}
 use Rattle.reading.specs.Reader.{Fit, got, bad, _>>=_, _>>_, guard, onlyOf, thenOf, sizedOf, isFit}
 use Rattle.reading.specs.Read.{byteOf, numOf, Shape, frameOf, wholeAnswer, frameAnswer, readAs}
@@ -119,18 +119,30 @@ module _ (limit : Option ℕ) (s : List ℕ) where
   frame-trails : Trails (frameOf limit (length s))
   frame-trails = trails-reads (reads-frame limit (reads-length limit) (length s))
 
-  module _ (h : Shape) where
-    pub checked-refused : (k : ℕ) (vs : List ℕ) → bad (nr k vs) ≡ frameAt limit s → readAs h limit s ≡ refused k vs 0
+  module _ (x l m : ℕ) (e : got ((x, take l (drop m s)), m + l) ≡ frameAt limit s) where
+    pub checked-within : m + l ≤ length s
+    checked-within = got-within (frameOf limit (length s)) s 0 frame-trails (x, take l (drop m s)) (m + l) (sym e)
+
+    pub checked-read : (h : Shape) → readAs h limit s ≡ wholeAnswer h (m + l) (x, drop m (take (m + l) s))
     unfolding readAs frameAnswer
-    checked-refused k vs e = rw (bad-left (frameOf limit (length s)) s 0 (nr k vs) (sym e))
+    checked-read h =
+        let o : m + l ≤ length s = checked-within in
+        let n : length s - length (drop (m + l) s) ≡ m + l = rw length-drop (omega arith) in
+        rw (got-left (frameOf limit (length s)) s 0 frame-trails (x, take l (drop m s)) (m + l) (sym e), n, part-slice s l m o)
 
-    module _ (x l m : ℕ) (e : got ((x, take l (drop m s)), m + l) ≡ frameAt limit s) where
-      pub checked-within : m + l ≤ length s
-      checked-within = got-within (frameOf limit (length s)) s 0 frame-trails (x, take l (drop m s)) (m + l) (sym e)
+    -- R is how many bytes are told
+    checked-length : length (take l (drop m s)) ≡ l
+    checked-length = length-take-le l (drop m s) (rw length-drop (omega (arith, checked-within)))
 
-      pub checked-read : readAs h limit s ≡ wholeAnswer h (m + l) (x, drop m (take (m + l) s))
-      unfolding readAs frameAnswer
-      checked-read =
-          let o : m + l ≤ length s = checked-within in
-          let n : length s - length (drop (m + l) s) ≡ m + l = rw length-drop (omega arith) in
-          rw (got-left (frameOf limit (length s)) s 0 frame-trails (x, take l (drop m s)) (m + l) (sym e), n, part-slice s l m o)
+  -- a stream has one header only
+  pub checked-same : (x l m x′ l′ m′ : ℕ) → got ((x, take l (drop m s)), m + l) ≡ frameAt limit s → got ((x′, take l′ (drop m′ s)), m′ + l′) ≡ frameAt limit s
+      → (x ≡ x′) × (l ≡ l′) × (m ≡ m′)
+  checked-same x l m x′ l′ m′ e e′ =
+      let j : _≡_ {A = (ℕ × List ℕ) × ℕ} ((x, take l (drop m s)), m + l) ((x′, take l′ (drop m′ s)), m′ + l′) = cc in
+      let n : m + l ≡ m′ + l′ = ap (λ z. z .1) j in
+      let i : l ≡ l′ = sym (checked-length x l m e) ∙ ap (λ z. length (z .0 .1)) j ∙ checked-length x′ l′ m′ e′ in
+      (ap (λ z. z .0 .0) j, i, omega arith)
+
+  pub checked-refused : (h : Shape) (k : ℕ) (vs : List ℕ) → bad (nr k vs) ≡ frameAt limit s → readAs h limit s ≡ refused k vs 0
+  unfolding readAs frameAnswer
+  checked-refused h k vs e = rw (bad-left (frameOf limit (length s)) s 0 (nr k vs) (sym e))

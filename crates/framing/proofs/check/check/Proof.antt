@@ -28,22 +28,30 @@ returns : tie.Need-returns
 unfolding within over
 returns c =
     let most : ℕ = c .before .before .limit .given .0 .0 in
-    rw (c .before .before .limit .given .1) (frame-over (some most) _ _ _ _ (rw (c .before .before .before .before .before .before .h .given .1) at (c .before .before .before .before .before .before .before .before .parse-fixed-header .ensures)) (leb-no _ most (c .if1 .taken)))
+    rw (c .before .before .limit .given .1)
+    (frame-over (some most) _ _ _ _ (rw (c .before .before .before .before .before .before .h .given .1) at (c .before .before .before .before .before .before .before .before .parse-fixed-header .ensures))
+    (leb-no _ most (c .if1 .taken)))
 
 enum-told : tie.Need-enum-told
 enum-told c = search needs
 
-sub-t14 : tie.Need-sub-t14
-sub-t14 c = search needs
+sub-lacks : tie.Need-sub-lacks
+sub-lacks c = search needs
 
 returns-2 : tie.Need-returns-2
-returns-2 c = frame-lacking _ _ _ _ _ (rw (c .before .before .before .before .h .given .1) at (c .before .before .before .before .before .before .parse-fixed-header .ensures)) (⊎-elim (λ w. at-most (w .1 .given .1) (w .3 .left)) (λ w. unlimited _ (w .1 .given .1)) (c .before .match2 .came)) (c .if2 .taken)
+returns-2 c =
+    frame-lacking _ _ _ _ _ (rw (c .before .before .before .before .h .given .1) at (c .before .before .before .before .before .before .parse-fixed-header .ensures))
+    (⊎-elim (λ w. at-most (w .1 .given .1) (w .3 .left)) (λ w. unlimited _ (w .1 .given .1)) (c .before .match2 .came))
+    (c .if2 .taken)
 
 returns-3 : tie.Need-returns-3
 returns-3 c = frame-refused _ _ _ (rw (c .before .e .given .1) at (c .before .before .before .parse-fixed-header .ensures))
 
 returns-4 : tie.Need-returns-4
-returns-4 c = frame-whole _ _ _ _ _ (rw (c .before .before .before .before .h .given .1) at (c .before .before .before .before .before .before .parse-fixed-header .ensures)) (⊎-elim (λ w. at-most (w .1 .given .1) (w .3 .left)) (λ w. unlimited _ (w .1 .given .1)) (c .before .match2 .came)) (c .if2 .left)
+returns-4 c =
+    frame-whole _ _ _ _ _ (rw (c .before .before .before .before .h .given .1) at (c .before .before .before .before .before .before .parse-fixed-header .ensures))
+    (⊎-elim (λ w. at-most (w .1 .given .1) (w .3 .left)) (λ w. unlimited _ (w .1 .given .1)) (c .before .match2 .came))
+    (c .if2 .left)
 
 pub check-spec : {M : Type 1} → statement M
 check-spec =
@@ -56,7 +64,7 @@ check-spec =
     enum-known-limit
     returns
     enum-told
-    sub-t14
+    sub-lacks
     returns-2
     returns-3
     returns-4)
