@@ -2,8 +2,8 @@
 -- Assumes nothing.
 use mathlib.Core.Path.{_≡_, refl, sym, ap, _∙_}
 use mathlib.Core.Bool.{Bool, true, false}
-use mathlib.Core.List.{List, [], _∷_, _++_}
-use Prim.Native.Nat.{ℕ, zero, suc, _+_, _-_, _/_, _%_, _≤_, _<_, min}
+use mathlib.Core.List.{List, [], _∷_}
+use Prim.Native.Nat.{ℕ, suc, _+_, _-_, _/_, _%_, _≤_, _<_, min}
 use native.Mathlib.Omega.{arith}
 use native.Mathlib.Numerals.{add-one}
 use lib.Dec.{leb}
@@ -16,7 +16,6 @@ use Rattle.reading.specs.Read.{bigOf, isText, anyBytes, stringFit, bytesOf, tex
 use Rattle.reading.specs.Place.{Span, partOf, heldOf, asPlaces}
 use Rattle.reading.proofs.Reading.{from-got, bad-got}
 use Rattle.reading.proofs.Fields.{reads-big}
-use Rattle.reading.proofs.Refusing.{got-bad}
 use Rattle.positions.specs.Position.{fromAt}
 use Rattle.positions.proofs.At.{sized-bad, sized-crossed, sized-at, span-at}
 use Rattle.positions.proofs.Trails.{trails-reads}

@@ -15,8 +15,8 @@ use borrow.Author.Tests.{le-leb, lt-leb}
 use Rattle.grammar.specs.Choice.{pick}
 use Rattle.grammar.specs.Gram.{forget}
 use Rattle.grammar.specs.Text.{Range, inRange, Row, rows, rowAt, cons}
-use Rattle.reading.specs.Refusal.{Refusal, nr}
-use Rattle.reading.specs.Reader.{Fit, got, bad, _>>=_, noneOf, neverOf, mapOf, onlyOf, thenOf, thenFit, chainFit, manyFit, isGot}
+use Rattle.reading.specs.Refusal.{nr}
+use Rattle.reading.specs.Reader.{Fit, got, bad, _>>=_, noneOf, neverOf, mapOf, onlyOf, thenOf, thenFit, manyFit, isGot}
 use Rattle.reading.specs.Read.{byteOf, followOf, restOf, charOf, isText}
 use Rattle.reading.proofs.Reading.{less, solid-map, solid-then}
 use Rattle.reading.proofs.Fields.{byte-solid, reads-char}

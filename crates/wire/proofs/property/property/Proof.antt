@@ -1,5 +1,4 @@
 -- `wire::property::property` meets its contract: each place hands over to the function of its row. Assumes nothing.
-use mathlib.Core.Path.{ap, sym, _∙_}
 use borrow.Author.Needs.{needs}
 use Rattle.wire.proofs.property.property.Statement.{statement}
 use Rattle.wire.proofs.property.property.Tie as tie

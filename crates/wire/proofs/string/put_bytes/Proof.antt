@@ -3,7 +3,6 @@
 use Prim.Native.Nat.{_≤_, _-_}
 use native.Mathlib.Omega.{arith}
 use borrow.Author.Needs.{needs}
-use denote.Ref.{now}
 use Rattle.wire.proofs.Laws.Strings.{Putting, putting-start, putting-next, putting-end}
 use Rattle.wire.proofs.string.put_bytes.Statement.{statement}
 use Rattle.wire.proofs.string.put_bytes.Tie as tie

@@ -1,12 +1,11 @@
 -- `wire::string::read_mqtt_bytes` meets its contract: the length is what `read_u16` read, and the bytes behind it are there or not.
 -- Assumes nothing.
-use mathlib.Core.Path.{_≡_, refl, ap, sym, _∙_}
+use mathlib.Core.Path.{refl, ap, sym, _∙_}
 use native.Mathlib.Omega.{arith}
 use borrow.Author.Needs.{needs}
 use denote.Ref.{now}
 use Rattle.reading.specs.Refusal.{cut}
 use Rattle.reading.specs.Read.{anyBytes, bytesOf}
-use Rattle.records.specs.Told.{toldError}
 use Rattle.wire.specs.Told.{toldU16}
 use Rattle.wire.proofs.Laws.Strings.{size-within, string-bad, string-crossed, string-fine}
 use Rattle.wire.proofs.string.read_mqtt_bytes.Statement.{statement}

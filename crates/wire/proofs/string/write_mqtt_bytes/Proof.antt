@@ -1,5 +1,4 @@
 -- `wire::string::write_mqtt_bytes` meets its contract: the length and the bytes behind it are one run of stores. Assumes nothing.
-use native.Mathlib.Omega.{arith}
 use borrow.Author.Needs.{needs}
 use denote.Ref.{now}
 use Rattle.writing.specs.Spell.{string}

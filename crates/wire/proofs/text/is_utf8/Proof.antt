@@ -1,5 +1,5 @@
 -- `wire::text::is_utf8` meets its contract. The loop's invariant: the text goes on at `i`; nothing is left at the end. Assumes nothing.
-use mathlib.Core.Path.{sym, _∙_}
+use mathlib.Core.Path.{sym}
 use Prim.Native.Nat.{_-_}
 use native.Mathlib.Omega.{arith}
 use lib.ListN.{length}
