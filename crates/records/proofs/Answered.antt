@@ -7,7 +7,7 @@ use Rattle.reading.specs.Refusal.{Refusal, nr, Answer, accepted, refused}
 use Rattle.reading.specs.Reader.{Fit, got, bad}
 use Rattle.reading.specs.Place.{Placed}
 use Rattle.reading.specs.Place as place
-use Rattle.records.specs.Told.{toldError, toldSpan}
+use Rattle.records.specs.Told.{toldError}
 use Rattle.records.specs.Answered.{withTaken, told, toldSized, toldWritten, toldUser, toldIdentifier, toldFilterItem, toldGotReason}
 use Rattle.records.specs.declared.answer.Read.{Read}
 use Rattle.records.specs.declared.answer.Sized.{Sized}

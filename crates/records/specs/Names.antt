@@ -34,7 +34,7 @@ names =
     "NoItem" ∷
     []
 
--- the codes of a text's characters
+-- a name is spelled in ASCII: the codes of its characters
 abbrev pub codesOf : String → List ℕ
 codesOf empty = []
 codesOf (c then s) = code c ∷ codesOf s

@@ -1,5 +1,4 @@
--- The row is a place in both tables, and they are the names' bytes and lengths.
-use Prim.Native.Nat.{_≤_, _<_, _-_}
+-- The row is a place in both tables, and they are the bytes and the lengths of the names.
 use native.Mathlib.Omega.{arith}
 use borrow.Author.Needs.{needs}
 use Rattle.records.specs.Names.{names}
@@ -14,7 +13,7 @@ cast-i : tie.Need-cast-i
 cast-i c = search needs
 
 sub-i : tie.Need-sub-i
-sub-i c = omega (arith, has-row (c .before .args .e) .low, c .number .ensures)
+sub-i c = omega (arith, has-row (c .before .args .e) .low)
 
 mul-bytes : tie.Need-mul-bytes
 mul-bytes c = search needs

@@ -1,20 +1,12 @@
--- A number in an arm of its own is that reason's; one that is left over differs from each of the nine.
-use mathlib.Core.Path.{_≡_}
-use mathlib.Core.Bool.{false}
-use Prim.Native.Nat.{ℕ}
+-- A number in an arm of its own is that reason's; one that is left over differs from each of the nine, and 0x98 is a gap of one.
 use borrow.Author.Tests.{ne-eqb}
-use Rattle.grammar.specs.Choice.{isIn}
 use Rattle.grammar.specs.Tables.{reasons}
 use Rattle.records.proofs.puback.reason.Statement.{statement}
 use Rattle.records.proofs.puback.reason.Tie as tie
 
-returns-10 : tie.Need-returns-10
+left-over : tie.Need-returns-11
 unfolding reasons
-returns-10 c = rw (c .match .keys10)
-
-returns-11 : tie.Need-returns-11
-unfolding reasons
-returns-11 c =
+left-over c =
     simp (
       ne-eqb _ 0x00 (c .match .rest .0 .0 .0 .0 .0 .0 .0 .0 .0 .1),
       ne-eqb _ 0x10 (c .match .rest .0 .0 .0 .0 .0 .0 .0 .0 .1),
@@ -41,5 +33,5 @@ reason-spec =
     (λ c. rw (c .match .keys7))
     (λ c. rw (c .match .keys8))
     (λ c. rw (c .match .keys9))
-    returns-10
-    returns-11)
+    (λ c. rw (c .match .keys10))
+    left-over)
