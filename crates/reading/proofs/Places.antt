@@ -8,7 +8,7 @@ use mathlib.Core.List.{List, [], _∷_, _++_, map, append-assoc}
 use Prim.Native.Nat.{ℕ, _+_, _-_, _≤_}
 use native.Mathlib.Omega.{arith}
 use lib.Dec.{eqb, leb, leb→le}
-use lib.ListN.{length, take, drop, length-append}
+use lib.ListN.{length, length-append}
 use Rattle.grammar.specs.Choice.{pick, or, isIn, lookup, isEmpty}
 use Rattle.grammar.specs.Gram.{Gram, Only, both, sized, Many, is}
 use Rattle.grammar.specs.Number.{byte}

@@ -1,5 +1,5 @@
 -- What is proved of the reader's definition, on one page: demand 3, each refusal, the places. Each proof is cited. Assumes nothing.
-use mathlib.Core.Path.{_≡_, refl, sym, ap, _∙_}
+use mathlib.Core.Path.{_≡_, refl, sym, _∙_}
 use mathlib.Core.Option.{Option, none, some}
 use mathlib.Core.Logic.{_↔_}
 use mathlib.Core.List.{List, [], _∷_, _++_}
@@ -7,10 +7,10 @@ use Prim.Native.Nat.{ℕ}
 use lib.ListN.{length}
 use Rattle.grammar.specs.Number.{Spells}
 use Rattle.grammar.specs.Sentence.{Packet, Frame, Sentence, ShortSentence}
-use Rattle.reading.specs.Refusal.{nr, Answer, accepted, refused}
+use Rattle.reading.specs.Refusal.{Answer, accepted, refused}
 use Rattle.reading.specs.Fault.{Verdict}
 use Rattle.reading.specs.Reader.{got}
-use Rattle.reading.specs.Read.{Shape, asBytes, readAs, readOf}
+use Rattle.reading.specs.Read.{Shape, readAs, readOf}
 use Rattle.reading.specs.Place.{Placed, readPlacedOf, sayAnswer, Items}
 use Rattle.reading.specs.Rows.{lacks}
 use Rattle.reading.proofs.Demand.{Begins, reads-sentence, reads-short}
