@@ -1,16 +1,18 @@
--- The frames on the bench: one list, one statement. Assumes nothing.
+-- The frames on the bench (01), more of them, and places and items: lists, and one statement. Assumes nothing.
 use mathlib.Core.Path.{_≡_, refl}
 use mathlib.Core.Option.{Option, none, some}
-use mathlib.Core.List.{List, [], _∷_, map}
+use mathlib.Core.List.{List, [], _∷_, _++_, map}
 use Prim.Native.Nat.{ℕ}
 use Rattle.grammar.specs.Text.{rows}
 use Rattle.grammar.specs.Tables.{publishPlace, subscribePlace, ackPlace, reasons, kinds}
-use Rattle.grammar.specs.Record.{Val, num, str, lastOf, allOf, PublishProps, publishProps, subscribeProps, ackProps, publish, ack, subscribe, ping}
+use Rattle.grammar.specs.Record.{Val, num, str, duo, lastOf, allOf, PublishProps, publishProps, subscribeProps, AckProps, ackProps, publish, ack, subscribe, ping}
 use Rattle.grammar.specs.Sentence.{Packet}
-use Rattle.reading.specs.Refusal.{within, over, Answer, accepted, refused}
-use Rattle.reading.specs.Reader.{noneOf, neverOf, mapOf, onlyOf, thenOf, sizedOf, isFit, mapFit, handFit, onlyFit, thenFit, exactFit, runFit, chainFit}
-use Rattle.reading.specs.Read.{bigOf, byteOf, groupOf, numOf, identOf, followOf, restOf, charOf, isText, frameOf, bodyAnswer, stringFit, bytesOf, textOf, valueOf, valueAt, propertyOf, propertiesFit, blockOf, ackRestFit, filterOf, filtersFit, messageFit, fieldsFit, layoutFit, bodyFit, wholeAnswer, frameAnswer, readAs, readOf}
+use Rattle.reading.specs.Refusal.{nr, Answer, accepted, refused, within, over}
+use Rattle.reading.specs.Reader.{Fit, got, bad, noneOf, neverOf, mapOf, onlyOf, thenOf, sizedOf, isFit, mapFit, handFit, onlyFit, thenFit, exactFit, runFit, chainFit}
+use Rattle.reading.specs.Read.{bigOf, byteOf, groupOf, numOf, identOf, followOf, restOf, charOf, isText, frameOf, bodyAnswer, stringFit, bytesOf, textOf, valueOf, valueAt, propertyOf, propertiesFit, blockOf, ackBlockFit, ackRestFit, filterOf, filtersFit, messageFit, fieldsFit, layoutFit, bodyFit, wholeAnswer, frameAnswer, readAs, readOf}
+use Rattle.reading.specs.Place.{Span, asPlaces, Placed, readPlacedOf, again, valuesAt, userAt, subscriptionAt, filterAt}
 
+-- a limit, a stream, and the answer
 pub record Case : Type 0 where
   pub limit : Option ℕ
   pub sent : List ℕ
@@ -19,21 +21,15 @@ pub record Case : Type 0 where
 abbrev case : Option ℕ → List ℕ → Answer Packet → Case
 case l s a = record { limit = l; sent = s; answer = a }
 
-abbrev message : List ℕ → ℕ → Option (PublishProps (List ℕ) List) → List ℕ → Packet
-message t i ps p = publish (record { dup = 0; qos = 0; retain = 0; topic = t; ident = i; props = ps; payload = p })
+-- a Publish of QoS 0
+abbrev message : List ℕ → Option (PublishProps (List ℕ) List) → List ℕ → Packet
+message t ps p = publish (record { dup = 0; qos = 0; retain = 0; topic = t; ident = 0; props = ps; payload = p })
 
-abbrev acked : ℕ → ℕ → Packet
-acked i r = ack 4 (record { ident = i; reason = r; props = none })
+-- a PubAck with identifier 10
+abbrev acked : ℕ → Option (AckProps (List ℕ) List) → Packet
+acked r ps = ack 4 (record { ident = 10; reason = r; props = ps })
 
-abbrev ids : List (Val (List ℕ)) → Option (PublishProps (List ℕ) List)
-ids vs = some (record { format = none; expiry = none; alias = none; response = none; correlation = none; user = []; subscriptions = vs; content = none })
-
-abbrev one-filter : Packet
-one-filter = subscribe (record { ident = 1; props = none; filters = record { path = 0x61 ∷ []; qos = 1; noLocal = 0; preserve = 0; rule = 0 } ∷ [] })
-
-abbrev ab : List ℕ
-ab = 0x30 ∷ 0x08 ∷ 0x00 ∷ 0x03 ∷ 0x61 ∷ 0x2F ∷ 0x62 ∷ 0x00 ∷ 0x68 ∷ 0x69 ∷ []
-
+-- 01, "Frames on the bench", row by row
 abbrev pub bench : List Case
 bench =
     case none [] (refused 1 (2 ∷ []) 0)
@@ -43,28 +39,129 @@ bench =
     ∷ case none (0xF0 ∷ 0x00 ∷ []) (refused 4 (15 ∷ []) 2)
     ∷ case none (0x30 ∷ 0x00 ∷ []) (refused 5 [] 2)
     ∷ case none (0xC0 ∷ 0x00 ∷ []) (accepted (ping 12) 2)
-    ∷ case none ab (accepted (message (0x61 ∷ 0x2F ∷ 0x62 ∷ []) 0 none (0x68 ∷ 0x69 ∷ [])) 10)
-    ∷ case (some 7) ab (refused 3 (8 ∷ 7 ∷ []) 0)
-    ∷ case (some 8) ab (accepted (message (0x61 ∷ 0x2F ∷ 0x62 ∷ []) 0 none (0x68 ∷ 0x69 ∷ [])) 10)
+    ∷ case none (0x30 ∷ 0x08 ∷ 0x00 ∷ 0x03 ∷ 0x61 ∷ 0x2F ∷ 0x62 ∷ 0x00 ∷ 0x68 ∷ 0x69 ∷ []) (accepted (message (0x61 ∷ 0x2F ∷ 0x62 ∷ []) none (0x68 ∷ 0x69 ∷ [])) 10)
+    ∷ case (some 7) (0x30 ∷ 0x08 ∷ 0x00 ∷ 0x03 ∷ 0x61 ∷ 0x2F ∷ 0x62 ∷ 0x00 ∷ 0x68 ∷ 0x69 ∷ []) (refused 3 (8 ∷ 7 ∷ []) 0)
+    ∷ case (some 8) (0x30 ∷ 0x08 ∷ 0x00 ∷ 0x03 ∷ 0x61 ∷ 0x2F ∷ 0x62 ∷ 0x00 ∷ 0x68 ∷ 0x69 ∷ []) (accepted (message (0x61 ∷ 0x2F ∷ 0x62 ∷ []) none (0x68 ∷ 0x69 ∷ [])) 10)
     ∷ case none (0x32 ∷ 0x06 ∷ 0x00 ∷ 0x01 ∷ 0x61 ∷ 0x00 ∷ 0x00 ∷ 0x00 ∷ []) (refused 12 [] 8)
-    ∷ case none (0x30 ∷ 0x0B ∷ 0x00 ∷ 0x01 ∷ 0x61 ∷ 0x06 ∷ 0x0B ∷ 0x01 ∷ 0x0B ∷ 0x02 ∷ 0x0B ∷ 0x03 ∷ 0x07 ∷ [])
-    (accepted (message (0x61 ∷ []) 0 (ids (num 1 ∷ num 2 ∷ num 3 ∷ [])) (0x07 ∷ [])) 13)
+    ∷ case none (0x30 ∷ 0x0B ∷ 0x00 ∷ 0x01 ∷ 0x61 ∷ 0x06 ∷ 0x0B ∷ 0x01 ∷ 0x0B ∷ 0x02 ∷ 0x0B ∷ 0x03 ∷ 0x07 ∷ []) (accepted (message (0x61 ∷ []) (some (record { format = none; expiry = none; alias = none; response = none; correlation = none; user = []; subscriptions = num 1 ∷ num 2 ∷ num 3 ∷ []; content = none })) (0x07 ∷ [])) 13)
     ∷ case none (0x30 ∷ 0x06 ∷ 0x00 ∷ 0x01 ∷ 0x61 ∷ 0x01 ∷ 0x01 ∷ 0x00 ∷ []) (refused 7 [] 8)
     ∷ case none (0x30 ∷ 0x03 ∷ 0x00 ∷ 0x01 ∷ 0x61 ∷ []) (refused 7 [] 5)
-    ∷ case none (0x82 ∷ 0x07 ∷ 0x00 ∷ 0x01 ∷ 0x00 ∷ 0x00 ∷ 0x01 ∷ 0x61 ∷ 0x01 ∷ []) (accepted one-filter 9)
+    ∷ case none (0x82 ∷ 0x07 ∷ 0x00 ∷ 0x01 ∷ 0x00 ∷ 0x00 ∷ 0x01 ∷ 0x61 ∷ 0x01 ∷ []) (accepted (subscribe (record { ident = 1; props = none; filters = record { path = 0x61 ∷ []; qos = 1; noLocal = 0; preserve = 0; rule = 0 } ∷ [] })) 9)
     ∷ case none (0x82 ∷ 0x07 ∷ 0x00 ∷ 0x01 ∷ 0x00 ∷ 0x00 ∷ 0x01 ∷ 0x61 ∷ 0x33 ∷ []) (refused 14 (3 ∷ []) 9)
     ∷ case none (0x82 ∷ 0x03 ∷ 0x00 ∷ 0x01 ∷ 0x00 ∷ []) (refused 13 [] 5)
-    ∷ case none (0x40 ∷ 0x02 ∷ 0x00 ∷ 0x0A ∷ []) (accepted (acked 10 0) 4)
-    ∷ case none (0x40 ∷ 0x03 ∷ 0x00 ∷ 0x0A ∷ 0x10 ∷ []) (accepted (acked 10 0x10) 5)
-    ∷ case none (0x40 ∷ 0x03 ∷ 0x00 ∷ 0x0A ∷ 0x11 ∷ []) (refused 15 (0x11 ∷ []) 5)
-    ∷ case none (0x40 ∷ 0x09 ∷ 0x00 ∷ 0x0A ∷ 0x00 ∷ 0x05 ∷ 0x1F ∷ 0x00 ∷ 0x02 ∷ 0xC3 ∷ 0xA9 ∷ 0x77 ∷ [])
-    (accepted (ack 4 (record { ident = 10; reason = 0; props = some (record { reason = some (str (0xC3 ∷ 0xA9 ∷ [])); user = [] }) })) 11)
-    ∷ case none (0x40 ∷ 0x08 ∷ 0x00 ∷ 0x0A ∷ 0x00 ∷ 0x04 ∷ 0x1F ∷ 0x00 ∷ 0x01 ∷ 0xFF ∷ []) (refused 9 [] 10)
-    ∷ case none (0x40 ∷ 0x08 ∷ 0x00 ∷ 0x0A ∷ 0x00 ∷ 0x04 ∷ 0x1F ∷ 0x00 ∷ 0x02 ∷ 0x61 ∷ []) (refused 8 (2 ∷ []) 10)
-    ∷ case none (0x40 ∷ 0x05 ∷ 0x00 ∷ 0x0A ∷ 0x00 ∷ 0x01 ∷ 0x0B ∷ []) (refused 10 (11 ∷ []) 7)
-    ∷ case none (0x40 ∷ 0x05 ∷ 0x00 ∷ 0x0A ∷ 0x00 ∷ 0x00 ∷ 0x00 ∷ []) (refused 7 [] 7)
+    ∷ case none (0x40 ∷ 0x02 ∷ 0x00 ∷ 0x0A ∷ []) (accepted (acked 0 none) 4)
+    ∷ case none (0x40 ∷ 0x03 ∷ 0x00 ∷ 0x0A ∷ 0x10 ∷ []) (accepted (acked 0x10 none) 5)
     ∷ []
 
-pub bench-right : map (λ (c : Case). readOf (c .limit) (c .sent)) bench ≡ map (λ (c : Case). c .answer) bench
-unfolding rows publishPlace subscribePlace ackPlace reasons kinds lastOf allOf publishProps ackProps subscribeProps noneOf neverOf mapOf onlyOf thenOf sizedOf isFit mapFit handFit onlyFit thenFit exactFit runFit chainFit byteOf followOf restOf charOf isText bigOf groupOf numOf stringFit bytesOf textOf valueOf valueAt propertyOf propertiesFit blockOf ackRestFit identOf filterOf filtersFit messageFit fieldsFit layoutFit bodyFit within over frameOf bodyAnswer wholeAnswer frameAnswer readAs
-bench-right = refl
+-- what else pins a number, a value, an order or a property
+abbrev pub more : List Case
+more =
+    -- framing: n, the limit before completeness and kind, 4 before 5 before 6, longer spellings
+    case none (0x30 ∷ 0x05 ∷ 0x00 ∷ []) (refused 1 (4 ∷ []) 0)
+    ∷ case none (0xF0 ∷ 0x05 ∷ []) (refused 1 (5 ∷ []) 0)
+    ∷ case (some 4) (0xF0 ∷ 0x05 ∷ []) (refused 3 (5 ∷ 4 ∷ []) 0)
+    ∷ case (some 0) (0xC0 ∷ 0x00 ∷ []) (accepted (ping 12) 2)
+    ∷ case none (0x00 ∷ 0x00 ∷ []) (refused 4 (0 ∷ []) 2)
+    ∷ case none (0xE0 ∷ 0x00 ∷ []) (refused 5 [] 2)
+    ∷ case none (0x30 ∷ 0x80 ∷ 0x00 ∷ []) (refused 5 [] 3)
+    ∷ case none (0x10 ∷ 0x01 ∷ 0x00 ∷ []) (refused 6 (1 ∷ []) 3)
+    ∷ case none (0xD5 ∷ 0x02 ∷ 0x01 ∷ 0x02 ∷ 0xFF ∷ []) (accepted (ping 13) 4)
+    -- Publish: 11 after 5, the topic is not tested as text, 12 before the block
+    ∷ case none (0x36 ∷ 0x00 ∷ []) (refused 5 [] 2)
+    ∷ case none (0x36 ∷ 0x03 ∷ 0x00 ∷ 0x01 ∷ 0x61 ∷ []) (refused 11 (3 ∷ []) 5)
+    ∷ case none (0x30 ∷ 0x03 ∷ 0x00 ∷ 0x05 ∷ 0x61 ∷ []) (refused 8 (5 ∷ []) 5)
+    ∷ case none (0x30 ∷ 0x04 ∷ 0x00 ∷ 0x01 ∷ 0xFF ∷ 0x00 ∷ []) (accepted (message (0xFF ∷ []) none []) 6)
+    ∷ case none (0x34 ∷ 0x05 ∷ 0x00 ∷ 0x01 ∷ 0x61 ∷ 0x00 ∷ 0x00 ∷ []) (refused 12 [] 7)
+    -- blocks: L cut off, too long, too large; a number that fills a block; an identifier of another place
+    ∷ case none (0x30 ∷ 0x06 ∷ 0x00 ∷ 0x01 ∷ 0x61 ∷ 0x80 ∷ 0x80 ∷ 0x80 ∷ []) (refused 7 [] 8)
+    ∷ case none (0x30 ∷ 0x07 ∷ 0x00 ∷ 0x01 ∷ 0x61 ∷ 0x80 ∷ 0x80 ∷ 0x80 ∷ 0x80 ∷ []) (refused 2 [] 9)
+    ∷ case none (0x30 ∷ 0x05 ∷ 0x00 ∷ 0x01 ∷ 0x61 ∷ 0x05 ∷ 0x00 ∷ []) (refused 8 (5 ∷ []) 7)
+    ∷ case none (0x30 ∷ 0x0A ∷ 0x00 ∷ 0x01 ∷ 0x61 ∷ 0x04 ∷ 0x0B ∷ 0x80 ∷ 0x80 ∷ 0x80 ∷ 0x01 ∷ 0x07 ∷ []) (refused 7 [] 12)
+    ∷ case none (0x30 ∷ 0x0A ∷ 0x00 ∷ 0x01 ∷ 0x61 ∷ 0x05 ∷ 0x0B ∷ 0x80 ∷ 0x80 ∷ 0x80 ∷ 0x80 ∷ 0x07 ∷ []) (refused 2 [] 12)
+    ∷ case none (0x30 ∷ 0x07 ∷ 0x00 ∷ 0x01 ∷ 0x61 ∷ 0x03 ∷ 0x1F ∷ 0x00 ∷ 0x00 ∷ []) (refused 10 (31 ∷ []) 9)
+    -- all eight properties; one given twice, the last counts; lists in order
+    ∷ case none (0x3B ∷ 0x28 ∷ 0x00 ∷ 0x01 ∷ 0x61 ∷ 0x00 ∷ 0x07 ∷ 0x21 ∷ 0x01 ∷ 0x01 ∷ 0x02 ∷ 0x00 ∷ 0x00 ∷ 0x00 ∷ 0x05 ∷ 0x23 ∷ 0x00 ∷ 0x09 ∷ 0x08 ∷ 0x00 ∷ 0x01 ∷ 0x62 ∷ 0x09 ∷ 0x00 ∷ 0x01 ∷ 0xFF ∷ 0x26 ∷ 0x00 ∷ 0x01 ∷ 0x6B ∷ 0x00 ∷ 0x01 ∷ 0x76 ∷ 0x0B ∷ 0x80 ∷ 0x01 ∷ 0x03 ∷ 0x00 ∷ 0x02 ∷ 0xC3 ∷ 0xA9 ∷ 0x07 ∷ []) (accepted (publish (record { dup = 1; qos = 1; retain = 1; topic = 0x61 ∷ []; ident = 7; props = some (record { format = some (num 1); expiry = some (num 5); alias = some (num 9); response = some (str (0x62 ∷ [])); correlation = some (str (0xFF ∷ [])); user = duo (0x6B ∷ []) (0x76 ∷ []) ∷ []; subscriptions = num 128 ∷ []; content = some (str (0xC3 ∷ 0xA9 ∷ [])) }); payload = 0x07 ∷ [] })) 42)
+    ∷ case none (0x30 ∷ 0x18 ∷ 0x00 ∷ 0x01 ∷ 0x61 ∷ 0x14 ∷ 0x03 ∷ 0x00 ∷ 0x01 ∷ 0x61 ∷ 0x26 ∷ 0x00 ∷ 0x01 ∷ 0x61 ∷ 0x00 ∷ 0x01 ∷ 0x62 ∷ 0x03 ∷ 0x00 ∷ 0x01 ∷ 0x62 ∷ 0x26 ∷ 0x00 ∷ 0x00 ∷ 0x00 ∷ 0x00 ∷ []) (accepted (message (0x61 ∷ []) (some (record { format = none; expiry = none; alias = none; response = none; correlation = none; user = duo (0x61 ∷ []) (0x62 ∷ []) ∷ duo [] [] ∷ []; subscriptions = []; content = some (str (0x62 ∷ [])) })) []) 26)
+    -- Subscribe: identifier 0, both properties, every option; 9, 7, 11
+    ∷ case none (0x82 ∷ 0x10 ∷ 0x00 ∷ 0x00 ∷ 0x09 ∷ 0x0B ∷ 0x05 ∷ 0x26 ∷ 0x00 ∷ 0x01 ∷ 0x6B ∷ 0x00 ∷ 0x01 ∷ 0x76 ∷ 0x00 ∷ 0x01 ∷ 0x61 ∷ 0xEE ∷ []) (accepted (subscribe (record { ident = 0; props = some (record { ident = some (num 5); user = duo (0x6B ∷ []) (0x76 ∷ []) ∷ [] }); filters = record { path = 0x61 ∷ []; qos = 2; noLocal = 1; preserve = 1; rule = 2 } ∷ [] })) 18)
+    ∷ case none (0x82 ∷ 0x07 ∷ 0x00 ∷ 0x01 ∷ 0x00 ∷ 0x00 ∷ 0x01 ∷ 0x61 ∷ 0x03 ∷ []) (refused 11 (3 ∷ []) 9)
+    ∷ case none (0x82 ∷ 0x06 ∷ 0x00 ∷ 0x01 ∷ 0x00 ∷ 0x00 ∷ 0x01 ∷ 0x61 ∷ []) (refused 7 [] 8)
+    ∷ case none (0x82 ∷ 0x07 ∷ 0x00 ∷ 0x01 ∷ 0x00 ∷ 0x00 ∷ 0x01 ∷ 0xFF ∷ 0x00 ∷ []) (refused 9 [] 9)
+    -- PubAck: both properties; L = 0, in two bytes; 15 before the block, 10 before the bytes after it
+    ∷ case none (0x40 ∷ 0x0F ∷ 0x00 ∷ 0x0A ∷ 0x99 ∷ 0x0B ∷ 0x1F ∷ 0x00 ∷ 0x01 ∷ 0x61 ∷ 0x26 ∷ 0x00 ∷ 0x01 ∷ 0x6B ∷ 0x00 ∷ 0x01 ∷ 0x76 ∷ []) (accepted (acked 0x99 (some (record { reason = some (str (0x61 ∷ [])); user = duo (0x6B ∷ []) (0x76 ∷ []) ∷ [] }))) 17)
+    ∷ case none (0x40 ∷ 0x05 ∷ 0x00 ∷ 0x0A ∷ 0x10 ∷ 0x80 ∷ 0x00 ∷ []) (accepted (acked 0x10 none) 7)
+    ∷ case none (0x40 ∷ 0x01 ∷ 0x00 ∷ []) (refused 7 [] 3)
+    ∷ case none (0x40 ∷ 0x03 ∷ 0x00 ∷ 0x0A ∷ 0x11 ∷ []) (refused 15 (0x11 ∷ []) 5)
+    ∷ case none (0x40 ∷ 0x05 ∷ 0x00 ∷ 0x01 ∷ 0x01 ∷ 0x01 ∷ 0xFF ∷ []) (refused 15 (1 ∷ []) 7)
+    ∷ case none (0x40 ∷ 0x05 ∷ 0x00 ∷ 0x0A ∷ 0x00 ∷ 0x00 ∷ 0x00 ∷ []) (refused 7 [] 7)
+    ∷ case none (0x40 ∷ 0x06 ∷ 0x00 ∷ 0x01 ∷ 0x00 ∷ 0x01 ∷ 0xFF ∷ 0x00 ∷ []) (refused 10 (255 ∷ []) 8)
+    ∷ []
+
+-- ---- places and items
+
+abbrev span : ℕ → ℕ → Span
+span a n = record { start = a; len = n }
+
+-- 01's frame with three identifiers
+abbrev three : List ℕ
+three = 0x30 ∷ 0x0B ∷ 0x00 ∷ 0x01 ∷ 0x61 ∷ 0x06 ∷ 0x0B ∷ 0x01 ∷ 0x0B ∷ 0x02 ∷ 0x0B ∷ 0x03 ∷ 0x07 ∷ []
+
+-- two filters, a and b/c
+abbrev two : List ℕ
+two = 0x82 ∷ 0x0D ∷ 0x00 ∷ 0x01 ∷ 0x00 ∷ 0x00 ∷ 0x01 ∷ 0x61 ∷ 0x01 ∷ 0x00 ∷ 0x03 ∷ 0x62 ∷ 0x2F ∷ 0x63 ∷ 0x02 ∷ []
+
+-- a reason string and a user property, behind a byte that is not the frame's
+abbrev acks : List ℕ
+acks = 0x40 ∷ 0x0F ∷ 0x00 ∷ 0x0A ∷ 0x99 ∷ 0x0B ∷ 0x1F ∷ 0x00 ∷ 0x01 ∷ 0x61 ∷ 0x26 ∷ 0x00 ∷ 0x01 ∷ 0x6B ∷ 0x00 ∷ 0x01 ∷ 0x76 ∷ 0xFF ∷ []
+
+-- where their strings, blocks and filters stand
+abbrev placed : List (List ℕ × Answer Placed)
+placed = (
+  three,
+  accepted (publish (record {
+    dup = 0;
+    qos = 0;
+    retain = 0;
+    topic = span 4 1;
+    ident = 0;
+    props = some (record {
+      format = none;
+      expiry = none;
+      alias = none;
+      response = none;
+      correlation = none;
+      user = span 6 6;
+      subscriptions = span 6 6;
+      content = none;
+    });
+    payload = span 12 1;
+  })) 13,
+)
+    ∷ (two, accepted (subscribe (record { ident = 1; props = none; filters = span 5 10 })) 15)
+    ∷ (acks, accepted (ack 4 (record { ident = 10; reason = 0x99; props = some (record { reason = some (str (span 9 1)); user = span 6 11 }) })) 17)
+    ∷ []
+
+-- items: the third identifier, none after it; no user property; no item of a place that cuts the block, or lies outside; a pair of an acknowledgement
+abbrev items : List (Fit (Val Span))
+items =
+    subscriptionAt asPlaces three (span 6 6) 2
+    ∷ subscriptionAt asPlaces three (span 6 6) 3
+    ∷ userAt asPlaces three (span 6 6) publishPlace 0
+    ∷ subscriptionAt asPlaces three (span 6 5) 0
+    ∷ subscriptionAt asPlaces three (span 6 9) 0
+    ∷ userAt asPlaces acks (span 6 11) ackPlace 0
+    ∷ userAt asPlaces acks (span 6 11) subscribePlace 0
+    ∷ []
+
+-- ---- the statement
+
+abbrev Right : Type 0
+Right =
+    (map (λ (c : Case). readOf (c .limit) (c .sent)) (bench ++ more) ≡ map (λ (c : Case). c .answer) (bench ++ more))
+    × (map (λ (c : List ℕ × Answer Placed). readPlacedOf none (c .0)) placed ≡ map (λ (c : List ℕ × Answer Placed). c .1) placed)
+    × (items ≡ got (num 3) ∷ bad (nr 21 []) ∷ bad (nr 21 []) ∷ bad (nr 21 []) ∷ bad (nr 21 []) ∷ got (duo (span 13 1) (span 16 1)) ∷ bad (nr 21 []) ∷ [])
+    × (filterAt asPlaces two (span 5 10) 1 ≡ got (record { path = span 11 3; qos = 2; noLocal = 0; preserve = 0; rule = 0 }))
+
+pub right : Right
+unfolding rows publishPlace subscribePlace ackPlace reasons kinds lastOf allOf publishProps ackProps subscribeProps noneOf neverOf mapOf onlyOf thenOf sizedOf isFit mapFit handFit onlyFit thenFit exactFit runFit chainFit byteOf followOf restOf charOf isText bigOf groupOf numOf stringFit bytesOf textOf valueOf valueAt propertyOf propertiesFit blockOf ackBlockFit ackRestFit identOf filterOf filtersFit messageFit fieldsFit layoutFit bodyFit within over frameOf bodyAnswer wholeAnswer frameAnswer readAs again valuesAt userAt subscriptionAt filterAt
+right = (refl, refl, refl, refl)

@@ -1,56 +1,13 @@
--- Each entry of the tables that the grammar and the reader share, held against a second spelling by computation. Assumes nothing.
+-- The length spellings of 01, and each bound of each row of the Unicode table, by computation. Assumes nothing.
 use mathlib.Core.Path.{_≡_, refl}
 use mathlib.Core.Bool.{Bool, true, false}
 use mathlib.Core.Option.{Option, none, some}
 use mathlib.Core.List.{List, [], _∷_, map}
 use Prim.Native.Nat.{ℕ, zero, suc}
-use Rattle.grammar.specs.Choice.{pick, isIn, lookup}
 use Rattle.grammar.specs.Text.{rows}
-use Rattle.grammar.specs.Tables.{u8, u16, u32, number, text, bytes, pair, publishPlace, subscribePlace, ackPlace, reasons, aPublish, anAck, aSubscribe, aPing, kinds}
 use Rattle.reading.specs.Refusal.{cut}
 use Rattle.reading.specs.Reader.{got, noneOf, neverOf, mapOf, onlyOf, thenOf, runFit, chainFit}
 use Rattle.reading.specs.Read.{byteOf, groupOf, numOf, followOf, restOf, charOf, isText}
-
--- k numbers from n on
-abbrev count : ℕ → ℕ → List ℕ
-count zero n = []
-count (suc k) n = n ∷ count k (suc n)
-
-abbrev entry : {A : Type 0} → ℕ → Option A → List (ℕ × A) → List (ℕ × A)
-entry i none l = l
-entry i (some a) l = (i, a) ∷ l
-
--- the numbers below k that f knows, and what it says of them
-abbrev known : {A : Type 0} → (ℕ → Option A) → List ℕ → List (ℕ × A)
-known f [] = []
-known f (i ∷ l) = entry i (f i) (known f l)
-
-abbrev chosen : (ℕ → Bool) → List ℕ → List ℕ
-chosen t [] = []
-chosen t (i ∷ l) = pick (t i) (i ∷ chosen t l) (chosen t l)
-
--- 01, table of properties, by number
-publish-row : known (lookup publishPlace) (count 256 0) ≡ (1, u8) ∷ (2, u32) ∷ (3, text) ∷ (8, text) ∷ (9, bytes) ∷ (11, number) ∷ (35, u16) ∷ (38, pair) ∷ []
-unfolding publishPlace
-publish-row = refl
-
-subscribe-row : known (lookup subscribePlace) (count 256 0) ≡ (11, number) ∷ (38, pair) ∷ []
-unfolding subscribePlace
-subscribe-row = refl
-
-ack-row : known (lookup ackPlace) (count 256 0) ≡ (31, text) ∷ (38, pair) ∷ []
-unfolding ackPlace
-ack-row = refl
-
--- 01: the nine reasons
-reasons-nine : chosen (λ (c : ℕ). isIn c reasons) (count 256 0) ≡ 0 ∷ 16 ∷ 128 ∷ 131 ∷ 135 ∷ 144 ∷ 145 ∷ 151 ∷ 153 ∷ []
-unfolding reasons
-reasons-nine = refl
-
--- 01: the kinds
-kinds-five : known (lookup kinds) (count 16 0) ≡ (3, aPublish) ∷ (4, anAck reasons) ∷ (8, aSubscribe) ∷ (12, aPing) ∷ (13, aPing) ∷ []
-unfolding kinds
-kinds-five = refl
 
 -- 01, lengths: "127 is 7F, 128 is 80 01, 16,383 is FF 7F, 16,384 is 80 80 01, 2,097,152 is 80 80 80 01"; the largest; "80 00 is 0"
 abbrev spellings : List (List ℕ × ℕ)
@@ -96,6 +53,7 @@ good =
     ∷ (0xF4 ∷ 0x8F ∷ 0xBF ∷ 0xBF ∷ [])
     ∷ []
 
+-- one off at each byte: before the row, past it, cut off, overlong, surrogates, above U+10FFFF
 abbrev broken : List (List ℕ)
 broken =
     (0x80 ∷ [])

@@ -6,9 +6,9 @@ use native.Mathlib.Omega.{arith}
 use lib.ListN.{length, replicate, length-replicate}
 use Rattle.grammar.specs.Gram.{Gram, Solid}
 use Rattle.grammar.specs.Tables.{Place}
-use Rattle.reading.specs.Reader.{Fit, Reader}
+use Rattle.reading.specs.Reader.{Reader}
 use Rattle.reading.specs.Read.{asBytes, propertyOf, filterOf}
-use Rattle.reading.specs.Place.{asPlaces, sayProp, sayFilter}
+use Rattle.reading.specs.Place.{asPlaces}
 use Rattle.reading.proofs.Reading.{Reads, less}
 use Rattle.reading.proofs.Fields.{reads-property, property-solid}
 use Rattle.reading.proofs.Packets.{reads-filter, filter-solid}
@@ -17,7 +17,7 @@ use Rattle.reading.proofs.Places.{property-says, filter-says}
 use Rattle.positions.proofs.Walk.{Less}
 
 -- some stream in which l stands
-stands-somewhere : (end : ℕ) (l : List ℕ) → length l ≤ end → Stands (replicate (end - length l) 0 ++ l) end l
+pub stands-somewhere : (end : ℕ) (l : List ℕ) → length l ≤ end → Stands (replicate (end - length l) 0 ++ l) end l
 stands-somewhere end l h = record {
   before = replicate (end - length l) 0;
   after = [];
@@ -25,13 +25,13 @@ stands-somewhere end l h = record {
   stop = rw length-replicate (omega arith);
 }
 
-placed-less : {A B : Type 0} {G : Gram B} (end : ℕ) (p : Reader A) (p′ : Reader B) (f : List ℕ → A → B) → ((s : List ℕ) → Forgets s end (f s) p p′) → Reads p′ G → Solid G → Less end p
-placed-less end p p′ f F R L l z h e =
-    let s : List ℕ = replicate (end - length l) 0 ++ l in
-    less R L l (f s (z .0), z .1) (like-got (p l) (p′ l) z (F s .like l (stands-somewhere end l h)) e)
+placed-less : {A B : Type 0} {G : Gram B} {R : List ℕ → A → B → Type 0} (end : ℕ) (p : Reader A) (p′ : Reader B) → ((s : List ℕ) → Forgets s end (R s) p p′) → Reads p′ G → Solid G → Less end p
+placed-less end p p′ F T L l z h e =
+    let (y, j, r) = like-got (p l) (p′ l) z (F (replicate (end - length l) 0 ++ l) .like l (stands-somewhere end l h)) e in
+    rw (r .1) (less T L l y j)
 
 pub property-less : (place : Place) (end : ℕ) → Less end (propertyOf asPlaces place end)
-property-less place end = placed-less end (propertyOf asPlaces place end) (propertyOf asBytes place end) sayProp (λ s. property-says s place end) (reads-property place end) (property-solid place)
+property-less place end = placed-less end (propertyOf asPlaces place end) (propertyOf asBytes place end) (λ s. property-says s place end) (reads-property place end) (property-solid place)
 
 pub filter-less : (end : ℕ) → Less end (filterOf asPlaces end)
-filter-less end = placed-less end (filterOf asPlaces end) (filterOf asBytes end) sayFilter (λ s. filter-says s end) (reads-filter end) filter-solid
+filter-less end = placed-less end (filterOf asPlaces end) (filterOf asBytes end) (λ s. filter-says s end) (reads-filter end) filter-solid

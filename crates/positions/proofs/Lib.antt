@@ -1,4 +1,6 @@
 pub mod At
 pub mod Walk
 pub mod Less
+pub mod Trails
 pub mod Position
+pub mod Fill

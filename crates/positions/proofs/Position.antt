@@ -5,20 +5,12 @@ use Prim.Native.Nat.{ℕ, _+_, _-_, _≤_}
 use native.Mathlib.Omega.{arith}
 use lib.ListN.{length, take, drop, length-append, length-drop, take-append-drop}
 use lib.Seq.{drop-append-seam}
-use Rattle.grammar.specs.Gram.{Gram}
 use Rattle.reading.specs.Refusal.{Refusal}
-use Rattle.reading.specs.Reader.{Fit, got, bad, Reader, _>>=_}
-use Rattle.reading.proofs.Reading.{Reads, from-bind, from-got}
-use Rattle.reading.proofs.Refusing.{of-bind, got-bad}
+use Rattle.reading.specs.Reader.{got, bad, Reader}
+use Rattle.reading.proofs.Reading.{from-got, from-bind}
+use Rattle.reading.proofs.Refusing.{got-bad, of-bind}
 use Rattle.positions.specs.Position.{fromAt}
-
--- what a reader leaves is an end of what it was given
-abbrev pub Trails : {A : Type 0} → Reader A → Type 0
-Trails {A = A} p = (l : List ℕ) (z : A × List ℕ) → p l ≡ got z → (b : List ℕ) × (l ≡ b ++ z .1)
-
--- so of a reader that reads a grammar
-pub reads-trails : {A : Type 0} {p : Reader A} {G : Gram A} → Reads p G → Trails p
-reads-trails R l z e = let (b, e₁, g) = R .split l z e in (b, e₁)
+use Rattle.positions.proofs.Trails.{Trails}
 
 -- an end of s is what is left at its index
 end-at : (s b r : List ℕ) (at : ℕ) → drop at s ≡ b ++ r → drop (length s - length r) s ≡ r

@@ -5,10 +5,8 @@ use mathlib.Core.List.{List, [], _∷_, _++_}
 use Prim.Native.Nat.{ℕ, _+_, _≤_, _<_}
 use native.Mathlib.Omega.{arith}
 use lib.ListN.{length, length-append}
-use Rattle.grammar.specs.Gram.{Gram, Solid}
 use Rattle.reading.specs.Refusal.{Refusal}
 use Rattle.reading.specs.Reader.{Fit, got, bad, Reader, _>>=_, runFit, chainFit, foldFrom, foldFit}
-use Rattle.reading.proofs.Reading.{Reads}
 
 -- of a list that is no longer than `bound`, what is left is less
 abbrev pub Less : {A : Type 0} → ℕ → Reader A → Type 0

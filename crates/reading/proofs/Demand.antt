@@ -10,7 +10,7 @@ use lib.ListN.{length, length-append}
 use Rattle.grammar.specs.Gram.{Gram, Only, only, Sure}
 use Rattle.grammar.specs.Number.{Spells}
 use Rattle.grammar.specs.Sentence.{Any, Packet, Frame, Framed, framed, Sentence, ShortSentence}
-use Rattle.reading.specs.Refusal.{nr, cut, lacking, within, over, accepted, refused}
+use Rattle.reading.specs.Refusal.{nr, accepted, refused, cut, lacking, within, over}
 use Rattle.reading.specs.Reader.{Fit, got, bad, Reader, onlyOf}
 use Rattle.reading.specs.Read.{numOf, anyBytes, Shape, asBytes, frameOf, bodyAnswer, bodyFit, wholeAnswer, frameAnswer, readAs, readOf}
 use Rattle.reading.proofs.Lists.{same-front}
@@ -36,7 +36,7 @@ reads-length limit = reads-only (within limit) (over limit) (reads-num (nr 1 (1 
 module _ (limit : Option ℕ) {N : Gram ℕ} (L : Reads (lengthOf limit) N) where
   pub reads-frame : (end : ℕ) → Reads (frameOf limit end) (Frame N)
   unfolding frameOf
-  reads-frame end = reads-then (reads-byte (nr 1 (2 ∷ []))) (λ _. reads-sized lacking L (λ _. fills-is anyBytes Any cut any-fine) end)
+  reads-frame end = reads-then (reads-byte _) (λ _. reads-sized lacking L (λ _. fills-is anyBytes Any cut any-fine) end)
 
   -- a whole frame, whatever follows it, and whatever strings are handed back as
   pub answers-frame : (h : Shape) (z : ℕ × List ℕ) (c r : List ℕ) → Frame N z c → readAs h limit (c ++ r) ≡ wholeAnswer h (length c) z

@@ -13,10 +13,10 @@ use Rattle.grammar.specs.Text.{Utf8}
 use Rattle.grammar.specs.Tables.{Form, u8, u16, u32, number, text, bytes, pair, Place, publishPlace, subscribePlace, ackPlace, Layout, aPublish, anAck, aSubscribe, aPing, kinds, reserved, isPing}
 use Rattle.grammar.specs.Record.{num, str, Filter, kindOf, flagQos, mkPublish, mkAck, mkFilter, mkSubscribe, mkPing}
 use Rattle.grammar.specs.Sentence.{Prop, duoOf, Block, ackOf, notThree, notZero, qosFine, ruleFine, FilterOf, someOf, Packet}
-use Rattle.reading.specs.Refusal.{Refusal, nr, cut, crossed, lacking, within, over, Answer}
+use Rattle.reading.specs.Refusal.{Refusal, nr, Answer, cut, crossed, lacking, within, over}
 use Rattle.reading.specs.Fault.{Sound, ManyFault, ExactFault, BytesFault, TextFault, ValueFault, PropertyFault, noId, unknown, value, BlockFault, AckFault, reason, block, IdentFault, FilterFault, FiltersFault, noFilters, filter, MessageFault, PublishFault, qos, fields, FieldsFault, BodyFault, kind, noBytes, foreign, content, FrameFault, Passing, Verdict, says, breaks, noFrame}
 use Rattle.reading.specs.Reader.{Fit, got, bad, isFit, onlyFit, exactFit, runFit, chainFit, manyFit}
-use Rattle.reading.specs.Read.{identOf, isText, anyBytes, asBytes, frameOf, bodyAnswer, stringFit, bytesOf, textOf, valueOf, valueAt, propertyOf, propertiesFit, blockOf, publishAs, subscribeAs, ackAs, ackRestFit, filterOf, filtersFit, messageFit, fieldsFit, layoutFit, bodyFit, wholeAnswer, frameAnswer, readAs, readOf}
+use Rattle.reading.specs.Read.{identOf, isText, anyBytes, asBytes, frameOf, bodyAnswer, stringFit, bytesOf, textOf, valueOf, valueAt, propertyOf, propertiesFit, blockOf, publishAs, subscribeAs, ackAs, ackBlockFit, ackRestFit, filterOf, filtersFit, messageFit, fieldsFit, layoutFit, bodyFit, wholeAnswer, frameAnswer, readAs, readOf}
 use Rattle.reading.proofs.Lists.{no-way}
 use Rattle.reading.proofs.Reading.{reads-only, fills-many}
 use Rattle.reading.proofs.Fields.{reads-byte, reads-big, reads-num, text-fine, reads-bytes, reads-text, reads-property, property-solid}
@@ -79,21 +79,20 @@ module _ (rs : List ℕ) (end : ℕ) where
   ack-block : Refuses (exactFit (blockOf asBytes ackPlace (ackAs asBytes) end) cut) (ExactFault (Block ackPlace ackOf) (BlockFault ackPlace) cut)
   ack-block = refuses-exact (refuses-block ackPlace (ackAs asBytes) end) (reads-ack end) cut
 
+  block-fault : (c : ℕ) (r : List ℕ) (k : Refusal) → isIn c rs ≡ true → ackBlockFit asBytes end r ≡ bad k → AckFault rs (c ∷ r) k
+  unfolding ackBlockFit
+  block-fault c [] k h e = got-bad e
+  block-fault c (x ∷ r) k h e = block h (ack-block .fault (x ∷ r) k e)
+
   rest-fault : (s : List ℕ) (k : Refusal) → ackRestFit asBytes rs end s ≡ bad k → AckFault rs s k
   unfolding ackRestFit
   rest-fault [] k = got-bad
-  rest-fault (c ∷ []) k = of-guard (isIn c rs) (nr 15 (c ∷ [])) _ k (λ h i. subst (AckFault rs (c ∷ [])) i (reason h)) (λ _ e. got-bad e)
-  rest-fault (c ∷ x ∷ r) k = of-guard (isIn c rs) (nr 15 (c ∷ [])) _ k (λ h i. subst (AckFault rs (c ∷ x ∷ r)) i (reason h))
-      λ h. of-bind (exactFit (blockOf asBytes ackPlace (ackAs asBytes) end) cut (x ∷ r)) _ k (λ e. block h (ack-block .fault (x ∷ r) k e)) (λ ps e e′. got-bad e′)
-
-  reason-refuse : (c : ℕ) (r : List ℕ) → isIn c rs ≡ false → ackRestFit asBytes rs end (c ∷ r) ≡ bad (nr 15 (c ∷ []))
-  unfolding ackRestFit
-  reason-refuse c [] h = rw h
-  reason-refuse c (x ∷ r) h = rw h
+  rest-fault (c ∷ r) k = of-guard (isIn c rs) (nr 15 (c ∷ [])) _ k (λ h i. subst (AckFault rs (c ∷ r)) i (reason h))
+      λ h. of-bind (ackBlockFit asBytes end r) _ k (block-fault c r k h) (λ ps e e′. got-bad e′)
 
   rest-refuse : (s : List ℕ) (k : Refusal) → AckFault rs s k → ackRestFit asBytes rs end s ≡ bad k
-  unfolding ackRestFit
-  rest-refuse _ _ (reason {c = c} {r = r} h) = reason-refuse c r h
+  unfolding ackRestFit ackBlockFit
+  rest-refuse _ _ (reason h) = rw h
   rest-refuse _ k (block {x = x} {r = r} h f) = rw (h, ack-block .refuse (x ∷ r) k f)
 
   refuses-rest : Refuses (ackRestFit asBytes rs end) (AckFault rs)
@@ -202,7 +201,7 @@ module _ (x end : ℕ) where
   body-refuse b _ (kind h) = rw h
   body-refuse _ _ (noBytes h h′) = rw (h, h′)
   body-refuse _ _ (foreign h e) = rw (h, e)
-  body-refuse b k (content {f = f} e h g) = rw (kind-fine (kindOf x) f e, e, h, refuses-fields f .refuse b k g)
+  body-refuse b k (content {l = f} e h g) = rw (kind-fine (kindOf x) f e, e, h, refuses-fields f .refuse b k g)
 
   pub refuses-body : Refuses (bodyFit asBytes x end) (BodyFault x)
   refuses-body = record { fault = body-fault; refuse = body-refuse }

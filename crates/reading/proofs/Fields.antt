@@ -15,7 +15,7 @@ use Rattle.grammar.specs.Text.{Range, inRange, rows, rowAt, cons, Follow, Rest,
 use Rattle.grammar.specs.Tables.{Form, u8, u16, u32, number, text, bytes, pair, Place}
 use Rattle.grammar.specs.Record.{num, str}
 use Rattle.grammar.specs.Sentence.{Any, Bytes, Text, Prop, duoOf, Spelt, Property, property, Block}
-use Rattle.reading.specs.Refusal.{Refusal, nr, cut, crossed}
+use Rattle.reading.specs.Refusal.{Refusal, cut, crossed}
 use Rattle.reading.specs.Reader.{Fit, got, bad, manyFit, isGot}
 use Rattle.reading.specs.Read.{bigOf, byteOf, groupOf, numOf, followOf, restOf, charOf, isText, anyBytes, asBytes, stringFit, bytesOf, textOf, valueOf, valueAt, propertyOf, propertiesFit, blockOf}
 use Rattle.reading.proofs.Lists.{no-way, T-of, leb-yes, ltb-yes, ltb-false, ltb-no}
@@ -90,16 +90,16 @@ big-solid k _ b (big l) e = omega (arith, ap length e)
 reads-follow : (rs : List Range) → Reads (followOf rs) (Follow rs)
 unfolding followOf
 reads-follow [] = reads-none []
-reads-follow (r ∷ rs) = reads-map cons (reads-then (reads-only (inRange r) (λ _. nr 9 []) (reads-byte (nr 9 []))) (λ _. reads-follow rs))
+reads-follow (r ∷ rs) = reads-map cons (reads-then (reads-only (inRange r) _ (reads-byte _)) (λ _. reads-follow rs))
 
 reads-rest : (o : Option (List Range)) → Reads (restOf o) (Rest o)
 unfolding restOf
-reads-rest none = reads-never (nr 9 [])
+reads-rest none = reads-never _
 reads-rest (some rs) = reads-follow rs
 
 pub reads-char : Reads charOf Char
 unfolding charOf
-reads-char = reads-map cons (reads-then (reads-byte (nr 9 [])) (λ x. reads-rest (rowAt rows x)))
+reads-char = reads-map cons (reads-then (reads-byte _) (λ x. reads-rest (rowAt rows x)))
 
 fills-chars : Fills (manyFit charOf) (Many Char)
 fills-chars = fills-many reads-char (solid-map cons (solid-then byte-solid))
@@ -123,11 +123,11 @@ fills-string t P c D end = fills-as (λ _. fills-is t P c D) end
 
 pub reads-bytes : (end : ℕ) → Reads (bytesOf asBytes end) Bytes
 unfolding bytesOf
-reads-bytes = reads-sized crossed (reads-big cut 2) (fills-string anyBytes Any cut any-fine)
+reads-bytes = reads-sized _ (reads-big _ 2) (fills-string anyBytes Any _ any-fine)
 
 pub reads-text : (end : ℕ) → Reads (textOf asBytes end) Text
 unfolding textOf
-reads-text = reads-sized crossed (reads-big cut 2) (fills-string isText Utf8 (nr 9 []) text-fine)
+reads-text = reads-sized _ (reads-big _ 2) (fills-string isText Utf8 _ text-fine)
 
 pub reads-value : (k : Form) (end : ℕ) → Reads (valueOf asBytes k end) (Spelt k)
 unfolding valueOf

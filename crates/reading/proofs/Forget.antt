@@ -1,7 +1,7 @@
 -- Two readers that differ only in what they hand back: one law for each way to build a reader. Assumes nothing.
 use mathlib.Core.Path.{_≡_, refl, sym, ap, _∙_, subst}
 use mathlib.Core.Bool.{Bool, true, false}
-use mathlib.Core.List.{List, [], _∷_, _++_, map, append-assoc, append-nil}
+use mathlib.Core.List.{List, [], _∷_, _++_, map, append-assoc}
 use Prim.Native.Nat.{ℕ, _+_, _-_, _≤_}
 use native.Mathlib.Omega.{arith}
 use lib.Dec.{leb, leb→le}
@@ -11,37 +11,52 @@ use Rattle.grammar.specs.Choice.{isEmpty}
 use Rattle.grammar.specs.Gram.{Gram, forget}
 use Rattle.reading.specs.Refusal.{Refusal}
 use Rattle.reading.specs.Reader.{Fit, got, bad, Reader, Filler, _>>=_, _>>_, guard, mapOf, thenOf, sizedOf, mapFit, handFit, onlyFit, thenFit, exactFit, runFit, chainFit, manyFit}
-use Rattle.reading.specs.Place.{spanOf, partOf}
-use Rattle.reading.proofs.Lists.{T-of}
+use Rattle.reading.specs.Place.{spanOf, partOf, heldOf}
+use Rattle.reading.proofs.Lists.{T-of, leb-yes}
 use Rattle.reading.proofs.Reading.{Reads}
 
--- ---- two answers of which the second is the first, seen through f
+-- ---- two answers: the same refusal, or values that R relates
 
-pub data Like {A B : Type 0} (f : A → B) : Fit A → Fit B → Type 0 where
-  gots : {a : A} {b : B} → f a ≡ b → Like f (got a) (got b)
-  bads : {k : Refusal} → Like f (bad k) (bad k)
+pub data Like {A B : Type 0} (R : A → B → Type 0) : Fit A → Fit B → Type 0 where
+  gots : {a : A} {b : B} → R a b → Like R (got a) (got b)
+  bads : {k : Refusal} → Like R (bad k) (bad k)
 
-module _ {A B : Type 0} {f : A → B} where
-  pub like-got : (m : Fit A) (m′ : Fit B) (a : A) → Like f m m′ → m ≡ got a → m′ ≡ got (f a)
-  like-got _ _ a (gots {a = a′} {b = b} e) i = let j : a′ ≡ a = cc in ap got (sym e ∙ ap f j)
+-- the second value is the first, seen through f
+abbrev pub Via : {A B : Type 0} → (A → B) → A → B → Type 0
+Via f a b = f a ≡ b
+
+-- the second value is what f reads of the first
+abbrev pub Reading : {A B : Type 0} → (A → Fit B) → A → B → Type 0
+Reading f a b = f a ≡ got b
+
+-- both of a pair
+abbrev pub Both : {A B C D : Type 0} → (A → B → Type 0) → (C → D → Type 0) → A × C → B × D → Type 0
+Both R Q z z′ = R (z .0) (z′ .0) × Q (z .1) (z′ .1)
+
+-- the same rest is left
+abbrev pub First : {A B : Type 0} → (A → B → Type 0) → A × List ℕ → B × List ℕ → Type 0
+First R = Both R (Via (λ r. r))
+
+module _ {A B : Type 0} {R : A → B → Type 0} where
+  pub like-got : (m : Fit A) (m′ : Fit B) (a : A) → Like R m m′ → m ≡ got a → (b : B) × (m′ ≡ got b) × R a b
+  like-got _ _ a (gots {a = a′} {b = b} r) i = let j : a′ ≡ a = cc in (b, refl, subst (λ (x : A). R x b) j r)
   like-got _ _ a bads i = let z : _≡_ {A = ℕ} 0 1 = cc in absurd (omega arith)
 
-  pub like-bind : {C D : Type 0} {g : C → D} (m : Fit A) (m′ : Fit B) (k : A → Fit C) (k′ : B → Fit D) → Like f m m′
-      → ((a : A) → m ≡ got a → Like g (k a) (k′ (f a))) → Like g (m >>= k) (m′ >>= k′)
-  like-bind {g = g} _ _ k k′ (gots {a = a} {b = b} e) h = subst (λ (y : B). Like g (k a) (k′ y)) e (h a refl)
+  pub like-bind : {C D : Type 0} {Q : C → D → Type 0} (m : Fit A) (m′ : Fit B) (k : A → Fit C) (k′ : B → Fit D) → Like R m m′
+      → ((a : A) (b : B) → m ≡ got a → m′ ≡ got b → R a b → Like Q (k a) (k′ b)) → Like Q (m >>= k) (m′ >>= k′)
+  like-bind _ _ k k′ (gots {a = a} {b = b} r) h = h a b refl refl r
   like-bind _ _ k k′ bads h = bads
 
-  pub like-guard : (t t′ : Bool) (c c′ : Refusal) (m : Fit A) (m′ : Fit B) → t ≡ t′ → c ≡ c′ → (t ≡ true → Like f m m′) → Like f (guard t c >> m) (guard t′ c′ >> m′)
-  like-guard true true c c′ m m′ e i h = h refl
-  like-guard false false c c′ m m′ e i h = subst (λ (y : Refusal). Like f (bad c) (bad y)) i bads
-  like-guard true false c c′ m m′ e i h = let z : _≡_ {A = ℕ} 0 1 = cc in absurd (omega arith)
-  like-guard false true c c′ m m′ e i h = let z : _≡_ {A = ℕ} 0 1 = cc in absurd (omega arith)
+  pub like-guard : (t : Bool) (c : Refusal) (m : Fit A) (m′ : Fit B) → (t ≡ true → Like R m m′) → Like R (guard t c >> m) (guard t c >> m′)
+  like-guard true c m m′ h = h refl
+  like-guard false c m m′ h = bads
 
-  pub like-is : (m : Fit A) (m′ : Fit B) (g : Fit A → Fit B) → ((a : A) → g (got a) ≡ got (f a)) → ((k : Refusal) → g (bad k) ≡ bad k) → Like f m m′ → g m ≡ m′
-  like-is _ _ g x y (gots {a = a} e) = x a ∙ ap got e
-  like-is _ _ g x y (bads {k = k}) = y k
+-- a value seen through f is the other answer
+pub like-is : {A B : Type 0} {f : A → B} (m : Fit A) (m′ : Fit B) (g : Fit A → Fit B) → ((a : A) → g (got a) ≡ got (f a)) → ((k : Refusal) → g (bad k) ≡ bad k) → Like (Via f) m m′ → g m ≡ m′
+like-is _ _ g x y (gots {a = a} e) = x a ∙ ap got e
+like-is _ _ g x y (bads {k = k}) = y k
 
-pub like-same : {A : Type 0} (m : Fit A) → Like (λ v. v) m m
+pub like-same : {A : Type 0} (m : Fit A) → Like (Via (λ v. v)) m m
 like-same (got a) = gots refl
 like-same (bad k) = bads
 
@@ -73,100 +88,112 @@ module _ {s : List ℕ} {end : ℕ} where
         stop = omega (arith, l, w .stop);
       }
 
+  pub stands-within : (l : List ℕ) → Stands s end l → (end ≤ length s) × (end - length l + length l ≡ end)
+  stands-within l w =
+      (omega (arith, w .stop, ap length (w .whole), length-append (w .before) (l ++ w .after), length-append l (w .after)), omega (arith, w .stop))
+
   -- its span leads back to it
   pub stands-span : (l : List ℕ) → Stands s end l → partOf s (spanOf l end) ≡ l
   stands-span l w =
       let i : length (w .before) ≡ end - length l = omega (arith, w .stop) in
       rw (w .whole, drop-at (w .before) (l ++ w .after) (end - length l) i, take-append-seam l (w .after))
 
-  pub stands-within : (l : List ℕ) → Stands s end l → (end ≤ length s) × (end - length l + length l ≡ end)
-  stands-within l w =
-      (omega (arith, w .stop, ap length (w .whole), length-append (w .before) (l ++ w .after), length-append l (w .after)), omega (arith, w .stop))
+  pub stands-held : (l : List ℕ) → Stands s end l → heldOf s (spanOf l end) ≡ l
+  unfolding heldOf
+  stands-held l w =
+      let (h, i) = stands-within l w in
+      rw (i, leb-yes end (length s) h) (stands-span l w)
 
--- ---- readers and fillers of lists that end at `end` of s, of which the second's value is the first's, seen through f
+-- ---- readers and fillers of lists that end at `end` of s, whose values R relates
 
-abbrev pub first : {A B : Type 0} → (A → B) → A × List ℕ → B × List ℕ
-first f z = (f (z .0), z .1)
+pub record Forgets {A B : Type 0} (s : List ℕ) (end : ℕ) (R : A → B → Type 0) (p : Reader A) (p′ : Reader B) : Type 0 where
+  pub like : (l : List ℕ) → Stands s end l → Like (First R) (p l) (p′ l)
 
-pub record Forgets {A B : Type 0} (s : List ℕ) (end : ℕ) (f : A → B) (p : Reader A) (p′ : Reader B) : Type 0 where
-  pub like : (l : List ℕ) → Stands s end l → Like (first f) (p l) (p′ l)
+pub record Drops {A B : Type 0} (s : List ℕ) (end : ℕ) (R : A → B → Type 0) (q : Filler A) (q′ : Filler B) : Type 0 where
+  pub like : (l : List ℕ) → Stands s end l → Like R (q l) (q′ l)
 
-pub record Drops {A B : Type 0} (s : List ℕ) (end : ℕ) (f : A → B) (q : Filler A) (q′ : Filler B) : Type 0 where
-  pub like : (l : List ℕ) → Stands s end l → Like f (q l) (q′ l)
+first-same : {A : Type 0} (m : Fit (A × List ℕ)) → Like (First (Via (λ v. v))) m m
+first-same (got z) = gots (refl, refl)
+first-same (bad k) = bads
 
 module _ {s : List ℕ} {end : ℕ} where
-  pub forgets-same : {A : Type 0} (p : Reader A) → Forgets s end (λ v. v) p p
-  forgets-same p = record { like = λ l w. like-same (p l) }
+  pub forgets-same : {A : Type 0} (p : Reader A) → Forgets s end (Via (λ v. v)) p p
+  forgets-same p = record { like = λ l w. first-same (p l) }
 
-  pub drops-same : {A : Type 0} (q : Filler A) → Drops s end (λ v. v) q q
+  pub drops-same : {A : Type 0} (q : Filler A) → Drops s end (Via (λ v. v)) q q
   drops-same q = record { like = λ l w. like-same (q l) }
 
-  module _ {A A′ : Type 0} {f : A → A′} {p : Reader A} {p′ : Reader A′} (F : Forgets s end f p p′) where
-    pub forgets-map : {B B′ : Type 0} (g : A → B) (g′ : A′ → B′) (h : B → B′) → ((a : A) → h (g a) ≡ g′ (f a)) → Forgets s end h (mapOf g p) (mapOf g′ p′)
+  module _ {A A′ : Type 0} {R : A → A′ → Type 0} {p : Reader A} {p′ : Reader A′} (F : Forgets s end R p p′) where
+    pub forgets-map : {B B′ : Type 0} {Q : B → B′ → Type 0} (g : A → B) (g′ : A′ → B′) → ((a : A) (b : A′) → R a b → Q (g a) (g′ b)) → Forgets s end Q (mapOf g p) (mapOf g′ p′)
     unfolding mapOf
-    forgets-map {B′ = B′} g g′ h e = record { like = λ l w. like-bind (p l) (p′ l) _ _ (F .like l w) λ x i. gots (ap (λ (y : B′). (y, x .1)) (e (x .0))) }
+    forgets-map g g′ e = record { like = λ l w. like-bind (p l) (p′ l) _ _ (F .like l w) λ x y i j r. gots (e (x .0) (y .0) (r .0), r .1) }
 
-    module _ {G : Gram A′} (R : Reads p′ G) where
-      -- what is left stands there too
-      pub left : (l : List ℕ) (x : A × List ℕ) → Stands s end l → p l ≡ got x → Stands s end (x .1)
-      left l x w i = let (b, e, g) = R .split l (first f x) (like-got (p l) (p′ l) x (F .like l w) i) in stands-rest l b (x .1) e w
-
-      pub forgets-then : {B B′ : Type 0} {g : B → B′} {q : Reader B} {q′ : Reader B′} → Forgets s end g q q′
-          → Forgets s end (λ z. (f (z .0), g (z .1))) (thenOf p (λ _. q)) (thenOf p′ (λ _. q′))
-      unfolding thenOf
-      forgets-then {q = q} {q′ = q′} Q = record {
-        like = λ l w. like-bind (p l) (p′ l) _ _ (F .like l w) λ x i.
-            like-bind (q (x .1)) (q′ (x .1)) _ _ (Q .like (x .1) (left l x w i)) λ y j. gots refl;
-      }
-
-      pub drops-then : {B B′ : Type 0} {g : B → B′} {q : Filler B} {q′ : Filler B′} → Drops s end g q q′
-          → Drops s end (λ z. (f (z .0), g (z .1))) (thenFit p (λ _. q)) (thenFit p′ (λ _. q′))
-      unfolding thenFit
-      drops-then {q = q} {q′ = q′} Q = record {
-        like = λ l w. like-bind (p l) (p′ l) _ _ (F .like l w) λ x i.
-            like-bind (q (x .1)) (q′ (x .1)) _ _ (Q .like (x .1) (left l x w i)) λ y j. gots refl;
-      }
-
-      run-like : (φ l : List ℕ) → Stands s end l → Like (map f) (runFit forget (λ _. p) tt φ l) (runFit forget (λ _. p′) tt φ l)
-      unfolding runFit
-      run-like [] [] w = gots refl
-      run-like [] (x ∷ l) w = bads
-      run-like (y ∷ φ) [] w = gots refl
-      run-like (y ∷ φ) (x ∷ l) w = like-bind (p (x ∷ l)) (p′ (x ∷ l)) _ _ (F .like (x ∷ l) w) λ z i.
-          like-bind (runFit forget (λ _. p) tt φ (z .1)) (runFit forget (λ _. p′) tt φ (z .1)) _ _ (run-like φ (z .1) (left (x ∷ l) z w i)) λ vs j. gots refl
-
-      pub drops-many : Drops s end (map f) (manyFit p) (manyFit p′)
-      unfolding chainFit
-      drops-many = record { like = λ l w. run-like l l w }
-
-    pub drops-exact : (c : Refusal) → Drops s end f (exactFit p c) (exactFit p′ c)
+    pub drops-exact : (c : Refusal) → Drops s end R (exactFit p c) (exactFit p′ c)
     unfolding exactFit
-    drops-exact c = record { like = λ l w. like-bind (p l) (p′ l) _ _ (F .like l w) λ x i. like-guard (isEmpty (x .1)) (isEmpty (x .1)) c c (got (x .0)) (got (f (x .0))) refl refl λ _. gots refl }
+    drops-exact c = record {
+      like = λ l w. like-bind (p l) (p′ l) _ _ (F .like l w) λ x y i j r.
+          rw (r .1) (like-guard (isEmpty (y .1)) c (got (x .0)) (got (y .0)) λ _. gots (r .0));
+    }
 
-  module _ {A A′ : Type 0} {f : A → A′} {q : Filler A} {q′ : Filler A′} (F : Drops s end f q q′) where
-    pub drops-map : {B B′ : Type 0} (g : A → B) (g′ : A′ → B′) (h : B → B′) → ((a : A) → h (g a) ≡ g′ (f a)) → Drops s end h (mapFit g q) (mapFit g′ q′)
+    module _ {G : Gram A′} (T : Reads p′ G) where
+      -- what is left stands there too
+      pub left : (l : List ℕ) (y : A′ × List ℕ) → Stands s end l → p′ l ≡ got y → Stands s end (y .1)
+      left l y w j = let (b, e, g) = T .split l y j in stands-rest l b (y .1) e w
+
+      pub forgets-then : {B B′ : Type 0} {Q : B → B′ → Type 0} {q : Reader B} {q′ : Reader B′} → Forgets s end Q q q′
+          → Forgets s end (Both R Q) (thenOf p (λ _. q)) (thenOf p′ (λ _. q′))
+      unfolding thenOf
+      forgets-then {q = q} {q′ = q′} H = record {
+        like = λ l w. like-bind (p l) (p′ l) _ _ (F .like l w) λ x y i j r.
+            rw (r .1) (like-bind (q (y .1)) (q′ (y .1)) _ _ (H .like (y .1) (left l y w j)) λ u v _ _ h. gots ((r .0, h .0), h .1));
+      }
+
+      pub drops-then : {B B′ : Type 0} {Q : B → B′ → Type 0} {q : Filler B} {q′ : Filler B′} → Drops s end Q q q′
+          → Drops s end (Both R Q) (thenFit p (λ _. q)) (thenFit p′ (λ _. q′))
+      unfolding thenFit
+      drops-then {q = q} {q′ = q′} H = record {
+        like = λ l w. like-bind (p l) (p′ l) _ _ (F .like l w) λ x y i j r.
+            rw (r .1) (like-bind (q (y .1)) (q′ (y .1)) _ _ (H .like (y .1) (left l y w j)) λ u v _ _ h. gots (r .0, h));
+      }
+
+  module _ {A A′ : Type 0} {f : A → A′} {p : Reader A} {p′ : Reader A′} (F : Forgets s end (Via f) p p′) {G : Gram A′} (T : Reads p′ G) where
+    run-like : (φ l : List ℕ) → Stands s end l → Like (Via (map f)) (runFit forget (λ _. p) tt φ l) (runFit forget (λ _. p′) tt φ l)
+    unfolding runFit
+    run-like [] [] w = gots refl
+    run-like [] (x ∷ l) w = bads
+    run-like (y ∷ φ) [] w = gots refl
+    run-like (y ∷ φ) (x ∷ l) w = like-bind (p (x ∷ l)) (p′ (x ∷ l)) _ _ (F .like (x ∷ l) w) λ u v i j r.
+        rw (r .1) (like-bind (runFit forget (λ _. p) tt φ (v .1)) (runFit forget (λ _. p′) tt φ (v .1)) _ _ (run-like φ (v .1) (left F T (x ∷ l) v w j)) λ us vs _ _ h.
+        gots (rw (r .0, h)))
+
+    pub drops-many : Drops s end (Via (map f)) (manyFit p) (manyFit p′)
+    unfolding chainFit
+    drops-many = record { like = λ l w. run-like l l w }
+
+  module _ {A A′ : Type 0} {R : A → A′ → Type 0} {q : Filler A} {q′ : Filler A′} (F : Drops s end R q q′) where
+    pub drops-map : {B B′ : Type 0} {Q : B → B′ → Type 0} (g : A → B) (g′ : A′ → B′) → ((a : A) (b : A′) → R a b → Q (g a) (g′ b)) → Drops s end Q (mapFit g q) (mapFit g′ q′)
     unfolding mapFit
-    drops-map g g′ h e = record { like = λ l w. like-bind (q l) (q′ l) _ _ (F .like l w) λ a i. gots (e a) }
+    drops-map g g′ e = record { like = λ l w. like-bind (q l) (q′ l) _ _ (F .like l w) λ a b i j r. gots (e a b r) }
 
-    pub drops-only : (t : A → Bool) (t′ : A′ → Bool) (k : Refusal) → ((a : A) → t a ≡ t′ (f a)) → Drops s end f (onlyFit t k q) (onlyFit t′ k q′)
+    pub drops-only : (t : A → Bool) (t′ : A′ → Bool) (k : Refusal) → ((a : A) (b : A′) → R a b → t a ≡ t′ b) → Drops s end R (onlyFit t k q) (onlyFit t′ k q′)
     unfolding onlyFit
-    drops-only t t′ k e = record { like = λ l w. like-bind (q l) (q′ l) _ _ (F .like l w) λ a i. like-guard (t a) (t′ (f a)) k k (got a) (got (f a)) (e a) refl λ _. gots refl }
+    drops-only t t′ k e = record { like = λ l w. like-bind (q l) (q′ l) _ _ (F .like l w) λ a b i j r. rw (e a b r) (like-guard (t′ b) k (got a) (got b) λ _. gots r) }
 
-module _ {s : List ℕ} {A A′ : Type 0} {f : A → A′} {q : ℕ → Filler A} {q′ : ℕ → Filler A′} (Q : (e : ℕ) → Drops s e f (q e) (q′ e)) (end : ℕ) where
-  -- what g and g′ hand back is the same, seen through h
-  pub drops-hand : {B B′ : Type 0} (g : A → List ℕ → ℕ → B) (g′ : A′ → List ℕ → ℕ → B′) (h : B → B′)
-      → ((a : A) (b : List ℕ) → Stands s end b → q′ end b ≡ got (f a) → h (g a b end) ≡ g′ (f a) b end) → Drops s end h (handFit g q end) (handFit g′ q′ end)
+module _ {s : List ℕ} {A A′ : Type 0} {R : A → A′ → Type 0} {q : ℕ → Filler A} {q′ : ℕ → Filler A′} (H : (e : ℕ) → Drops s e R (q e) (q′ e)) (end : ℕ) where
+  -- Q relates what g and g′ hand back
+  pub drops-hand : {B B′ : Type 0} (Q : B → B′ → Type 0) (g : A → List ℕ → ℕ → B) (g′ : A′ → List ℕ → ℕ → B′)
+      → ((a : A) (a′ : A′) (b : List ℕ) → Stands s end b → q′ end b ≡ got a′ → R a a′ → Q (g a b end) (g′ a′ b end)) → Drops s end Q (handFit g q end) (handFit g′ q′ end)
   unfolding handFit
-  drops-hand g g′ h e = record { like = λ l w. like-bind (q end l) (q′ end l) _ _ (Q end .like l w) λ a i. gots (e a l w (like-got (q end l) (q′ end l) a (Q end .like l w) i)) }
+  drops-hand Q g g′ e = record { like = λ l w. like-bind (q end l) (q′ end l) _ _ (H end .like l w) λ a a′ i j r. gots (e a a′ l w j r) }
 
   -- a length, and what fills as many bytes: these end elsewhere
-  pub forgets-sized : {n : Reader ℕ} {N : Gram ℕ} (k : ℕ → List ℕ → Refusal) → Reads n N → Forgets s end f (sizedOf n k q end) (sizedOf n k q′ end)
+  pub forgets-sized : {n : Reader ℕ} {N : Gram ℕ} (k : ℕ → List ℕ → Refusal) → Reads n N → Forgets s end R (sizedOf n k q end) (sizedOf n k q′ end)
   unfolding sizedOf
-  forgets-sized {n = n} k R = record {
-    like = λ l w. like-bind (n l) (n l) _ _ (like-same (n l)) λ x i.
-        let end′ = end - length (drop (x .0) (x .1)) in
-        let b = take (x .0) (x .1) in
-        like-guard (leb (x .0) (length (x .1))) (leb (x .0) (length (x .1))) (k (x .0) (x .1)) (k (x .0) (x .1)) _ _ refl refl λ t.
-        let m = leb→le (x .0) (length (x .1)) (T-of (leb (x .0) (length (x .1))) t) in
-        like-bind (q end′ b) (q′ end′ b) _ _ (Q end′ .like b (stands-part (x .0) (x .1) m (left (forgets-same n) R l x w i))) λ a j. gots refl;
+  forgets-sized {n = n} k T = record {
+    like = λ l w. like-bind (n l) (n l) _ _ (first-same (n l)) λ x y i j r.
+        rw (r .0, r .1) (like-guard (leb (y .0) (length (y .1))) (k (y .0) (y .1)) _ _ λ t.
+        let end′ = end - length (drop (y .0) (y .1)) in
+        let b = take (y .0) (y .1) in
+        let m = leb→le (y .0) (length (y .1)) (T-of (leb (y .0) (length (y .1))) t) in
+        like-bind (q end′ b) (q′ end′ b) _ _ (H end′ .like b (stands-part (y .0) (y .1) m (left (forgets-same n) T l y w j))) λ a a′ _ _ h. gots (h, refl));
   }

@@ -1,7 +1,7 @@
 -- The n-th item at a place: of a record that was read, items 0, 1, .. are the value's list in order, and then 21. Assumes nothing.
-use mathlib.Core.Path.{_≡_, refl, sym, ap, _∙_}
+use mathlib.Core.Path.{_≡_, refl, sym, ap, _∙_, subst}
 use mathlib.Core.Logic.{_↔_}
-use mathlib.Core.Option.{Option, some}
+use mathlib.Core.Option.{Option, none, some}
 use mathlib.Core.Bool.{Bool, true, false}
 use mathlib.Core.List.{List, [], _∷_, _++_, map, append-nil}
 use Prim.Native.Nat.{ℕ, zero, suc, _+_, _-_, _≤_}
@@ -10,20 +10,18 @@ use lib.Dec.{eqb, leb, leb→le}
 use lib.ListN.{length, replicate, length-replicate, take, drop, length-drop, take-append-drop}
 use lib.Seq.{length-take-le}
 use Rattle.grammar.specs.Choice.{pick}
-use Rattle.grammar.specs.Gram.{Gram, Only, Many, Solid}
+use Rattle.grammar.specs.Gram.{Only, Many}
 use Rattle.grammar.specs.Tables.{Place, publishPlace, subscribePlace, ackPlace}
-use Rattle.grammar.specs.Record.{Prop, allOf, PublishProps, SubscribeProps, AckProps, Publish, Filter, publish}
-use Rattle.grammar.specs.Sentence.{Value, Property, FilterOf, someOf}
-use Rattle.reading.specs.Refusal.{Refusal, accepted}
-use Rattle.reading.specs.Reader.{Fit, got, bad, Reader, Filler, _>>=_, _>>_, guard}
-use Rattle.reading.specs.Read.{Shape, asBytes, propertyOf, propertiesFit, filterOf, filtersFit, readOf}
-use Rattle.reading.specs.Place.{Span, partOf, asPlaces, readPlacedOf, noItem, orNoItem, again, nthOf, valuesAt, userAt, subscriptionAt, filterAt, listOf, onGot, onSome, sayVal, sayProp, sayFilter, sayPublishProps, saySubscribeProps, sayAckProps, sayAnswer}
-use Rattle.reading.proofs.Lists.{T-of, leb-yes}
-use Rattle.reading.proofs.Reading.{bad-got, Reads, Fills}
-use Rattle.reading.proofs.Fields.{reads-property, property-solid, fills-properties}
-use Rattle.reading.proofs.Packets.{reads-filter, filter-solid, fills-filters}
-use Rattle.reading.proofs.Forget.{Like, gots, bads, like-got, like-bind, like-guard, like-is, Stands, Forgets, Drops}
-use Rattle.reading.proofs.Places.{property-says, properties-says, filter-says, filters-says, placed-says}
+use Rattle.grammar.specs.Record.{Prop, allOf, PublishProps, SubscribeProps, AckProps, Filter, publish, ack, subscribe, ping}
+use Rattle.grammar.specs.Sentence.{Value, Property, FilterOf, someOf, Packet}
+use Rattle.reading.specs.Refusal.{Refusal, nr, accepted}
+use Rattle.reading.specs.Reader.{Fit, got, bad, Filler, _>>=_, _>>_, guard}
+use Rattle.reading.specs.Read.{Shape, asBytes, propertiesFit, filtersFit, readOf}
+use Rattle.reading.specs.Place.{Span, partOf, asPlaces, Placed, readPlacedOf, noItem, orNoItem, again, nthOf, valuesAt, userAt, subscriptionAt, filterAt, onGot, ifSome, sayVal, sayProp, sayFilter, sayPublishProps, saySubscribeProps, sayAckProps, say, Lists, OnBoth, neither, each, PublishItems, SubscribeItems, AckItems, Items, ofPublish, ofAck, ofSubscribe, ofPing}
+use Rattle.reading.proofs.Lists.{T-of}
+use Rattle.reading.proofs.Reading.{bad-got, got-inj, from-got, from-bind}
+use Rattle.reading.proofs.Forget.{Like, gots, bads, Via, like-bind, like-guard, like-is, Stands, Drops}
+use Rattle.reading.proofs.Places.{block-iff, run-iff, properties-says, filters-says, placed-accepted}
 use Rattle.reading.proofs.Refusing.{got-bad, of-bind}
 
 -- ---- any place within s
@@ -39,37 +37,41 @@ span-stands s p h =
       stop = omega (arith, i, j);
     }
 
-or-like : {A B : Type 0} {f : A → B} (m : Fit A) (m′ : Fit B) → Like f m m′ → Like f (orNoItem m) (orNoItem m′)
-or-like _ _ (gots e) = gots e
+or-like : {A B : Type 0} {R : A → B → Type 0} (m : Fit A) (m′ : Fit B) → Like R m m′ → Like R (orNoItem m) (orNoItem m′)
+or-like _ _ (gots r) = gots r
 or-like _ _ bads = bads
 
-again-like : {A B : Type 0} {f : A → B} {q : ℕ → Filler A} {q′ : ℕ → Filler B} (s : List ℕ) → ((e : ℕ) → Drops s e f (q e) (q′ e)) → (p : Span) → Like f (again q s p) (again q′ s p)
+again-like : {A B : Type 0} {R : A → B → Type 0} {q : ℕ → Filler A} {q′ : ℕ → Filler B} (s : List ℕ) → ((e : ℕ) → Drops s e R (q e) (q′ e)) → (p : Span) → Like R (again q s p) (again q′ s p)
 unfolding again
-again-like {q = q} {q′ = q′} s Q p =
+again-like {q = q} {q′ = q′} s H p =
     let e : ℕ = p .start + p .len in
-    like-guard (leb e (length s)) (leb e (length s)) noItem noItem _ _ refl refl λ t.
-    or-like (q e (partOf s p)) (q′ e (partOf s p)) (Q e .like (partOf s p) (span-stands s p (leb→le e (length s) (T-of (leb e (length s)) t))))
+    like-guard (leb e (length s)) noItem _ _ λ t.
+    or-like (q e (partOf s p)) (q′ e (partOf s p)) (H e .like (partOf s p) (span-stands s p (leb→le e (length s) (T-of (leb e (length s)) t))))
 
 -- the only refusal is 21
-again-bad : {A : Type 0} (q : ℕ → Filler A) (s : List ℕ) (p : Span) (k : Refusal) → again q s p ≡ bad k → k ≡ noItem
+again-bad : {A : Type 0} (q : ℕ → Filler A) (s : List ℕ) (p : Span) (k : Refusal) → again q s p ≡ bad k → k ≡ nr 21 []
 unfolding again
 again-bad {A} q s p k = go (leb (p .start + p .len) (length s)) (q (p .start + p .len) (partOf s p))
   where
-    go : (t : Bool) (m : Fit A) → (guard t noItem >> orNoItem m) ≡ bad k → k ≡ noItem
+    go : (t : Bool) (m : Fit A) → (guard t noItem >> orNoItem m) ≡ bad k → k ≡ nr 21 []
     go false m e = cc
     go true (bad k′) e = cc
     go true (got a) e = cc
 
 -- ---- the n-th of a list
 
-nth-like : {A B : Type 0} (f : A → B) (n : ℕ) (vs : List A) → Like f (nthOf n vs) (nthOf n (map f vs))
-nth-like f n [] = bads
-nth-like f zero (a ∷ vs) = gots refl
-nth-like f (suc n) (a ∷ vs) = nth-like f n vs
+nth-like : {A B : Type 0} (f : A → B) (n : ℕ) (vs : List A) (ws : List B) → map f vs ≡ ws → Like (Via f) (nthOf n vs) (nthOf n ws)
+nth-like {A = A} f n vs ws e = rw (← e) (go n vs)
+  where
+    go : (n : ℕ) (vs : List A) → Like (Via f) (nthOf n vs) (nthOf n (map f vs))
+    go n [] = bads
+    go zero (a ∷ vs) = gots refl
+    go (suc n) (a ∷ vs) = go n vs
 
-nth-list : {A : Type 0} (n : ℕ) (m : Fit (List A)) → ((k : Refusal) → m ≡ bad k → k ≡ noItem) → (m >>= nthOf n) ≡ nthOf n (listOf m)
-nth-list n (got vs) h = refl
-nth-list n (bad k) h = ap bad (h k refl)
+nth-bad : {A : Type 0} (n : ℕ) (vs : List A) (k : Refusal) → nthOf n vs ≡ bad k → k ≡ nr 21 []
+nth-bad n [] k e = cc
+nth-bad zero (a ∷ vs) k e = got-bad e
+nth-bad (suc n) (a ∷ vs) k e = nth-bad n vs k e
 
 all-says : (s : List ℕ) (i : ℕ) (ps : List (Prop Span)) → map (sayVal s) (allOf i ps) ≡ allOf i (map (sayProp s) ps)
 unfolding allOf
@@ -81,103 +83,137 @@ all-says s i (p ∷ ps) = one (eqb (p .0) i) (all-says s i ps)
     one true e = ap (λ (l : List Value). sayVal s (p .1) ∷ l) e
     one false e = e
 
-nth-bad : {A : Type 0} (n : ℕ) (vs : List A) (k : Refusal) → nthOf n vs ≡ bad k → k ≡ noItem
-nth-bad n [] k e = cc
-nth-bad zero (a ∷ vs) k e = got-bad e
-nth-bad (suc n) (a ∷ vs) k e = nth-bad n vs k e
-
-values-only : (h : Shape) (s : List ℕ) (p : Span) (k : Refusal) (place : Place) (i : ℕ) → valuesAt h s p place i ≡ bad k → k ≡ noItem
+values-only : (h : Shape) (s : List ℕ) (p : Span) (k : Refusal) (place : Place) (i : ℕ) → valuesAt h s p place i ≡ bad k → k ≡ nr 21 []
 unfolding valuesAt
 values-only h s p k place i = of-bind (again (propertiesFit h place) s p) _ k (again-bad (propertiesFit h place) s p k) (λ ps e e′. got-bad e′)
 
--- ---- each kind of item, at any place p of any bytes s: what stands at the answer's places is the n-th of the list that p says
+-- ---- each kind of item, at any place p of any bytes s: what stands at the answer's places is the item in bytes
 
 module _ (s : List ℕ) (p : Span) where
-  values-like : (place : Place) (i : ℕ) → Like (map (sayVal s)) (valuesAt asPlaces s p place i) (valuesAt asBytes s p place i)
+  values-like : (place : Place) (i : ℕ) → Like (Via (map (sayVal s))) (valuesAt asPlaces s p place i) (valuesAt asBytes s p place i)
   unfolding valuesAt
-  values-like place i = like-bind (again (propertiesFit asPlaces place) s p) (again (propertiesFit asBytes place) s p) _ _ (again-like s (properties-says s place) p) λ ps e. gots (all-says s i ps)
+  values-like place i = like-bind (again (propertiesFit asPlaces place) s p) (again (propertiesFit asBytes place) s p) _ _ (again-like s (properties-says s place) p) λ ps qs _ _ r.
+      gots (all-says s i ps ∙ ap (allOf i) r)
 
-  nth-value : (place : Place) (i n : ℕ) → onGot (sayVal s) (valuesAt asPlaces s p place i >>= nthOf n) ≡ nthOf n (listOf (valuesAt asBytes s p place i))
+  nth-value : (place : Place) (i n : ℕ) → onGot (sayVal s) (valuesAt asPlaces s p place i >>= nthOf n) ≡ (valuesAt asBytes s p place i >>= nthOf n)
   nth-value place i n =
       like-is (valuesAt asPlaces s p place i >>= nthOf n) (valuesAt asBytes s p place i >>= nthOf n) (onGot (sayVal s)) (λ _. refl) (λ _. refl)
-      (like-bind (valuesAt asPlaces s p place i) (valuesAt asBytes s p place i) (nthOf n) (nthOf n) (values-like place i) λ vs e. nth-like (sayVal s) n vs)
-      ∙ nth-list n (valuesAt asBytes s p place i) (λ k. values-only asBytes s p k place i)
+      (like-bind (valuesAt asPlaces s p place i) (valuesAt asBytes s p place i) (nthOf n) (nthOf n) (values-like place i) λ vs ws _ _ r. nth-like (sayVal s) n vs ws r)
 
-  pub nth-user : (place : Place) (n : ℕ) → onGot (sayVal s) (userAt asPlaces s p place n) ≡ nthOf n (listOf (valuesAt asBytes s p place 38))
+  pub nth-user : (place : Place) (n : ℕ) → onGot (sayVal s) (userAt asPlaces s p place n) ≡ userAt asBytes s p place n
   unfolding userAt
-  nth-user place n = nth-value place 38 n
+  nth-user place n = nth-value place _ n
 
-  pub nth-subscription : (n : ℕ) → onGot (sayVal s) (subscriptionAt asPlaces s p n) ≡ nthOf n (listOf (valuesAt asBytes s p publishPlace 11))
+  pub nth-subscription : (n : ℕ) → onGot (sayVal s) (subscriptionAt asPlaces s p n) ≡ subscriptionAt asBytes s p n
   unfolding subscriptionAt
-  nth-subscription n = nth-value publishPlace 11 n
+  nth-subscription n = nth-value _ _ n
 
-  pub nth-filter : (n : ℕ) → onGot (sayFilter s) (filterAt asPlaces s p n) ≡ nthOf n (listOf (again (filtersFit asBytes) s p))
+  pub nth-filter : (n : ℕ) → onGot (sayFilter s) (filterAt asPlaces s p n) ≡ filterAt asBytes s p n
   unfolding filterAt
   nth-filter n =
       like-is (filterAt asPlaces s p n) (filterAt asBytes s p n) (onGot (sayFilter s)) (λ _. refl) (λ _. refl)
-      (like-bind (again (filtersFit asPlaces) s p) (again (filtersFit asBytes) s p) (nthOf n) (nthOf n) (again-like s (filters-says s) p) λ vs e. nth-like (sayFilter s) n vs)
-      ∙ nth-list n (again (filtersFit asBytes) s p) (again-bad (filtersFit asBytes) s p)
+      (like-bind (again (filtersFit asPlaces) s p) (again (filtersFit asBytes) s p) (nthOf n) (nthOf n) (again-like s (filters-says s) p) λ vs ws _ _ r. nth-like (sayFilter s) n vs ws r)
 
--- ---- 01, row 21, without the reader: what is read at a place fills it by the grammar, within the bytes, and all else is 21
+-- ---- 01, row 21, without the reader: an item is given exactly when the place holds a list that has it, and all else is 21
 
-module _ {A : Type 0} {q : ℕ → Filler A} {G : Gram A} (S : (e : ℕ) → Fills (q e) G) (s : List ℕ) (p : Span) (v : A) where
-  or-got : (m : Fit A) → orNoItem m ≡ got v → m ≡ got v
-  or-got (got a) e = e
-  or-got (bad k) e = absurd (bad-got e)
+bind-iff : {A B : Type 0} (m : Fit A) (f : A → Fit B) (z : B) → ((m >>= f) ≡ got z) ↔ ((a : A) × (m ≡ got a) × (f a ≡ got z))
+bind-iff {A = A} {B = B} m f z = (from-bind {C = λ (y : B). (a : A) × (m ≡ got a) × (f a ≡ got y)} m f (λ a e y e′. (a, e, e′)) z, λ (a, e, e′). rw e e′)
 
-  fills-there : (t : Bool) → leb (p .start + p .len) (length s) ≡ t → (guard t noItem >> orNoItem (q (p .start + p .len) (partOf s p))) ≡ got v → (p .start + p .len ≤ length s) × G v (partOf s p)
-  fills-there true h e =
-      (leb→le (p .start + p .len) (length s) (T-of (leb (p .start + p .len) (length s)) h), S (p .start + p .len) .back (partOf s p) v (or-got (q (p .start + p .len) (partOf s p)) e))
-  fills-there false h e = absurd (bad-got e)
-
-  -- the place lies within the bytes, and v fills it
-  pub again-iff : (again q s p ≡ got v) ↔ ((p .start + p .len ≤ length s) × G v (partOf s p))
-  unfolding again
-  again-iff = (
-    fills-there (leb (p .start + p .len) (length s)) refl,
-    λ t. rw (leb-yes (p .start + p .len) (length s) (t .0), S (p .start + p .len) .whole v (partOf s p) (t .1)),
+module _ (s : List ℕ) (p : Span) (n : ℕ) where
+  nth-iff : (place : Place) (i : ℕ) (v : Value) → ((valuesAt asBytes s p place i >>= nthOf n) ≡ got v)
+      ↔ ((ps : List (Prop (List ℕ))) × (p .start + p .len ≤ length s) × Many (Property place) ps (partOf s p) × (nthOf n (allOf i ps) ≡ got v))
+  unfolding valuesAt
+  nth-iff place i v = (
+    from-bind {C = λ (y : Value). (ps : List (Prop (List ℕ))) × (p .start + p .len ≤ length s) × Many (Property place) ps (partOf s p) × (nthOf n (allOf i ps) ≡ got y)}
+        (valuesAt asBytes s p place i) (nthOf n) (from-values place i) v,
+    λ (ps, h, g, e). rw (block-iff place s p ps .1 (h, g)) e,
   )
+    where
+      from-values : (place : Place) (i : ℕ) (vs : List Value) → valuesAt asBytes s p place i ≡ got vs → (y : Value) → nthOf n vs ≡ got y
+          → (ps : List (Prop (List ℕ))) × (p .start + p .len ≤ length s) × Many (Property place) ps (partOf s p) × (nthOf n (allOf i ps) ≡ got y)
+      from-values place i vs e y e′ =
+          let (ps, a, b) = bind-iff (again (propertiesFit asBytes place) s p) _ vs .0 e in
+          let (h, g) = block-iff place s p ps .0 a in
+          (ps, h, g, ap (nthOf n) (got-inj b) ∙ e′)
 
-pub block-iff : (place : Place) (s : List ℕ) (p : Span) (ps : List (Prop (List ℕ))) → (again (propertiesFit asBytes place) s p ≡ got ps) ↔ ((p .start + p .len ≤ length s) × Many (Property place) ps (partOf s p))
-block-iff place s p ps = again-iff (fills-properties place) s p ps
+  -- an n-th user property is given exactly when the place is a well-formed block of the row, of the bytes, that has so many
+  pub user-iff : (place : Place) (v : Value) → (userAt asBytes s p place n ≡ got v)
+      ↔ ((ps : List (Prop (List ℕ))) × (p .start + p .len ≤ length s) × Many (Property place) ps (partOf s p) × (nthOf n (allOf 38 ps) ≡ got v))
+  unfolding userAt
+  user-iff place v = nth-iff place 38 v
 
-pub run-iff : (s : List ℕ) (p : Span) (fs : List (Filter (List ℕ))) → (again (filtersFit asBytes) s p ≡ got fs) ↔ ((p .start + p .len ≤ length s) × Only someOf (Many FilterOf) fs (partOf s p))
-run-iff s p fs = again-iff fills-filters s p fs
+  pub subscription-iff : (v : Value) → (subscriptionAt asBytes s p n ≡ got v)
+      ↔ ((ps : List (Prop (List ℕ))) × (p .start + p .len ≤ length s) × Many (Property publishPlace) ps (partOf s p) × (nthOf n (allOf 11 ps) ≡ got v))
+  unfolding subscriptionAt
+  subscription-iff v = nth-iff publishPlace 11 v
+
+  -- an n-th filter exactly when it is a run of filters that has so many
+  pub filter-iff : (f : Filter (List ℕ)) → (filterAt asBytes s p n ≡ got f)
+      ↔ ((fs : List (Filter (List ℕ))) × (p .start + p .len ≤ length s) × Only someOf (Many FilterOf) fs (partOf s p) × (nthOf n fs ≡ got f))
+  unfolding filterAt
+  filter-iff f = (
+    λ e. let (fs, a, b) = bind-iff (again (filtersFit asBytes) s p) (nthOf n) f .0 e in let (h, g) = run-iff s p fs .0 a in (fs, h, g, b),
+    λ (fs, h, g, e). bind-iff (again (filtersFit asBytes) s p) (nthOf n) f .1 (fs, run-iff s p fs .1 (h, g), e),
+  )
 
 module _ (h : Shape) (s : List ℕ) (p : Span) (k : Refusal) where
   -- no other refusal is given, whatever the bytes, the place and n
-  pub user-only : (place : Place) (n : ℕ) → userAt h s p place n ≡ bad k → k ≡ noItem
+  pub user-only : (place : Place) (n : ℕ) → userAt h s p place n ≡ bad k → k ≡ nr 21 []
   unfolding userAt
   user-only place n = of-bind (valuesAt h s p place 38) _ k (values-only h s p k place 38) (λ vs e. nth-bad n vs k)
 
-  pub subscription-only : (n : ℕ) → subscriptionAt h s p n ≡ bad k → k ≡ noItem
+  pub subscription-only : (n : ℕ) → subscriptionAt h s p n ≡ bad k → k ≡ nr 21 []
   unfolding subscriptionAt
   subscription-only n = of-bind (valuesAt h s p publishPlace 11) _ k (values-only h s p k publishPlace 11) (λ vs e. nth-bad n vs k)
 
-  pub filter-only : (n : ℕ) → filterAt h s p n ≡ bad k → k ≡ noItem
+  pub filter-only : (n : ℕ) → filterAt h s p n ≡ bad k → k ≡ nr 21 []
   unfolding filterAt
   filter-only n = of-bind (again (filtersFit h) s p) _ k (again-bad (filtersFit h) s p k) (λ vs e. nth-bad n vs k)
 
--- ---- so of a placed record: the n-th item is the n-th of the list that the record says (`say`), and 21 past its end
+-- ---- what was read of what is present
 
-module _ (s : List ℕ) (n : ℕ) where
-  pub nth-of-publish : (ps : PublishProps Span (λ A. Span)) → onGot (sayVal s) (userAt asPlaces s (ps .user) publishPlace n) ≡ nthOf n (sayPublishProps s ps .user)
-  nth-of-publish ps = nth-user s (ps .user) publishPlace n
+if-some : {A B : Type 0} {R : A → B → Type 0} (f : A → Fit B) → ((a : A) (b : B) → f a ≡ got b → R a b) → (o : Option A) (z : Option B) → ifSome f o ≡ got z → OnBoth R o z
+if-some {R = R} f h none z e = subst (OnBoth R none) (got-inj e) neither
+if-some {A = A} {B = B} {R = R} f h (some a) z e = go (f a) refl z e
+  where
+    go : (m : Fit B) → f a ≡ m → (z : Option B) → onGot some m ≡ got z → OnBoth R (some a) z
+    go (got b) e = from-got (OnBoth R (some a)) (some b) (each (h a b e))
+    go (bad k) e = λ z e′. absurd (bad-got e′)
 
-  pub nth-identifier : (ps : PublishProps Span (λ A. Span)) → onGot (sayVal s) (subscriptionAt asPlaces s (ps .subscriptions) n) ≡ nthOf n (sayPublishProps s ps .subscriptions)
-  nth-identifier ps = nth-subscription s (ps .subscriptions) n
+-- ---- so of a placed record whose lists are read at their places: items from 0 on are the record's list, in order, and then 21
 
-  pub nth-of-subscribe : (ps : SubscribeProps Span (λ A. Span)) → onGot (sayVal s) (userAt asPlaces s (ps .user) subscribePlace n) ≡ nthOf n (saySubscribeProps s ps .user)
-  nth-of-subscribe ps = nth-user s (ps .user) subscribePlace n
+module _ (s : List ℕ) where
+  user-lists : (place : Place) (p : Span) (vs : List Value) → valuesAt asBytes s p place 38 ≡ got vs → Lists (userAt asPlaces s p place) (sayVal s) vs
+  unfolding userAt
+  user-lists place p vs e n = nth-user s p place n ∙ rw e
 
-  pub nth-of-ack : (ps : AckProps Span (λ A. Span)) → onGot (sayVal s) (userAt asPlaces s (ps .user) ackPlace n) ≡ nthOf n (sayAckProps s ps .user)
-  nth-of-ack ps = nth-user s (ps .user) ackPlace n
+  subscription-lists : (p : Span) (vs : List Value) → valuesAt asBytes s p publishPlace 11 ≡ got vs → Lists (subscriptionAt asPlaces s p) (sayVal s) vs
+  unfolding subscriptionAt
+  subscription-lists p vs e n = nth-subscription s p n ∙ rw e
 
--- ---- of an accepted Publish with a block: the value has a block, and the user properties and identifiers at the placed record's places are its lists
+  filter-lists : (p : Span) (fs : List (Filter (List ℕ))) → again (filtersFit asBytes) s p ≡ got fs → Lists (filterAt asPlaces s p) (sayFilter s) fs
+  unfolding filterAt
+  filter-lists p fs e n = nth-filter s p n ∙ rw e
 
-pub items-of-publish : (limit : Option ℕ) (s : List ℕ) (m : Publish Span (λ A. Span)) (ps : PublishProps Span (λ A. Span)) (t : ℕ) → readPlacedOf limit s ≡ accepted (publish m) t → m .props ≡ some ps
-    → (w : Publish (List ℕ) List) × (qs : PublishProps (List ℕ) List) × (readOf limit s ≡ accepted (publish w) t) × (w .props ≡ some qs)
-    × ((n : ℕ) → onGot (sayVal s) (userAt asPlaces s (ps .user) publishPlace n) ≡ nthOf n (qs .user))
-    × ((n : ℕ) → onGot (sayVal s) (subscriptionAt asPlaces s (ps .subscriptions) n) ≡ nthOf n (qs .subscriptions))
-items-of-publish limit s m ps t e i =
-    (_, sayPublishProps s ps, sym (placed-says limit s) ∙ ap (sayAnswer s) e, ap (onSome (sayPublishProps s)) i, λ n. nth-of-publish s n ps, λ n. nth-identifier s n ps)
+  publish-items : (ps : PublishProps Span (λ A. Span)) (qs : PublishProps (List ℕ) List) → sayPublishProps s ps ≡ got qs → PublishItems s ps qs
+  publish-items ps =
+      from-bind (valuesAt asBytes s (ps .user) publishPlace 38) _ λ us e.
+      from-bind (valuesAt asBytes s (ps .subscriptions) publishPlace 11) _ λ ns e′.
+      from-got (PublishItems s ps) _ (user-lists publishPlace (ps .user) us e, subscription-lists (ps .subscriptions) ns e′)
+
+  subscribe-items : (ps : SubscribeProps Span (λ A. Span)) (qs : SubscribeProps (List ℕ) List) → saySubscribeProps s ps ≡ got qs → SubscribeItems s ps qs
+  subscribe-items ps = from-bind (valuesAt asBytes s (ps .user) subscribePlace 38) _ λ us e. from-got (SubscribeItems s ps) _ (user-lists subscribePlace (ps .user) us e)
+
+  ack-items : (ps : AckProps Span (λ A. Span)) (qs : AckProps (List ℕ) List) → sayAckProps s ps ≡ got qs → AckItems s ps qs
+  ack-items ps = from-bind (valuesAt asBytes s (ps .user) ackPlace 38) _ λ us e. from-got (AckItems s ps) _ (user-lists ackPlace (ps .user) us e)
+
+  say-items : (v : Placed) (w : Packet) → say s v ≡ got w → Items s v w
+  say-items (publish m) = from-bind (ifSome (sayPublishProps s) (m .props)) _ λ ps e. from-got (Items s (publish m)) _ (ofPublish (if-some (sayPublishProps s) publish-items (m .props) ps e))
+  say-items (ack k m) = from-bind (ifSome (sayAckProps s) (m .props)) _ λ ps e. from-got (Items s (ack k m)) _ (ofAck (if-some (sayAckProps s) ack-items (m .props) ps e))
+  say-items (subscribe m) = from-bind (ifSome (saySubscribeProps s) (m .props)) _ λ ps e. from-bind (again (filtersFit asBytes) s (m .filters)) _ λ fs e′.
+      from-got (Items s (subscribe m)) _ (ofSubscribe (if-some (saySubscribeProps s) subscribe-items (m .props) ps e) (filter-lists (m .filters) fs e′))
+  say-items (ping k) = from-got (Items s (ping k)) (ping k) ofPing
+
+-- 01: of a record that was read, with places v and in bytes w: the items from 0 on are w's lists, in order, and then 21
+pub read-items : (limit : Option ℕ) (s : List ℕ) (v : Placed) (n : ℕ) → readPlacedOf limit s ≡ accepted v n → (w : Packet) × (readOf limit s ≡ accepted w n) × Items s v w
+read-items limit s v n e = let (w, i, j) = placed-accepted limit s v n e in (w, j, say-items s v w i)

@@ -8,5 +8,7 @@ pub mod Places
 pub mod Items
 pub mod Refusing
 pub mod Faults
+pub mod Numbers
 pub mod Rows
 pub mod Stream
+pub mod Theorems

@@ -10,9 +10,9 @@ use Rattle.grammar.specs.Gram.{Gram, Only, only, Many, Solid}
 use Rattle.grammar.specs.Tables.{publishPlace, subscribePlace, ackPlace, Layout, aPublish, anAck, aSubscribe, aPing, kinds, reserved, isPing}
 use Rattle.grammar.specs.Record.{AckProps, kindOf, flagQos, mkPublish, mkAck, mkFilter, mkSubscribe, mkPing}
 use Rattle.grammar.specs.Sentence.{Any, Block, publishOf, subscribeOf, ackOf, notThree, notZero, Ident, publishGood, qosFine, ruleFine, FilterOf, someOf, AckRest, plain, coded, full, Packet, Fields, Body, body}
-use Rattle.reading.specs.Refusal.{Refusal, nr, cut}
-use Rattle.reading.specs.Reader.{got, Filler, _>>=_, _>>_, guard, exactFit}
-use Rattle.reading.specs.Read.{identOf, anyBytes, asBytes, blockOf, publishAs, subscribeAs, ackAs, ackRestFit, filterOf, filtersFit, messageFit, fieldsFit, layoutFit, bodyFit}
+use Rattle.reading.specs.Refusal.{Refusal, cut}
+use Rattle.reading.specs.Reader.{got, Filler, _>>=_, _>>_, guard}
+use Rattle.reading.specs.Read.{identOf, anyBytes, asBytes, blockOf, publishAs, subscribeAs, ackAs, ackBlockFit, ackRestFit, filterOf, filtersFit, messageFit, fieldsFit, layoutFit, bodyFit}
 use Rattle.reading.proofs.Lists.{eq-of}
 use Rattle.reading.proofs.Reading.{bad-got, from-got, from-bind, from-guard, Reads, Fills, reads-none, reads-map, reads-only, reads-then, fills-map, fills-as, fills-many, fills-then, fills-exact, fills-only, fills-is, solid-map, solid-then, solid-sized, solid-only}
 use Rattle.reading.proofs.Fields.{reads-byte, reads-big, big-solid, any-fine, fills-string, reads-bytes, reads-text, reads-block, block-solid}
@@ -24,24 +24,28 @@ reads-ack = reads-block ackPlace (ackAs asBytes) ackOf (λ _ _ _. refl)
 
 module _ (rs : List ℕ) (end : ℕ) where
   full-whole : (c : ℕ) (ps : Option (AckProps (List ℕ) List)) (b : List ℕ) → isIn c rs ≡ true → Block ackPlace ackOf ps b → ackRestFit asBytes rs end (c ∷ b) ≡ got (c, ps)
-  unfolding ackRestFit
+  unfolding ackRestFit ackBlockFit
   full-whole c ps [] h g = absurd (block-solid ackPlace ackOf ps [] g refl)
   full-whole c ps (x ∷ b) h g = rw (h, fills-exact cut (reads-ack end) .whole ps (x ∷ b) g)
 
   rest-whole : (a : ℕ × Option (AckProps (List ℕ) List)) (b : List ℕ) → AckRest rs a b → ackRestFit asBytes rs end b ≡ got a
-  unfolding ackRestFit
+  unfolding ackRestFit ackBlockFit
   rest-whole _ _ plain = refl
   rest-whole _ _ (coded h) = rw h
   rest-whole _ _ (full {c = c} {ps = ps} {b = b} h g) = full-whole c ps b h g
 
+  block-back : (c : ℕ) (b : List ℕ) → isIn c rs ≡ true → (ps : Option (AckProps (List ℕ) List)) → ackBlockFit asBytes end b ≡ got ps → AckRest rs (c, ps) (c ∷ b)
+  unfolding ackBlockFit
+  block-back c [] h = from-got (λ ps. AckRest rs (c, ps) (c ∷ [])) none (coded h)
+  block-back c (x ∷ r) h = λ ps e. full h (fills-exact cut (reads-ack end) .back (x ∷ r) ps e)
+
   rest-back : (b : List ℕ) (z : ℕ × Option (AckProps (List ℕ) List)) → ackRestFit asBytes rs end b ≡ got z → AckRest rs z b
   unfolding ackRestFit
   rest-back [] = from-got (λ z. AckRest rs z []) (0, none) plain
-  rest-back (c ∷ []) = from-guard (isIn c rs) (nr 15 (c ∷ [])) (got (c, none)) λ h. from-got (λ z. AckRest rs z (c ∷ [])) (c, none) (coded h)
-  rest-back (c ∷ x ∷ r) =
-      from-guard (isIn c rs) (nr 15 (c ∷ [])) (exactFit (blockOf asBytes ackPlace (ackAs asBytes) end) cut (x ∷ r) >>= λ ps. got (c, ps)) λ h.
-      from-bind (exactFit (blockOf asBytes ackPlace (ackAs asBytes) end) cut (x ∷ r)) (λ ps. got (c, ps)) λ ps e.
-      from-got (λ z. AckRest rs z (c ∷ x ∷ r)) (c, ps) (full h (fills-exact cut (reads-ack end) .back (x ∷ r) ps e))
+  rest-back (c ∷ r) =
+      from-guard (isIn c rs) _ (ackBlockFit asBytes end r >>= λ ps. got (c, ps)) λ h.
+      from-bind (ackBlockFit asBytes end r) (λ ps. got (c, ps)) λ ps e.
+      from-got (λ z. AckRest rs z (c ∷ r)) (c, ps) (block-back c r h ps e)
 
   pub fills-rest : Fills (ackRestFit asBytes rs end) (AckRest rs)
   fills-rest = record { whole = rest-whole; back = rest-back }
@@ -51,18 +55,18 @@ module _ (rs : List ℕ) (end : ℕ) where
 pub reads-ident : (q : ℕ) → Reads (identOf q) (Ident q)
 unfolding identOf
 reads-ident zero = reads-none 0
-reads-ident (suc q) = reads-only notZero (λ _. nr 12 []) (reads-big cut 2)
+reads-ident (suc q) = reads-only notZero _ (reads-big _ 2)
 
 pub reads-filter : (end : ℕ) → Reads (filterOf asBytes end) FilterOf
 unfolding filterOf
-reads-filter end = reads-map mkFilter (reads-then (reads-text end) (λ _. reads-only qosFine (λ _. nr 11 (3 ∷ [])) (reads-only ruleFine (λ _. nr 14 (3 ∷ [])) (reads-byte cut))))
+reads-filter end = reads-map mkFilter (reads-then (reads-text end) (λ _. reads-only qosFine _ (reads-only ruleFine _ (reads-byte _))))
 
 pub filter-solid : Solid FilterOf
 filter-solid = solid-map mkFilter (solid-then (solid-sized (big-solid 1)))
 
 pub fills-filters : (end : ℕ) → Fills (filtersFit asBytes end) (Only someOf (Many FilterOf))
 unfolding filtersFit
-fills-filters end = fills-only someOf (nr 13 []) (fills-many (reads-filter end) filter-solid)
+fills-filters end = fills-only someOf _ (fills-many (reads-filter end) filter-solid)
 
 pub reads-publish-block : (end : ℕ) → Reads (blockOf asBytes publishPlace (publishAs asBytes) end) (Block publishPlace publishOf)
 reads-publish-block = reads-block publishPlace (publishAs asBytes) publishOf (λ _ _ _. refl)
@@ -86,7 +90,7 @@ module _ {q : Filler Packet} {G : Gram Packet} (t : Bool) (k : Refusal) (S : Fil
 pub fills-fields : (f : Layout) (x end : ℕ) → Fills (fieldsFit asBytes f x end) (Fields f x)
 unfolding fieldsFit messageFit
 fills-fields aPublish x end =
-    fills-first (notThree (flagQos x)) (nr 11 (3 ∷ []))
+    fills-first (notThree (flagQos x)) _
     (fills-map (mkPublish x)
     (fills-then (reads-bytes end)
     (λ _. fills-then (reads-ident (flagQos x))
@@ -139,8 +143,8 @@ module _ (x end : ℕ) where
   body-back : (b : List ℕ) (z : Packet) → bodyFit asBytes x end b ≡ got z → Body x z b
   unfolding bodyFit
   body-back b =
-      from-guard (not (isIn (kindOf x) reserved)) (nr 4 (kindOf x ∷ [])) _ λ _.
-      from-guard (or (isPing (lookup kinds (kindOf x))) (not (isEmpty b))) (nr 5 []) _ λ _.
+      from-guard (not (isIn (kindOf x) reserved)) _ _ λ _.
+      from-guard (or (isPing (lookup kinds (kindOf x))) (not (isEmpty b))) _ _ λ _.
       form-back b (lookup kinds (kindOf x)) refl
 
   pub fills-body : Fills (bodyFit asBytes x end) (Body x)

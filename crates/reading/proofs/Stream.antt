@@ -2,25 +2,27 @@
 use mathlib.Core.Path.{_≡_, refl, sym, ap, _∙_}
 use mathlib.Core.Bool.{Bool, true, false}
 use mathlib.Core.Option.{Option, none, some}
-use mathlib.Core.Logic.{inl, inr}
+use mathlib.Core.Logic.{_⊎_, inl, inr}
 use mathlib.Core.List.{List, [], _∷_, _++_, append-assoc}
 use Prim.Native.Nat.{ℕ, _+_, _-_, _≤_, _<_}
 use native.Mathlib.Omega.{arith}
+use lib.Dec.{leb, leb→le, nleb→lt}
 use lib.ListN.{length, length-append}
 use Rattle.grammar.specs.Gram.{Only, only, both, sized, is}
 use Rattle.grammar.specs.Number.{byte, Groups, last, next, Spells}
 use Rattle.grammar.specs.Record.{PacketOf}
 use Rattle.grammar.specs.Sentence.{Packet, Frame, framed, Sentence}
-use Rattle.reading.specs.Refusal.{Refusal, nr, within, over, Answer, refused}
+use Rattle.reading.specs.Refusal.{Refusal, nr, Answer, refused, within, over}
 use Rattle.reading.specs.Fault.{fails, second, sizes, Tops, noTops, aTop, FrameFault, Passing}
 use Rattle.reading.specs.Reader.{Fit, got, bad, onlyOf, thenOf, sizedOf}
 use Rattle.reading.specs.Read.{byteOf, numOf, Shape, frameOf, frameAnswer, readAs, readOf}
-use Rattle.reading.specs.Rows.{Row, underTwo, noEnd, partly, allTops, lacks}
-use Rattle.reading.proofs.Lists.{leb-yes, leb-no, ltb-no, Cuts, cut-in}
+use Rattle.reading.specs.Rows.{Incomplete, underTwo, noEnd, partly, Above, above, allTops, lacks}
+use Rattle.reading.proofs.Lists.{T-of, leb-yes, leb-no, ltb-no, Cuts, cut-in}
+use Rattle.reading.proofs.Reading.{bad-got, got-inj}
 use Rattle.reading.proofs.Fields.{reads-num}
 use Rattle.reading.proofs.Demand.{all-within, whole-answer}
 use Rattle.reading.proofs.Faults.{refuses-frame}
-use Rattle.reading.proofs.Rows.{framing-rows}
+use Rattle.reading.proofs.Rows.{row-1}
 
 module _ (h : Shape) where
   abbrev refusedBy : Refusal → ℕ → Answer (PacketOf (h .Str) (h .Run))
@@ -73,6 +75,39 @@ pub limit-passes : (h : Shape) (m : ℕ) (s : List ℕ) → AtMost m s → readA
 unfolding readAs
 limit-passes h m s o = rw (same-frame m (length s) s o)
 
+-- 01, row 3: either the header is whole and R is above the limit m, and the answer is 3 with R and m, nothing taken; or it is the answer with no limit
+abbrev pub Limited : Shape → ℕ → List ℕ → Type 0
+Limited h m s = ((R : ℕ) × Above s R m × (readAs h (some m) s ≡ refused 3 (R ∷ m ∷ []) 0)) ⊎ (((R : ℕ) → Above s R m → ⊥) × (readAs h (some m) s ≡ readAs h none s))
+
+module _ (h : Shape) (m : ℕ) where
+  not-above : (s : List ℕ) → AtMost m s → (R : ℕ) → Above s R m → ⊥
+  not-above _ a R (above {x = x} {b = c} r g o) = let l : R ≤ m = a x R c r refl g in omega arith
+
+  at-most : (s : List ℕ) → AtMost m s → Limited h m s
+  at-most s a = inr (not-above s a, limit-passes h m s a)
+
+  -- the length number that a stream begins with is the one that is read
+  same-length : (x y l : ℕ) (t c r : List ℕ) → x ∷ t ≡ y ∷ (c ++ r) → Spells l c → numOf (nr 1 (1 ∷ [])) 4 t ≡ got (l, r)
+  same-length x y l t c r e g = let i : t ≡ c ++ r = cc in rw i (reads-num (nr 1 (1 ∷ [])) 4 .whole l c r g)
+
+  measured : (x : ℕ) (t : List ℕ) (z : ℕ × List ℕ) → numOf (nr 1 (1 ∷ [])) 4 t ≡ got z → (b : Bool) → leb (z .0) m ≡ b → Limited h m (x ∷ t)
+  measured x t z e true o = at-most (x ∷ t) λ y l c r i g.
+      let j : z .0 ≡ l = ap (λ (u : ℕ × List ℕ). u .0) (got-inj (sym e ∙ same-length x y l t c r i g)) in
+      rw (← j) (leb→le (z .0) m (T-of (leb (z .0) m) o))
+  measured x t z e false o =
+      let (c, i, g) = reads-num (nr 1 (1 ∷ [])) 4 .split t z e in
+      let w : m < z .0 = nleb→lt (z .0) m (rw o tt) in
+      rw i (inl (z .0, above (z .1) g w, limit-refuses h m x (z .0) c (z .1) g w))
+
+  -- a limit adds the size refusal alone
+  pub limit-alone : (s : List ℕ) → Limited h m s
+  limit-alone [] = at-most [] λ x l c r e g. let z : _≡_ {A = ℕ} 0 1 = cc in absurd (omega arith)
+  limit-alone (x ∷ t) = go (numOf (nr 1 (1 ∷ [])) 4 t) refl
+    where
+      go : (n : Fit (ℕ × List ℕ)) → numOf (nr 1 (1 ∷ [])) 4 t ≡ n → Limited h m (x ∷ t)
+      go (bad k) e = at-most (x ∷ t) λ y l c r i g. absurd (bad-got (sym e ∙ same-length x y l t c r i g))
+      go (got z) e = measured x t z e (leb (z .0) m) refl
+
 -- ---- a strict front of a sentence lacks bytes, and just so many
 
 top-test : (b : List ℕ) → Tops b → allTops b ≡ true
@@ -96,8 +131,8 @@ front-tops _ _ _ (z ∷ u) w y (next {k = k} {x = x} {n = n} {b = b} h g) e =
     (aTop {x = z} (omega arith) t, omega arith)
 
 module _ (limit : Option ℕ) where
-  answer-of : (s : List ℕ) (n : ℕ) → Row limit s (nr 1 (n ∷ [])) 0 → readOf limit s ≡ refused 1 (n ∷ []) 0
-  answer-of s n w = framing-rows limit s (n ∷ []) 1 0 refl .1 w
+  answer-of : (s : List ℕ) (n : ℕ) → Incomplete limit s n → readOf limit s ≡ refused 1 (n ∷ []) 0
+  answer-of s n w = row-1 limit s (n ∷ []) 0 .1 (n, w, refl, refl)
 
   module _ (x : ℕ) (c b w : List ℕ) (y : ℕ) (i : within limit (length b) ≡ true) (g : Spells (length b) c) where
     frame-front : (u : List ℕ) → c ++ b ≡ u ++ (y ∷ w) → readOf limit (x ∷ u) ≡ refused 1 (lacks (x ∷ u) (length (x ∷ (c ++ b))) ∷ []) 0

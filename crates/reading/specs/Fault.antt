@@ -13,7 +13,7 @@ use Rattle.grammar.specs.Text.{Utf8}
 use Rattle.grammar.specs.Tables.{Form, u8, u16, u32, number, text, bytes, pair, Place, publishPlace, subscribePlace, ackPlace, Layout, aPublish, anAck, aSubscribe, aPing, kinds, reserved, isPing}
 use Rattle.grammar.specs.Record.{kindOf, flagQos}
 use Rattle.grammar.specs.Sentence.{Bytes, Text, Property, Block, publishOf, subscribeOf, ackOf, notThree, notZero, Ident, qosFine, ruleFine, FilterOf, Packet, Body, Frame}
-use Rattle.reading.specs.Refusal.{Refusal, nr, cut, crossed, lacking, within, over, Answer, accepted, refused}
+use Rattle.reading.specs.Refusal.{Refusal, nr, Answer, accepted, refused, lacking, within, over}
 
 -- bytes, and the refusal with which they break
 abbrev pub Fault : Type 1
@@ -76,49 +76,53 @@ pub data NumFault (c : Refusal) (n : ℕ) : List ℕ → Refusal → Type 0 wher
 
 -- ---- strings and properties
 
+-- 01, row 8: "a string, or a block's L, exceeds what is left around it": the refusal of a length l before the bytes r
+abbrev crossing : ℕ → List ℕ → Refusal
+crossing l r = nr 8 (l ∷ [])
+
 -- 01, rows 7 and 8
 abbrev pub BytesFault : Fault
-BytesFault = SizedFault (Big 2) (BigFault cut 2) crossed Sound
+BytesFault = SizedFault (Big 2) (BigFault (nr 7 []) 2) crossing Sound
 
 -- 01, row 9: "text not UTF-8"
 abbrev pub TextFault : Fault
-TextFault = SizedFault (Big 2) (BigFault cut 2) crossed (IsFault Utf8 (nr 9 []))
+TextFault = SizedFault (Big 2) (BigFault (nr 7 []) 2) crossing (IsFault Utf8 (nr 9 []))
 
 -- 01, table of properties
 abbrev pub ValueFault : Form → Fault
-ValueFault u8 = ByteFault cut
-ValueFault u16 = BigFault cut 2
-ValueFault u32 = BigFault cut 4
-ValueFault number = NumFault cut 4
+ValueFault u8 = ByteFault (nr 7 [])
+ValueFault u16 = BigFault (nr 7 []) 2
+ValueFault u32 = BigFault (nr 7 []) 4
+ValueFault number = NumFault (nr 7 []) 4
 ValueFault text = TextFault
 ValueFault bytes = BytesFault
 ValueFault pair = ThenFault Text TextFault TextFault
 
 -- 01, row 10: "identifier not in its place's row"
 pub data PropertyFault (place : Place) : List ℕ → Refusal → Type 0 where
-  noId : PropertyFault place [] cut
+  noId : PropertyFault place [] (nr 7 [])
   unknown : {i : ℕ} {s : List ℕ} → lookup place i ≡ none → PropertyFault place (i ∷ s) (nr 10 (i ∷ []))
   value : {i : ℕ} {kind : Form} {s : List ℕ} {k : Refusal} → lookup place i ≡ some kind → ValueFault kind s k → PropertyFault place (i ∷ s) k
 
 -- 01, rows 7, 2 and 8 for L, then the first property that breaks
 abbrev pub BlockFault : Place → Fault
-BlockFault place = SizedFault Spells (NumFault cut 4) crossed (ManyFault (Property place) (PropertyFault place))
+BlockFault place = SizedFault Spells (NumFault (nr 7 []) 4) crossing (ManyFault (Property place) (PropertyFault place))
 
 -- ---- bodies
 
 -- 01, rows 15 and 7: "not one of the nine"; "bytes after a PubAck's block"
 pub data AckFault (rs : List ℕ) : List ℕ → Refusal → Type 0 where
   reason : {c : ℕ} {r : List ℕ} → isIn c rs ≡ false → AckFault rs (c ∷ r) (nr 15 (c ∷ []))
-  block : {c x : ℕ} {r : List ℕ} {k : Refusal} → isIn c rs ≡ true → ExactFault (Block ackPlace ackOf) (BlockFault ackPlace) cut (x ∷ r) k → AckFault rs (c ∷ x ∷ r) k
+  block : {c x : ℕ} {r : List ℕ} {k : Refusal} → isIn c rs ≡ true → ExactFault (Block ackPlace ackOf) (BlockFault ackPlace) (nr 7 []) (x ∷ r) k → AckFault rs (c ∷ x ∷ r) k
 
 -- 01, row 12: "Publish, QoS 1 or 2, identifier 0"
 abbrev pub IdentFault : ℕ → Fault
 IdentFault zero = Sound
-IdentFault (suc q) = OnlyFault notZero (λ _. nr 12 []) (Big 2) (BigFault cut 2)
+IdentFault (suc q) = OnlyFault notZero (λ _. nr 12 []) (Big 2) (BigFault (nr 7 []) 2)
 
 -- 01, rows 14 and 11: "both rule bits set"; "both QoS bits set"
 abbrev pub FilterFault : Fault
-FilterFault = ThenFault Text TextFault (OnlyFault qosFine (λ _. nr 11 (3 ∷ [])) (Only ruleFine Byte) (OnlyFault ruleFine (λ _. nr 14 (3 ∷ [])) Byte (ByteFault cut)))
+FilterFault = ThenFault Text TextFault (OnlyFault qosFine (λ _. nr 11 (3 ∷ [])) (Only ruleFine Byte) (OnlyFault ruleFine (λ _. nr 14 (3 ∷ [])) Byte (ByteFault (nr 7 []))))
 
 -- 01, row 13: "no filters"
 pub data FiltersFault : List ℕ → Refusal → Type 0 where
@@ -137,8 +141,8 @@ pub data PublishFault (x : ℕ) : List ℕ → Refusal → Type 0 where
 -- 01, reading order: "fields left to right"
 abbrev pub FieldsFault : Layout → ℕ → Fault
 FieldsFault aPublish x = PublishFault x
-FieldsFault (anAck rs) x = ThenFault (Big 2) (BigFault cut 2) (AckFault rs)
-FieldsFault aSubscribe x = ThenFault (Big 2) (BigFault cut 2) (ThenFault (Block subscribePlace subscribeOf) (BlockFault subscribePlace) FiltersFault)
+FieldsFault (anAck rs) x = ThenFault (Big 2) (BigFault (nr 7 []) 2) (AckFault rs)
+FieldsFault aSubscribe x = ThenFault (Big 2) (BigFault (nr 7 []) 2) (ThenFault (Block subscribePlace subscribeOf) (BlockFault subscribePlace) FiltersFault)
 FieldsFault aPing x = Sound
 
 -- 01, rows 4 to 6, in this order; x is the first byte, x / 16 the kind
@@ -146,7 +150,7 @@ pub data BodyFault (x : ℕ) : List ℕ → Refusal → Type 0 where
   kind : {b : List ℕ} → isIn (kindOf x) reserved ≡ true → BodyFault x b (nr 4 (kindOf x ∷ []))
   noBytes : isIn (kindOf x) reserved ≡ false → isPing (lookup kinds (kindOf x)) ≡ false → BodyFault x [] (nr 5 [])
   foreign : {y : ℕ} {b : List ℕ} → isIn (kindOf x) reserved ≡ false → lookup kinds (kindOf x) ≡ none → BodyFault x (y ∷ b) (nr 6 (kindOf x ∷ []))
-  content : {f : Layout} {b : List ℕ} {k : Refusal} → lookup kinds (kindOf x) ≡ some f → or (isPing (some f)) (not (isEmpty b)) ≡ true → FieldsFault f x b k → BodyFault x b k
+  content : {l : Layout} {b : List ℕ} {k : Refusal} → lookup kinds (kindOf x) ≡ some l → or (isPing (some l)) (not (isEmpty b)) ≡ true → FieldsFault l x b k → BodyFault x b k
 
 -- ---- framing: 01, rows 1 to 3, reading order "1 while the header is incomplete, or 2; then 3; then 1"
 

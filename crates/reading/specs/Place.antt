@@ -1,13 +1,14 @@
 -- The reader whose answer holds places, where strings and lists stand in the stream; items read at a place; and what a placed answer
 -- says once its places are looked up. Assumes nothing.
+use mathlib.Core.Path.{_≡_}
 use mathlib.Core.Option.{Option, none, some}
 use mathlib.Core.List.{List, [], _∷_}
 use Prim.Native.Nat.{ℕ, zero, suc, _+_, _-_}
 use lib.Dec.{leb}
 use lib.ListN.{length, take, drop}
-use Rattle.grammar.specs.Tables.{Place, publishPlace, subscribePlace, ackPlace}
 use Rattle.grammar.specs.Choice.{pick}
-use Rattle.grammar.specs.Record.{Val, num, str, duo, Prop, allOf, PublishProps, SubscribeProps, AckProps, Filter, PacketOf, publish, ack, subscribe, ping}
+use Rattle.grammar.specs.Tables.{Place, publishPlace, subscribePlace, ackPlace}
+use Rattle.grammar.specs.Record.{Val, num, str, duo, Prop, allOf, PublishProps, SubscribeProps, AckProps, Publish, Filter, Subscribe, Ack, PacketOf, publish, ack, subscribe, ping}
 use Rattle.grammar.specs.Sentence.{Value, Packet}
 use Rattle.reading.specs.Refusal.{Refusal, nr, Answer, accepted, refused}
 use Rattle.reading.specs.Reader.{Fit, got, bad, Filler, _>>=_, _>>_, guard}
@@ -90,12 +91,7 @@ module _ (h : Shape) (s : List ℕ) (p : Span) where
     fs ← again (filtersFit h) s p
     nthOf n fs
 
--- ---- what a placed record says of the stream s: a string is the part at its span, a list the items that fill the part
-
--- the items, if they were read
-abbrev pub listOf : {A : Type 0} → Fit (List A) → List A
-listOf (got vs) = vs
-listOf (bad k) = []
+-- ---- what a placed record says of the stream s: a string is the part at its place, a list the items that are read at its place
 
 -- f of what was read
 abbrev pub onGot : {A B : Type 0} → (A → B) → Fit A → Fit B
@@ -107,12 +103,17 @@ abbrev pub onSome : {A B : Type 0} → (A → B) → Option A → Option B
 onSome f none = none
 onSome f (some a) = some (f a)
 
+-- f of what is present, where f may refuse
+abbrev pub ifSome : {A B : Type 0} → (A → Fit B) → Option A → Fit (Option B)
+ifSome f none = got none
+ifSome f (some a) = onGot some (f a)
+
 module _ (s : List ℕ) where
   -- a value
   abbrev pub sayVal : Val Span → Value
   sayVal (num n) = num n
-  sayVal (str p) = str (partOf s p)
-  sayVal (duo p q) = duo (partOf s p) (partOf s q)
+  sayVal (str p) = str (heldOf s p)
+  sayVal (duo p q) = duo (heldOf s p) (heldOf s q)
 
   -- a property
   abbrev pub sayProp : Prop Span → Prop (List ℕ)
@@ -120,45 +121,91 @@ module _ (s : List ℕ) where
 
   -- a filter
   abbrev pub sayFilter : Filter Span → Filter (List ℕ)
-  sayFilter f = record { path = partOf s (f .path); qos = f .qos; noLocal = f .noLocal; preserve = f .preserve; rule = f .rule }
+  sayFilter f = record { path = heldOf s (f .path); qos = f .qos; noLocal = f .noLocal; preserve = f .preserve; rule = f .rule }
 
-  -- the lists are what is read at their span
-  abbrev pub sayPublishProps : PublishProps Span (λ A. Span) → PublishProps (List ℕ) List
-  sayPublishProps ps = record {
-    format = onSome sayVal (ps .format);
-    expiry = onSome sayVal (ps .expiry);
-    alias = onSome sayVal (ps .alias);
-    response = onSome sayVal (ps .response);
-    correlation = onSome sayVal (ps .correlation);
-    user = listOf (valuesAt asBytes s (ps .user) publishPlace 38);
-    subscriptions = listOf (valuesAt asBytes s (ps .subscriptions) publishPlace 11);
-    content = onSome sayVal (ps .content);
-  }
+  -- a list that cannot be read at its place refuses
+  abbrev pub sayPublishProps : PublishProps Span (λ A. Span) → Fit (PublishProps (List ℕ) List)
+  sayPublishProps ps = do
+    user ← valuesAt asBytes s (ps .user) publishPlace 38
+    subscriptions ← valuesAt asBytes s (ps .subscriptions) publishPlace 11
+    got (record {
+      format = onSome sayVal (ps .format);
+      expiry = onSome sayVal (ps .expiry);
+      alias = onSome sayVal (ps .alias);
+      response = onSome sayVal (ps .response);
+      correlation = onSome sayVal (ps .correlation);
+      user = user;
+      subscriptions = subscriptions;
+      content = onSome sayVal (ps .content);
+    })
 
-  -- the list is what is read at its span
-  abbrev pub saySubscribeProps : SubscribeProps Span (λ A. Span) → SubscribeProps (List ℕ) List
-  saySubscribeProps ps = record { ident = onSome sayVal (ps .ident); user = listOf (valuesAt asBytes s (ps .user) subscribePlace 38) }
+  -- a list that cannot be read at its place refuses
+  abbrev pub saySubscribeProps : SubscribeProps Span (λ A. Span) → Fit (SubscribeProps (List ℕ) List)
+  saySubscribeProps ps = do
+    user ← valuesAt asBytes s (ps .user) subscribePlace 38
+    got (record { ident = onSome sayVal (ps .ident); user = user })
 
-  -- the list is what is read at its span
-  abbrev pub sayAckProps : AckProps Span (λ A. Span) → AckProps (List ℕ) List
-  sayAckProps ps = record { reason = onSome sayVal (ps .reason); user = listOf (valuesAt asBytes s (ps .user) ackPlace 38) }
+  -- a list that cannot be read at its place refuses
+  abbrev pub sayAckProps : AckProps Span (λ A. Span) → Fit (AckProps (List ℕ) List)
+  sayAckProps ps = do
+    user ← valuesAt asBytes s (ps .user) ackPlace 38
+    got (record { reason = onSome sayVal (ps .reason); user = user })
 
   -- a packet
-  abbrev pub say : Placed → Packet
-  say (publish m) = publish (record {
-    dup = m .dup;
-    qos = m .qos;
-    retain = m .retain;
-    topic = partOf s (m .topic);
-    ident = m .ident;
-    props = onSome sayPublishProps (m .props);
-    payload = partOf s (m .payload);
-  })
-  say (ack k m) = ack k (record { ident = m .ident; reason = m .reason; props = onSome sayAckProps (m .props) })
-  say (subscribe m) = subscribe (record { ident = m .ident; props = onSome saySubscribeProps (m .props); filters = listOf (again (filtersFit asBytes) s (m .filters)) })
-  say (ping k) = ping k
+  abbrev pub say : Placed → Fit Packet
+  say (publish m) = do
+    props ← ifSome sayPublishProps (m .props)
+    got (publish (record {
+      dup = m .dup;
+      qos = m .qos;
+      retain = m .retain;
+      topic = heldOf s (m .topic);
+      ident = m .ident;
+      props = props;
+      payload = heldOf s (m .payload);
+    }))
+  say (ack k m) = do
+    props ← ifSome sayAckProps (m .props)
+    got (ack k (record { ident = m .ident; reason = m .reason; props = props }))
+  say (subscribe m) = do
+    props ← ifSome saySubscribeProps (m .props)
+    filters ← again (filtersFit asBytes) s (m .filters)
+    got (subscribe (record { ident = m .ident; props = props; filters = filters }))
+  say (ping k) = got (ping k)
 
   -- an answer; a refusal says itself
-  abbrev pub sayAnswer : Answer Placed → Answer Packet
-  sayAnswer (accepted v n) = accepted (say v) n
-  sayAnswer (refused k vs n) = refused k vs n
+  abbrev pub sayAnswer : Answer Placed → Fit (Answer Packet)
+  sayAnswer (accepted v n) = onGot (λ w. accepted w n) (say v)
+  sayAnswer (refused k vs n) = got (refused k vs n)
+
+-- ---- 01, "What must change shape": "a way to get the n-th pair, identifier or filter, n from 0, each list apart"
+
+-- the items from 0 on, their places looked up, are the list in order, and then 21
+abbrev pub Lists : {A B : Type 0} → (ℕ → Fit A) → (A → B) → List B → Type 0
+Lists item f vs = (n : ℕ) → onGot f (item n) ≡ nthOf n vs
+
+-- both are absent, or R relates them
+pub data OnBoth {A B : Type 0} (R : A → B → Type 0) : Option A → Option B → Type 0 where
+  neither : OnBoth R none none
+  each : {a : A} {b : B} → R a b → OnBoth R (some a) (some b)
+
+module _ (s : List ℕ) where
+  -- the lists of a Publish block
+  abbrev pub PublishItems : PublishProps Span (λ A. Span) → PublishProps (List ℕ) List → Type 0
+  PublishItems ps qs = Lists (userAt asPlaces s (ps .user) publishPlace) (sayVal s) (qs .user) × Lists (subscriptionAt asPlaces s (ps .subscriptions)) (sayVal s) (qs .subscriptions)
+
+  -- the list of a Subscribe block
+  abbrev pub SubscribeItems : SubscribeProps Span (λ A. Span) → SubscribeProps (List ℕ) List → Type 0
+  SubscribeItems ps qs = Lists (userAt asPlaces s (ps .user) subscribePlace) (sayVal s) (qs .user)
+
+  -- the list of an acknowledgement's block
+  abbrev pub AckItems : AckProps Span (λ A. Span) → AckProps (List ℕ) List → Type 0
+  AckItems ps qs = Lists (userAt asPlaces s (ps .user) ackPlace) (sayVal s) (qs .user)
+
+  -- every list of a packet
+  pub data Items : Placed → Packet → Type 0 where
+    ofPublish : {m : Publish Span (λ A. Span)} {w : Publish (List ℕ) List} → OnBoth PublishItems (m .props) (w .props) → Items (publish m) (publish w)
+    ofAck : {k : ℕ} {m : Ack Span (λ A. Span)} {w : Ack (List ℕ) List} → OnBoth AckItems (m .props) (w .props) → Items (ack k m) (ack k w)
+    ofSubscribe : {m : Subscribe Span (λ A. Span)} {w : Subscribe (List ℕ) List} → OnBoth SubscribeItems (m .props) (w .props) → Lists (filterAt asPlaces s (m .filters)) (sayFilter s) (w .filters)
+        → Items (subscribe m) (subscribe w)
+    ofPing : {k : ℕ} → Items (ping k) (ping k)

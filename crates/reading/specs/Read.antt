@@ -156,15 +156,17 @@ module _ (h : Shape) where
 
   -- ---- bodies
 
-  -- 01, rows 15 and 7: "not one of the nine"; "bytes after a PubAck's block"
+  -- 01, grammar, PubAck: "at R = 3 a reason and no block; from R = 4 a reason and a block that ends the frame"; row 7: "bytes after a PubAck's block"
+  unfoldable pub ackBlockFit : ℕ → Filler (Option (AckProps (h .Str) (h .Run)))
+  ackBlockFit end [] = got none
+  ackBlockFit end (x ∷ r) = exactFit (blockOf ackPlace ackAs end) cut (x ∷ r)
+
+  -- 01, grammar, PubAck: "at R = 2 success and no block"; row 15: "not one of the nine", tested before the block
   unfoldable pub ackRestFit : List ℕ → ℕ → Filler (ℕ × Option (AckProps (h .Str) (h .Run)))
   ackRestFit rs end [] = got (0, none)
-  ackRestFit rs end (c ∷ []) = do
+  ackRestFit rs end (c ∷ r) = do
     guard (isIn c rs) (nr 15 (c ∷ []))
-    got (c, none)
-  ackRestFit rs end (c ∷ x ∷ r) = do
-    guard (isIn c rs) (nr 15 (c ∷ []))
-    ps ← exactFit (blockOf ackPlace ackAs end) cut (x ∷ r)
+    ps ← ackBlockFit end r
     got (c, ps)
 
   -- 01, rows 14 and 11: "within a filter the forward rule before QoS"

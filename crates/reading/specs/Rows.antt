@@ -1,53 +1,79 @@
--- Rows 1 to 6 of 01, "When the desk says no", in 01's words, with values and bytes taken; and how many bytes are lacking. Assumes nothing.
+-- When each refusal of a read is given, in the words of 01, "When the desk says no", with values and bytes taken. Nothing here knows of a
+-- reader. Assumes nothing.
 use mathlib.Core.Path.{_≡_}
 use mathlib.Core.Bool.{Bool, true, false, not}
 use mathlib.Core.Option.{Option, none, some}
 use mathlib.Core.List.{List, [], _∷_, _++_}
-use Prim.Native.Nat.{ℕ, _+_, _-_, _/_, _<_}
+use Prim.Native.Nat.{ℕ, _+_, _-_, _<_}
 use lib.Dec.{leb, ltb}
 use lib.ListN.{length, drop}
 use Rattle.grammar.specs.Choice.{pick, or, isIn, lookup, isEmpty}
 use Rattle.grammar.specs.Number.{Spells}
 use Rattle.grammar.specs.Tables.{Layout, kinds, reserved, isPing}
 use Rattle.grammar.specs.Record.{kindOf}
-use Rattle.grammar.specs.Sentence.{Packet}
-use Rattle.reading.specs.Refusal.{Refusal, nr, within, Answer, refused}
+use Rattle.reading.specs.Refusal.{Refusal, within}
 use Rattle.reading.specs.Fault.{Tops, FieldsFault, Passing}
 
--- Row limit s k t: the stream s is refused with k, and t bytes are taken
-pub data Row (limit : Option ℕ) : List ℕ → Refusal → ℕ → Type 0 where
-  -- 1: "2 less the bytes held if under two"
-  underTwo : {s : List ℕ} → length s < 2 → Row limit s (nr 1 ((2 - length s) ∷ [])) 0
-  -- 1: "1 while the length number lacks its end"
-  noEnd : {x : ℕ} {b : List ℕ} → Tops b → length b < 4 → Row limit (x ∷ b) (nr 1 (1 ∷ [])) 0
-  -- 2: "fourth byte of a variable length number has its top bit set"
-  tooLong : {x : ℕ} {b : List ℕ} (r : List ℕ) → Tops b → length b ≡ 4 → Row limit (x ∷ (b ++ r)) (nr 2 []) 0
-  -- 3: "R above the limit"
-  above : {x l m : ℕ} {b : List ℕ} (r : List ℕ) → Spells l b → limit ≡ some m → m < l → Row limit (x ∷ (b ++ r)) (nr 3 (l ∷ m ∷ [])) 0
-  -- 1: "F less the bytes held"; F is the first byte, the length number's bytes, and as many as it counts
-  partly : {x l : ℕ} {b : List ℕ} (r : List ℕ) → Spells l b → within limit l ≡ true → length r < l
-      → Row limit (x ∷ (b ++ r)) (nr 1 ((1 + length b + l - length (x ∷ (b ++ r))) ∷ [])) 0
-  -- 4: "k is 0 or 15"
-  noKind : {x : ℕ} {b c : List ℕ} (r : List ℕ) → Passing limit (x, b) c → isIn (kindOf x) reserved ≡ true → Row limit (c ++ r) (nr 4 (kindOf x ∷ [])) (length c)
-  -- 5: "R = 0, kind not a ping"
-  noPayload : {x : ℕ} {c : List ℕ} (r : List ℕ) → Passing limit (x, []) c → isIn (kindOf x) reserved ≡ false → isPing (lookup kinds (kindOf x)) ≡ false
-      → Row limit (c ++ r) (nr 5 []) (length c)
-  -- 6: a kind that is not carried
-  notCarried : {x y : ℕ} {b c : List ℕ} (r : List ℕ) → Passing limit (x, y ∷ b) c → isIn (kindOf x) reserved ≡ false → lookup kinds (kindOf x) ≡ none
-      → Row limit (c ++ r) (nr 6 (kindOf x ∷ [])) (length c)
+-- ---- rows 1 to 3: no frame is taken
 
--- rows 7 to 15, and 2 inside a frame: a whole frame of a form that is carried, whose fields break
-pub data FieldRow (limit : Option ℕ) : List ℕ → Refusal → ℕ → Type 0 where
-  breaksIn : {x : ℕ} {f : Layout} {b c : List ℕ} {k : Refusal} (r : List ℕ) → Passing limit (x, b) c → lookup kinds (kindOf x) ≡ some f → or (isPing (some f)) (not (isEmpty b)) ≡ true
-      → FieldsFault f x b k → FieldRow limit (c ++ r) k (length c)
+-- 01, row 1: "frame incomplete": the stream lacks n bytes
+pub data Incomplete (limit : Option ℕ) : List ℕ → ℕ → Type 0 where
+  -- "2 less the bytes held if under two"
+  underTwo : {s : List ℕ} → length s < 2 → Incomplete limit s (2 - length s)
+  -- "1 while the length number lacks its end"
+  noEnd : {x : ℕ} {b : List ℕ} → Tops b → length b < 4 → Incomplete limit (x ∷ b) 1
+  -- "else F less the bytes held": F is the first byte, the bytes of the length number, and the R that it counts
+  partly : {x R : ℕ} {b : List ℕ} (r : List ℕ) → Spells R b → within limit R ≡ true → length r < R → Incomplete limit (x ∷ (b ++ r)) (1 + length b + R - length (x ∷ (b ++ r)))
 
--- the answer that refuses with k and takes t bytes
-abbrev pub refusedAs : Refusal → ℕ → Answer Packet
-refusedAs (nr k vs) t = refused k vs t
+-- 01, row 2: "fourth byte of a variable length number has its top bit set", of the frame's own
+pub data Overlong : List ℕ → Type 0 where
+  overlong : {x : ℕ} {b : List ℕ} (r : List ℕ) → Tops b → length b ≡ 4 → Overlong (x ∷ (b ++ r))
+
+-- 01, row 3: "R above the limit"
+pub data Above : List ℕ → ℕ → ℕ → Type 0 where
+  above : {x R m : ℕ} {b : List ℕ} (r : List ℕ) → Spells R b → m < R → Above (x ∷ (b ++ r)) R m
+
+-- ---- from row 4 on: the frame is taken
+
+-- the stream begins with a frame that the limit lets pass: its first byte, its R bytes, and F
+pub data Holds (limit : Option ℕ) : List ℕ → ℕ → List ℕ → ℕ → Type 0 where
+  holds : {x : ℕ} {b c : List ℕ} (r : List ℕ) → Passing limit (x, b) c → Holds limit (c ++ r) x b (length c)
+
+-- rows 1 to 6, by name
+pub data Framing : Type 0 where
+  insufficient malformed exceeded invalid required notCarried : Framing
+
+-- 01, "When the desk says no": the number of the row
+abbrev pub rowNumber : Framing → ℕ
+rowNumber insufficient = 1
+rowNumber malformed = 2
+rowNumber exceeded = 3
+rowNumber invalid = 4
+rowNumber required = 5
+rowNumber notCarried = 6
+
+-- 01, rows 1 to 6: the stream s, the values of the refusal, and the bytes taken
+abbrev pub Given : Option ℕ → Framing → List ℕ → List ℕ → ℕ → Type 0
+-- 1: InsufficientBytes(n)
+Given limit insufficient s vs t = (n : ℕ) × Incomplete limit s n × (vs ≡ n ∷ []) × (t ≡ 0)
+-- 2: MalformedRemainingLength, of the frame's own length
+Given limit malformed s vs t = Overlong s × (vs ≡ []) × (t ≡ 0)
+-- 3: PayloadSizeLimitExceeded(R, limit)
+Given limit exceeded s vs t = (R : ℕ) × (m : ℕ) × (limit ≡ some m) × Above s R m × (vs ≡ R ∷ m ∷ []) × (t ≡ 0)
+-- 4: InvalidPacketType(k), "k is 0 or 15"
+Given limit invalid s vs t = (x : ℕ) × (b : List ℕ) × Holds limit s x b t × (isIn (kindOf x) reserved ≡ true) × (vs ≡ kindOf x ∷ [])
+-- 5: PayloadRequired, "R = 0, kind not a ping"
+Given limit required s vs t = (x : ℕ) × Holds limit s x [] t × (isIn (kindOf x) reserved ≡ false) × (isPing (lookup kinds (kindOf x)) ≡ false) × (vs ≡ [])
+-- 6: KindNotCarried(k)
+Given limit notCarried s vs t = (x : ℕ) × (y : ℕ) × (b : List ℕ) × Holds limit s x (y ∷ b) t × (isIn (kindOf x) reserved ≡ false) × (lookup kinds (kindOf x) ≡ none) × (vs ≡ kindOf x ∷ [])
+
+-- 01, rows 7 to 15, and 2 inside a frame: the frame is of a kind that is carried, and its fields break, first from the left, with k
+abbrev pub Breaks : Option ℕ → List ℕ → Refusal → ℕ → Type 0
+Breaks limit s k t = (x : ℕ) × (l : Layout) × (b : List ℕ) × Holds limit s x b t × (lookup kinds (kindOf x) ≡ some l) × (or (isPing (some l)) (not (isEmpty b)) ≡ true) × FieldsFault l x b k
 
 -- ---- 01: "n is 2 less the bytes held if under two; 1 while the length number lacks its end; else F less the bytes held"
 
--- whether each byte has its top bit set
+-- each byte has its top bit set
 abbrev pub allTops : List ℕ → Bool
 allTops [] = true
 allTops (x ∷ b) = pick (leb 128 x) (allTops b) false

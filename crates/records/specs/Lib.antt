@@ -1,1 +1,4 @@
 pub mod Told
+pub mod Said
+pub mod Answered
+pub mod Names

@@ -1,4 +1,9 @@
-// The refusals of 01, in its order; `Error` of mqttbytes/mod.rs where the crate has the case.
+// The refusals of 01, in its order, with what a program prints of them; `Error` of mqttbytes/mod.rs where the crate has the case.
+ghost use mathlib.Core.Path.{_≡_};
+ghost use Rattle.records.specs.Told.{toldError, rowOf, valuesOf, toldValues};
+ghost use Rattle.records.specs.Names.{nameOf, padded};
+use crate::shown::Name;
+use crate::shown::Values;
 
 pub enum Error {
     // 1: how many bytes are lacking at least
@@ -43,4 +48,124 @@ pub enum Error {
     ListMismatch,
     // 21: no block or run at the place, or n is past its last item
     NoItem,
+}
+
+// The number of the row.
+pub fn number(e: Error) -> u8
+    ensures { λ r. ⌜ r ≡ rowOf (toldError e) ⌝ }
+{
+    match e {
+        Error::InsufficientBytes(_) => 1,
+        Error::MalformedRemainingLength => 2,
+        Error::PayloadSizeLimitExceeded(_, _) => 3,
+        Error::InvalidPacketType(_) => 4,
+        Error::PayloadRequired => 5,
+        Error::KindNotCarried(_) => 6,
+        Error::MalformedPacket => 7,
+        Error::BoundaryCrossed(_) => 8,
+        Error::TopicNotUtf8 => 9,
+        Error::InvalidPropertyType(_) => 10,
+        Error::InvalidQoS(_) => 11,
+        Error::PacketIdZero => 12,
+        Error::EmptySubscription => 13,
+        Error::InvalidRetainForwardRule(_) => 14,
+        Error::InvalidReason(_) => 15,
+        Error::OutgoingPacketTooLarge(_, _) => 16,
+        Error::PayloadTooLong => 17,
+        Error::StringTooLong(_) => 18,
+        Error::NoRoom(_) => 19,
+        Error::ListMismatch => 20,
+        Error::NoItem => 21,
+    }
+}
+
+// The values of the row.
+pub fn values(e: Error) -> Values
+    ensures { λ r. ⌜ toldValues r ≡ valuesOf (toldError e) ⌝ }
+{
+    match e {
+        Error::InsufficientBytes(n) => Values::One(n),
+        Error::MalformedRemainingLength => Values::None,
+        Error::PayloadSizeLimitExceeded(m, n) => Values::Two(m, n),
+        Error::InvalidPacketType(n) => Values::One(n as usize),
+        Error::PayloadRequired => Values::None,
+        Error::KindNotCarried(n) => Values::One(n as usize),
+        Error::MalformedPacket => Values::None,
+        Error::BoundaryCrossed(n) => Values::One(n),
+        Error::TopicNotUtf8 => Values::None,
+        Error::InvalidPropertyType(n) => Values::One(n as usize),
+        Error::InvalidQoS(n) => Values::One(n as usize),
+        Error::PacketIdZero => Values::None,
+        Error::EmptySubscription => Values::None,
+        Error::InvalidRetainForwardRule(n) => Values::One(n as usize),
+        Error::InvalidReason(n) => Values::One(n as usize),
+        Error::OutgoingPacketTooLarge(m, n) => Values::Two(m, n),
+        Error::PayloadTooLong => Values::None,
+        Error::StringTooLong(n) => Values::One(n),
+        Error::NoRoom(n) => Values::One(n),
+        Error::ListMismatch => Values::None,
+        Error::NoItem => Values::None,
+    }
+}
+
+// The names of the cases in their order, and 0 in the bytes that are left.
+const NAMES: [[u8; 24]; 21] = [
+    *b"InsufficientBytes\0\0\0\0\0\0\0",
+    *b"MalformedRemainingLength",
+    *b"PayloadSizeLimitExceeded",
+    *b"InvalidPacketType\0\0\0\0\0\0\0",
+    *b"PayloadRequired\0\0\0\0\0\0\0\0\0",
+    *b"KindNotCarried\0\0\0\0\0\0\0\0\0\0",
+    *b"MalformedPacket\0\0\0\0\0\0\0\0\0",
+    *b"BoundaryCrossed\0\0\0\0\0\0\0\0\0",
+    *b"TopicNotUtf8\0\0\0\0\0\0\0\0\0\0\0\0",
+    *b"InvalidPropertyType\0\0\0\0\0",
+    *b"InvalidQoS\0\0\0\0\0\0\0\0\0\0\0\0\0\0",
+    *b"PacketIdZero\0\0\0\0\0\0\0\0\0\0\0\0",
+    *b"EmptySubscription\0\0\0\0\0\0\0",
+    *b"InvalidRetainForwardRule",
+    *b"InvalidReason\0\0\0\0\0\0\0\0\0\0\0",
+    *b"OutgoingPacketTooLarge\0\0",
+    *b"PayloadTooLong\0\0\0\0\0\0\0\0\0\0",
+    *b"StringTooLong\0\0\0\0\0\0\0\0\0\0\0",
+    *b"NoRoom\0\0\0\0\0\0\0\0\0\0\0\0\0\0\0\0\0\0",
+    *b"ListMismatch\0\0\0\0\0\0\0\0\0\0\0\0",
+    *b"NoItem\0\0\0\0\0\0\0\0\0\0\0\0\0\0\0\0\0\0",
+];
+
+// The lengths of the names.
+const LENGTHS: [usize; 21] = [
+    17,
+    24,
+    24,
+    17,
+    15,
+    14,
+    15,
+    15,
+    12,
+    19,
+    10,
+    12,
+    17,
+    24,
+    13,
+    22,
+    14,
+    13,
+    6,
+    12,
+    6,
+];
+
+// The name of the case.
+pub fn name(e: Error) -> Name
+    ensures { λ r. ⌜ r ≡ padded (nameOf e) ⌝ }
+{
+    let i = number(e) as usize - 1;
+    let bytes = NAMES[i];
+    Name {
+        bytes,
+        len: LENGTHS[i],
+    }
 }

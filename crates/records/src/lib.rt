@@ -6,5 +6,6 @@ pub mod packet;
 pub mod puback;
 pub mod publish;
 pub mod qos;
+pub mod shown;
 pub mod span;
 pub mod subscribe;

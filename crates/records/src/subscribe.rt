@@ -1,4 +1,6 @@
 // A Subscribe as read, and one filter, after subscribe.rs.
+ghost use mathlib.Core.Path.{_≡_};
+ghost use Rattle.records.specs.Told.{toldRule};
 use crate::qos::QoS;
 use crate::span::MaybeU32;
 use crate::span::Span;
@@ -33,4 +35,15 @@ pub struct Filter {
     pub nolocal: bool,
     pub preserve_retain: bool,
     pub retain_forward_rule: RetainForwardRule,
+}
+
+// The number in the two bits.
+pub fn rule_number(rule: RetainForwardRule) -> u8
+    ensures { λ r. ⌜ r ≡ toldRule rule ⌝ }
+{
+    match rule {
+        RetainForwardRule::OnEverySubscribe => 0,
+        RetainForwardRule::OnNewSubscribe => 1,
+        RetainForwardRule::Never => 2,
+    }
 }

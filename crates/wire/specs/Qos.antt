@@ -4,17 +4,9 @@ use Prim.Native.Nat.{ℕ}
 use lib.Dec.{ltb}
 use Rattle.reading.specs.Refusal.{nr}
 use Rattle.reading.specs.Reader.{Fit, got, bad, _>>_, guard}
-use Rattle.records.specs.Told.{toldError}
-use Rattle.records.specs.declared.qos.QoS.{QoS}
-use Rattle.records.specs.declared.qos.QoS.the-variants.{AtMostOnce, AtLeastOnce, ExactlyOnce}
+use Rattle.records.specs.Told.{toldError, toldQoS}
 use Rattle.wire.specs.declared.qos.GotQos.{GotQos}
 use Rattle.wire.specs.declared.qos.GotQos.the-variants.{Value, Refused}
-
--- the number of a quality of service, as the crate gives it
-abbrev pub toldQoS : QoS → ℕ
-toldQoS AtMostOnce = 0
-toldQoS AtLeastOnce = 1
-toldQoS ExactlyOnce = 2
 
 abbrev pub toldGotQos : GotQos → Fit ℕ
 toldGotQos (Value q) = got (toldQoS q)

@@ -24,7 +24,7 @@ pub enum GotLength {
 }
 
 fn widen(b: u8) -> u32
-    ensures { λ r. ⌜ r ≡ b ⌝ }
+    ensures { λ r. ⌜ (r ≡ b) × (r < 256) ⌝ }
 {
     b as u32
 }

@@ -3,13 +3,13 @@
 use mathlib.Core.Path.{_≡_, refl, sym, ap, _∙_}
 use mathlib.Core.Bool.{Bool, true, false}
 use mathlib.Core.List.{List, [], _∷_}
-use Prim.Native.Nat.{ℕ, zero, suc, _+_, _-_, _*_, _/_, _%_, _^_, _≤_, _<_}
+use Prim.Native.Nat.{ℕ, suc, _+_, _-_, _*_, _/_, _%_, _^_, _≤_, _<_}
 use native.Mathlib.Omega.{arith}
 use native.Mathlib.Nat.{mul-comm, mul-le-mul-right, pow-suc, pow-le-pow-right}
 use native.Mathlib.Numerals.{add-one}
 use borrow.Author.Tests.{lt-ltb, le-ltb}
 use lib.Dec.{ltb}
-use lib.ListN.{length, set, drop, getD}
+use lib.ListN.{length, drop, getD}
 use lib.Seq.{sets, length-sets}
 use Rattle.reading.specs.Refusal.{Refusal, nr}
 use Rattle.reading.specs.Reader.{got, bad}
@@ -40,26 +40,29 @@ module _ {s : List ℕ} {at value unit next : ℕ} (p : Passed s at value unit n
   unit-le = rw (p .power) (pow-le-pow-right {n = 128} (omega arith) (p .few))
 
   -- one group more stays below the next group's unit
-  pub group-fits : (g : ℕ) → g < 128 → value + g * unit < unit * 128
-  group-fits g h =
+  group-below : (g : ℕ) → g < 128 → value + g * unit < unit * 128
+  group-below g h =
       let l : g * unit ≤ 127 * unit = mul-le-mul-right unit (omega arith) in
       omega (arith, p .small)
+
+  pub group-fits : (g : ℕ) → g < 128 → value + g * unit < 268435456
+  group-fits g h = omega (arith, group-below g h, unit-le)
 
   pub number-cut : length s ≤ next → (c : Refusal) → bad c ≡ fromAt (numOf c 4) s at
   number-cut h c = sym (left-bad (numOf c 4) s at c (p .rest c ∙ rw (num-cut c (3 - p .n) next s h)))
 
-  module _ (h : next < length s) (b : ℕ) (e : b ≡ getD s next 0) where
+  module _ (h : next < length s) (b : ℕ) (e : (b ≡ getD s next 0) × (b < 256)) where
     pub number-ends : b < 128 → (c : Refusal) → got (value + b * unit, next + 1) ≡ fromAt (numOf c 4) s at
     number-ends l c =
         let x : ℕ = getD s next 0 in
-        let v : value + unit * x ≡ value + b * unit = omega (arith, mul-comm unit x, ap (λ (y : ℕ). y * unit) e) in
+        let v : value + unit * x ≡ value + b * unit = omega (arith, mul-comm unit x, ap (λ (y : ℕ). y * unit) (e .0)) in
         sym (left-at (numOf c 4) s at (value + b * unit) (next + 1)
         (p .rest c ∙ rw (num-last c (3 - p .n) next s h (omega arith)) (ap (λ (y : ℕ). got (y, drop (next + 1) s)) v))
         (omega arith))
 
     goes-on : 128 ≤ b → (c : Refusal) → numOf c 4 (drop at s) ≡ scale (value + (b - 128) * unit) (unit * 128) (numOf c (3 - p .n) (drop (next + 1) s))
     goes-on l c =
-        p .rest c ∙ rw (num-next c (3 - p .n) next s h (omega arith), e) (scale-scale value unit (getD s next 0 - 128) 128 (numOf c (3 - p .n) (drop (next + 1) s)))
+        p .rest c ∙ rw (num-next c (3 - p .n) next s h (omega arith), e .0) (scale-scale value unit (getD s next 0 - 128) 128 (numOf c (3 - p .n) (drop (next + 1) s)))
 
     pub number-long : 128 ≤ b → 4 ≤ next + 1 - at → (c : Refusal) → bad (nr 2 []) ≡ fromAt (numOf c 4) s at
     unfolding numOf
@@ -67,15 +70,15 @@ module _ {s : List ℕ} {at value unit next : ℕ} (p : Passed s at value unit n
         let z : 3 - p .n ≡ 0 = omega arith in
         sym (left-bad (numOf c 4) s at (nr 2 []) (goes-on l c ∙ rw z))
 
-    pub one-passed : 128 ≤ b → b < 256 → next + 1 - at < 4 → Passed s at (value + (b - 128) * unit) (unit * 128) (next + 1)
-    one-passed l u f =
+    pub one-passed : 128 ≤ b → next + 1 - at < 4 → Passed s at (value + (b - 128) * unit) (unit * 128) (next + 1)
+    one-passed l f =
         let z : 3 - p .n ≡ suc (3 - (p .n + 1)) = omega arith in
         record {
           n = p .n + 1;
           few = omega arith;
           here = omega arith;
           power = rw (add-one (p .n), pow-suc 128 (p .n), p .power);
-          small = group-fits (b - 128) (omega arith);
+          small = group-below (b - 128) (omega arith);
           rest = λ c. goes-on l c ∙ rw z;
         }
 

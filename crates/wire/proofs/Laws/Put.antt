@@ -5,7 +5,7 @@ use Prim.Native.Nat.{ℕ, zero, suc, _+_, _*_, _/_, _%_, _^_, _≤_, _<_}
 use native.Mathlib.Omega.{arith}
 use native.Mathlib.Nat.{pow-suc, pow-succ', one-le-pow, div-div-eq-div-mul}
 use lib.Arith.{mod-mul, digits-div, digits-mod}
-use lib.ListN.{length, set, length-append, length-set}
+use lib.ListN.{length, set, length-append}
 use lib.Seq.{sets, set-out}
 use Rattle.writing.specs.Spell.{wide}
 
@@ -14,6 +14,10 @@ use Rattle.writing.specs.Spell.{wide}
 pub sets-append : (xs ys l : List ℕ) (at : ℕ) → sets l at (xs ++ ys) ≡ sets (sets l at xs) (at + length xs) ys
 sets-append [] ys l at = let e : at + 0 ≡ at = omega arith in rw e
 sets-append (x ∷ xs) ys l at = let e : at + suc (length xs) ≡ suc at + length xs = omega arith in rw e (sets-append xs ys (set l at x) (suc at))
+
+-- two puts, one behind the other, are one
+pub sets-then : (xs ys l l₁ l₂ : List ℕ) (at m : ℕ) → l₁ ≡ sets l at xs → m ≡ at + length xs → l₂ ≡ sets l₁ m ys → l₂ ≡ sets l at (xs ++ ys)
+sets-then xs ys l l₁ l₂ at m e n e₂ = e₂ ∙ rw (e, n, sets-append xs ys l at)
 
 -- nothing is stored past the end
 pub sets-out : (xs l : List ℕ) (at : ℕ) → length l ≤ at → l ≡ sets l at xs
@@ -51,4 +55,5 @@ wide-add j (suc k) n =
 -- a half, and the other behind it
 pub put-halves : (k n at : ℕ) (l l₁ l₂ : List ℕ) → l₁ ≡ sets l at (wide k (n / 256 ^ k)) → l₂ ≡ sets l₁ (at + k) (wide k (n % 256 ^ k)) → l₂ ≡ sets l at (wide (k + k) n)
 put-halves k n at l l₁ l₂ e e₂ =
-    e₂ ∙ rw (e, wide-add k k n, sets-append (wide k (n / 256 ^ k)) (wide k (n % 256 ^ k)) l at, length-wide k (n / 256 ^ k))
+    let p : ℕ = 256 ^ k in
+    rw (wide-add k k n) (sets-then (wide k (n / p)) (wide k (n % p)) l l₁ l₂ at (at + k) e (rw (length-wide k (n / p))) e₂)

@@ -18,7 +18,8 @@ use Rattle.reading.proofs.Reading.{from-got, bad-got}
 use Rattle.reading.proofs.Fields.{reads-big}
 use Rattle.positions.specs.Position.{fromAt}
 use Rattle.positions.proofs.At.{sized-bad, sized-crossed, sized-at, span-at}
-use Rattle.positions.proofs.Position.{reads-trails, got-left, got-within, bad-left, left-at, left-bad}
+use Rattle.positions.proofs.Trails.{trails-reads}
+use Rattle.positions.proofs.Position.{got-left, got-within, bad-left, left-at, left-bad}
 use Rattle.writing.specs.Spell.{wide, string}
 use Rattle.wire.proofs.Laws.Put.{sets-append, sets-out, length-wide}
 
@@ -28,7 +29,7 @@ sizeAt s at = fromAt (bigOf cut 2) s at
 
 -- a length that was read ends within the slice
 pub size-within : (s : List ℕ) (at l m : ℕ) → got (l, m) ≡ sizeAt s at → m ≤ length s
-size-within s at l m e = got-within (bigOf cut 2) s at (reads-trails (reads-big cut 2)) l m (sym e)
+size-within s at l m e = got-within (bigOf cut 2) s at (trails-reads (reads-big cut 2)) l m (sym e)
 
 -- a string that passes the test t, and c unless it does: at anyBytes `bytesOf`, at isText `textOf`
 abbrev strOf : (List ℕ → Bool) → Refusal → ℕ → Reader Span
@@ -40,7 +41,7 @@ module _ (t : List ℕ → Bool) (c : Refusal) (s : List ℕ) (at : ℕ) where
 
   module _ (l m : ℕ) (e : got (l, m) ≡ sizeAt s at) where
     size-left : bigOf cut 2 (drop at s) ≡ got (l, drop m s)
-    size-left = got-left (bigOf cut 2) s at (reads-trails (reads-big cut 2)) l m (sym e)
+    size-left = got-left (bigOf cut 2) s at (trails-reads (reads-big cut 2)) l m (sym e)
 
     pub string-crossed : length s < m + l → bad (nr 8 (l ∷ [])) ≡ fromAt (strOf t c (length s)) s at
     string-crossed o =

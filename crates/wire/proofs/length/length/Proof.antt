@@ -26,19 +26,19 @@ add-next : tie.Need-add-next Inv-loop μ-loop
 add-next c = omega arith
 
 mul-t12 : tie.Need-mul-t12 Inv-loop μ-loop
-mul-t12 c = omega (arith, unit-le (c .before .before .before .before .loop .inv), group-fits (c .before .before .before .before .loop .inv) (c .before .widen .result) (c .if2 .taken))
+mul-t12 c = omega (arith, group-fits (c .before .before .before .before .loop .inv) (c .before .widen .result) (c .if2 .taken))
 
 add-t13 : tie.Need-add-t13 Inv-loop μ-loop
-add-t13 c = omega (arith, unit-le (c .before .before .before .before .loop .inv), group-fits (c .before .before .before .before .loop .inv) (c .before .widen .result) (c .if2 .taken))
+add-t13 c = omega (arith, group-fits (c .before .before .before .before .loop .inv) (c .before .widen .result) (c .if2 .taken))
 
 sub-if3 : tie.Need-sub-if3 Inv-loop μ-loop
 sub-if3 c = omega arith
 
 mul-value : tie.Need-mul-value Inv-loop μ-loop
-mul-value c = omega (arith, unit-le (c .before .before .before .before .before .loop .inv), group-fits (c .before .before .before .before .before .loop .inv) (c .before .before .widen .result - 128) (omega (arith, c .before .before .before .shared-slice-known2 .given (c .before .before .before .before .before .loop .next))))
+mul-value c = omega (arith, group-fits (c .before .before .before .before .before .loop .inv) (c .before .before .widen .result - 128) (omega arith))
 
 add-value : tie.Need-add-value Inv-loop μ-loop
-add-value c = omega (arith, unit-le (c .before .before .before .before .before .loop .inv), group-fits (c .before .before .before .before .before .loop .inv) (c .before .before .widen .result - 128) (omega (arith, c .before .before .before .shared-slice-known2 .given (c .before .before .before .before .before .loop .next))))
+add-value c = omega (arith, group-fits (c .before .before .before .before .before .loop .inv) (c .before .before .widen .result - 128) (omega arith))
 
 mul-unit : tie.Need-mul-unit Inv-loop μ-loop
 mul-unit c = omega (arith, unit-le (c .before .before .before .before .before .loop .inv))
@@ -47,7 +47,7 @@ loop-less : tie.Need-loop-less Inv-loop μ-loop
 loop-less c = omega arith
 
 loop-again : tie.Need-loop-again Inv-loop μ-loop
-loop-again c = one-passed (c .before .before .before .before .before .loop .inv) (omega arith) (c .before .before .widen .result) (c .before .before .widen .ensures) (c .before .if2 .left) (omega (arith, c .before .before .before .shared-slice-known2 .given (c .before .before .before .before .before .loop .next))) (c .if3 .left)
+loop-again c = one-passed (c .before .before .before .before .before .loop .inv) (omega arith) (c .before .before .widen .result) (c .before .before .widen .ensures) (c .before .if2 .left) (c .if3 .left)
 
 returns : tie.Need-returns Inv-loop μ-loop
 returns c = number-cut (c .before .loop .inv) (c .if1 .taken)

@@ -1,0 +1,55 @@
+-- What the answers of framing tell, in 01's numbers and values. Assumes nothing.
+use mathlib.Core.Bool.{Bool, true, false}
+use mathlib.Core.Option.{Option, none, some}
+use mathlib.Core.List.{List, [], _∷_}
+use Prim.Native.Nat.{ℕ, _+_}
+use lib.ListN.{length}
+use Rattle.grammar.specs.Choice.{isIn, lookup}
+use Rattle.grammar.specs.Tables.{reasons, Layout, aPublish, anAck, aSubscribe, aPing, kinds, reserved}
+use Rattle.grammar.specs.Record.{kindOf}
+use Rattle.reading.specs.Refusal.{nr}
+use Rattle.reading.specs.Reader.{Fit, got, bad, Reader, thenOf}
+use Rattle.reading.specs.Read.{byteOf, numOf, frameOf}
+use Rattle.reading.specs.Place.{partOf}
+use Rattle.positions.specs.Position.{fromAt}
+use Rattle.records.specs.Told.{toldError}
+use Rattle.framing.specs.declared.check.Checked.{Checked}
+use Rattle.framing.specs.declared.check.Checked.the-variants.{Header, Refused}
+use Rattle.framing.specs.declared.header.Kind.{Kind}
+use Rattle.framing.specs.declared.header.Kind.the-variants as kind
+
+-- ---- kinds
+
+-- the number of a kind, whether it is reserved (01, row 4), and the layout of a kind that is carried
+abbrev pub toldKind : Kind → ℕ × Bool × Option Layout
+toldKind kind.Publish = (3, false, some aPublish)
+toldKind kind.PubAck = (4, false, some (anAck reasons))
+toldKind kind.Subscribe = (8, false, some aSubscribe)
+toldKind kind.PingReq = (12, false, some aPing)
+toldKind kind.PingResp = (13, false, some aPing)
+toldKind (kind.Reserved k) = (k, true, none)
+toldKind (kind.NotCarried k) = (k, false, none)
+
+-- 01, grammar: "kind in the high four bits"; what the tables say of the first byte x
+abbrev pub kindAt : ℕ → ℕ × Bool × Option Layout
+kindAt x = (kindOf x, isIn (kindOf x) reserved, lookup kinds (kindOf x))
+
+-- ---- frames
+
+-- 01, grammar: "A frame is one byte, a variable length number R": what `frameOf` reads before the limit is looked at
+abbrev pub headerOf : Reader (ℕ × ℕ)
+headerOf = thenOf (byteOf (nr 1 (2 ∷ []))) (λ _. numOf (nr 1 (1 ∷ [])) 4)
+
+-- the first byte and R, and the index after them
+abbrev pub toldHeader : Checked → Fit ((ℕ × ℕ) × ℕ)
+toldHeader (Header h) = got ((h .byte1, h .«remaining_len»), h .«fixed_header_len»)
+toldHeader (Refused e) = bad (toldError e)
+
+-- a frame at the start of the stream s
+abbrev pub frameAt : Option ℕ → List ℕ → Fit ((ℕ × List ℕ) × ℕ)
+frameAt limit s = fromAt (frameOf limit (length s)) s 0
+
+-- of the stream s: the first byte and the R bytes of the frame, and the index after them
+abbrev pub toldChecked : List ℕ → Checked → Fit ((ℕ × List ℕ) × ℕ)
+toldChecked s (Header h) = got ((h .byte1, partOf s (record { start = h .«fixed_header_len»; len = h .«remaining_len» })), h .«fixed_header_len» + h .«remaining_len»)
+toldChecked s (Refused e) = bad (toldError e)

@@ -1,0 +1,57 @@
+// Whether a stream starts with a whole frame, after `parse_fixed_header` and `check` of v5/mod.rs: refusals 1, 2 and 3 in 01's order.
+use crate::header::FixedHeader;
+use records::answer::Limit;
+use records::error::Error;
+use wire::length;
+use wire::length::GotLength;
+ghost use mathlib.Core.Path.{_≡_};
+ghost use Rattle.positions.specs.Position.{fromAt};
+ghost use Rattle.records.specs.Told.{limitOf};
+ghost use Rattle.framing.specs.Told.{headerOf, toldHeader, frameAt, toldChecked};
+
+pub enum Checked {
+    Header(FixedHeader),
+    Refused(Error),
+}
+
+// The first byte and R, whether or not R bytes follow.
+pub fn parse_fixed_header(stream: &[u8]) -> Checked
+    ensures { λ r. ⌜ toldHeader r ≡ fromAt headerOf (now (stream .entry)) 0 ⌝ }
+{
+    if stream.len() < 1 {
+        return Checked::Refused(Error::InsufficientBytes(2));
+    }
+    let byte1 = stream[0];
+    match length::length(stream, 1) {
+        GotLength::Number(n, next) => Checked::Header(FixedHeader {
+            byte1,
+            fixed_header_len: next,
+            remaining_len: n as usize,
+        }),
+        GotLength::Cut => Checked::Refused(Error::InsufficientBytes(1)),
+        GotLength::Long => Checked::Refused(Error::MalformedRemainingLength),
+    }
+}
+
+// The header, if the limit lets R pass and R bytes follow.
+pub fn check(stream: &[u8], limit: Limit) -> Checked
+    ensures { λ r. ⌜ toldChecked (now (stream .entry)) r ≡ frameAt (limitOf limit) (now (stream .entry)) ⌝ }
+{
+    match parse_fixed_header(stream) {
+        Checked::Refused(e) => Checked::Refused(e),
+        Checked::Header(h) => {
+            let rest = h.remaining_len;
+            let held = stream.len() - h.fixed_header_len;
+            if let Limit::AtMost(most) = limit {
+                if most < rest {
+                    return Checked::Refused(Error::PayloadSizeLimitExceeded(rest, most));
+                }
+            }
+            if held < rest {
+                let lacks = rest - held;
+                return Checked::Refused(Error::InsufficientBytes(lacks));
+            }
+            Checked::Header(h)
+        }
+    }
+}

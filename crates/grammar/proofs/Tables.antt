@@ -1,0 +1,67 @@
+-- Each entry of the tables, held against a second spelling, ordered by number, by computation. Assumes nothing.
+use mathlib.Core.Path.{_≡_, refl}
+use mathlib.Core.Bool.{Bool, true, false, not}
+use mathlib.Core.Option.{Option, none, some}
+use mathlib.Core.List.{List, [], _∷_}
+use Prim.Native.Nat.{ℕ, zero, suc}
+use Rattle.grammar.specs.Choice.{pick, or, isIn, lookup}
+use Rattle.grammar.specs.Tables.{u8, u16, u32, number, text, bytes, pair, publishPlace, subscribePlace, ackPlace, reasons, Layout, aPublish, anAck, aSubscribe, aPing, kinds, reserved, isPing}
+
+-- k numbers from n on
+abbrev count : ℕ → ℕ → List ℕ
+count zero n = []
+count (suc k) n = n ∷ count k (suc n)
+
+abbrev entry : {A : Type 0} → ℕ → Option A → List (ℕ × A) → List (ℕ × A)
+entry i none l = l
+entry i (some a) l = (i, a) ∷ l
+
+-- those of the numbers that f knows, and what it says of them
+abbrev known : {A : Type 0} → (ℕ → Option A) → List ℕ → List (ℕ × A)
+known f [] = []
+known f (i ∷ l) = entry i (f i) (known f l)
+
+-- those of the numbers that pass the test
+abbrev chosen : (ℕ → Bool) → List ℕ → List ℕ
+chosen t [] = []
+chosen t (i ∷ l) = pick (t i) (i ∷ chosen t l) (chosen t l)
+
+abbrev isNone : Option Layout → Bool
+isNone none = true
+isNone (some l) = false
+
+-- 01, table of properties: of all 256 identifiers, at each place
+publish-row : known (lookup publishPlace) (count 256 0) ≡ (1, u8) ∷ (2, u32) ∷ (3, text) ∷ (8, text) ∷ (9, bytes) ∷ (11, number) ∷ (35, u16) ∷ (38, pair) ∷ []
+unfolding publishPlace
+publish-row = refl
+
+subscribe-row : known (lookup subscribePlace) (count 256 0) ≡ (11, number) ∷ (38, pair) ∷ []
+unfolding subscribePlace
+subscribe-row = refl
+
+ack-row : known (lookup ackPlace) (count 256 0) ≡ (31, text) ∷ (38, pair) ∷ []
+unfolding ackPlace
+ack-row = refl
+
+-- 01, PubAck: of all 256 bytes, the nine reasons
+nine-reasons : chosen (λ c. isIn c reasons) (count 256 0) ≡ 0 ∷ 16 ∷ 128 ∷ 131 ∷ 135 ∷ 144 ∷ 145 ∷ 151 ∷ 153 ∷ []
+unfolding reasons
+nine-reasons = refl
+
+-- 01, grammar: of all 16 kinds, those that are carried
+five-kinds : known (lookup kinds) (count 16 0) ≡ (3, aPublish) ∷ (4, anAck reasons) ∷ (8, aSubscribe) ∷ (12, aPing) ∷ (13, aPing) ∷ []
+unfolding kinds
+five-kinds = refl
+
+-- 01, row 6: "kind 1, 2, 5-7, 9-11, 14": the rest, but for row 4's
+nine-others : chosen (λ k. not (or (isIn k reserved) (not (isNone (lookup kinds k))))) (count 16 0) ≡ 1 ∷ 2 ∷ 5 ∷ 6 ∷ 7 ∷ 9 ∷ 10 ∷ 11 ∷ 14 ∷ []
+unfolding kinds
+nine-others = refl
+
+-- 01, row 4: "k is 0 or 15"; row 5: the pings
+zero-and-last : chosen (λ k. isIn k reserved) (count 16 0) ≡ 0 ∷ 15 ∷ []
+zero-and-last = refl
+
+two-pings : chosen (λ k. isPing (lookup kinds k)) (count 16 0) ≡ 12 ∷ 13 ∷ []
+unfolding kinds
+two-pings = refl

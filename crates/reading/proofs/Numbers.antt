@@ -1,0 +1,114 @@
+-- Which numbers the refusals of broken fields have: one law for each way to build a fault. Assumes nothing.
+use mathlib.Core.Path.{_≡_, refl, sym, _∙_, subst}
+use mathlib.Core.Bool.{Bool, true, false}
+use mathlib.Core.Option.{Option, none, some}
+use mathlib.Core.Logic.{_↔_, _⊎_, inl, inr}
+use mathlib.Core.List.{List, [], _∷_, _++_}
+use Prim.Native.Nat.{ℕ, zero, suc, _+_, _-_, _<_}
+use native.Mathlib.Omega.{arith}
+use lib.Dec.{eqb, nleb→lt}
+use lib.ListN.{length, length-append}
+use Rattle.grammar.specs.Choice.{isIn}
+use Rattle.grammar.specs.Gram.{Gram}
+use Rattle.grammar.specs.Tables.{Form, u8, u16, u32, number, text, bytes, pair, Place, Layout, aPublish, anAck, aSubscribe, aPing}
+use Rattle.grammar.specs.Record.{flagQos}
+use Rattle.reading.specs.Refusal.{Refusal, nr}
+use Rattle.reading.specs.Fault.{Fault, Sound, OnlyFault, under, fails, ThenFault, first, second, SizedFault, sizes, crosses, fills, ManyFault, now, later, ExactFault, before, follows, IsFault, isnt, ByteFault, noByte, BigFault, fewer, NumFault, endless, long, BytesFault, TextFault, ValueFault, PropertyFault, noId, unknown, value, BlockFault, AckFault, reason, block, IdentFault, FiltersFault, noFilters, filter, PublishFault, qos, fields, FieldsFault, kind}
+use Rattle.reading.specs.Rows.{Breaks}
+
+-- rows 7 to 15, and 2
+abbrev pub ofFields : List ℕ
+ofFields = 2 ∷ 7 ∷ 8 ∷ 9 ∷ 10 ∷ 11 ∷ 12 ∷ 13 ∷ 14 ∷ 15 ∷ []
+
+abbrev numbered : Refusal → Type 0
+numbered (nr k vs) = isIn k ofFields ≡ true
+
+-- the refusals of F have such numbers
+abbrev Kept : Fault → Type 0
+Kept F = (s : List ℕ) (k : Refusal) → F s k → numbered k
+
+kept-sound : Kept Sound
+kept-sound s k h = elim h [ ]
+
+kept-only : {A : Type 0} {t : A → Bool} {c : A → Refusal} {G : Gram A} {F : Fault} → ((a : A) → numbered (c a)) → Kept F → Kept (OnlyFault t c G F)
+kept-only C K s k (under f) = K s k f
+kept-only C K _ _ (fails {a = a} r g h) = C a
+
+kept-then : {A : Type 0} {G : Gram A} {F H : Fault} → Kept F → Kept H → Kept (ThenFault G F H)
+kept-then K L s k (first f) = K s k f
+kept-then K L _ k (second {r = r} g h) = L r k h
+
+kept-sized : {N : Gram ℕ} {F H : Fault} {c : ℕ → List ℕ → Refusal} → ((l : ℕ) (r : List ℕ) → numbered (c l r)) → Kept F → Kept H → Kept (SizedFault N F c H)
+kept-sized C K L s k (sizes f) = K s k f
+kept-sized C K L _ _ (crosses {l = l} r g h) = C l r
+kept-sized C K L _ k (fills {b = b} r g h) = L b k h
+
+kept-many : {A : Type 0} {G : Gram A} {F : Fault} → Kept F → Kept (ManyFault G F)
+kept-many K _ k (now {x = x} {s = s} f) = K (x ∷ s) k f
+kept-many K _ k (later {s = s} g m) = kept-many K s k m
+
+kept-exact : {A : Type 0} {G : Gram A} {F : Fault} {c : Refusal} → numbered c → Kept F → Kept (ExactFault G F c)
+kept-exact C K s k (before f) = K s k f
+kept-exact C K _ _ (follows y r g) = C
+
+kept-is : {P : List ℕ → Type 0} {c : Refusal} → numbered c → Kept (IsFault P c)
+kept-is C _ _ (isnt h) = C
+
+kept-byte : {c : Refusal} → numbered c → Kept (ByteFault c)
+kept-byte C _ _ noByte = C
+
+kept-big : {c : Refusal} {n : ℕ} → numbered c → Kept (BigFault c n)
+kept-big C _ _ (fewer h) = C
+
+kept-num : {c : Refusal} {n : ℕ} → numbered c → numbered (nr 2 []) → Kept (NumFault c n)
+kept-num C D _ _ (endless t h) = C
+kept-num C D _ _ (long r t h) = D
+
+kept-bytes : Kept BytesFault
+kept-bytes = kept-sized (λ _ _. refl) (kept-big refl) kept-sound
+
+kept-text : Kept TextFault
+kept-text = kept-sized (λ _ _. refl) (kept-big refl) (kept-is refl)
+
+kept-value : (k : Form) → Kept (ValueFault k)
+kept-value u8 = kept-byte refl
+kept-value u16 = kept-big refl
+kept-value u32 = kept-big refl
+kept-value number = kept-num refl refl
+kept-value text = kept-text
+kept-value bytes = kept-bytes
+kept-value pair = kept-then kept-text kept-text
+
+kept-property : (place : Place) → Kept (PropertyFault place)
+kept-property place _ _ noId = refl
+kept-property place _ _ (unknown e) = refl
+kept-property place _ k (value {kind = t} {s = s} e f) = kept-value t s k f
+
+kept-block : (place : Place) → Kept (BlockFault place)
+kept-block place = kept-sized (λ _ _. refl) (kept-num refl refl) (kept-many (kept-property place))
+
+kept-ack : (rs : List ℕ) → Kept (AckFault rs)
+kept-ack rs _ _ (reason h) = refl
+kept-ack rs _ k (block {x = x} {r = r} h f) = kept-exact refl (kept-block _) (x ∷ r) k f
+
+kept-ident : (q : ℕ) → Kept (IdentFault q)
+kept-ident zero = kept-sound
+kept-ident (suc q) = kept-only (λ _. refl) (kept-big refl)
+
+kept-filters : Kept FiltersFault
+kept-filters _ _ noFilters = refl
+kept-filters s k (filter f) = kept-many (kept-then kept-text (kept-only (λ _. refl) (kept-only (λ _. refl) (kept-byte refl)))) s k f
+
+kept-publish : (x : ℕ) → Kept (PublishFault x)
+kept-publish x _ _ (qos h) = refl
+kept-publish x s k (fields h f) = kept-then kept-bytes (kept-then (kept-ident (flagQos x)) (kept-then (kept-block _) kept-sound)) s k f
+
+kept-fields : (f : Layout) (x : ℕ) → Kept (FieldsFault f x)
+kept-fields aPublish x = kept-publish x
+kept-fields (anAck rs) x = kept-then (kept-big refl) (kept-ack rs)
+kept-fields aSubscribe x = kept-then (kept-big refl) (kept-then (kept-block _) kept-filters)
+kept-fields aPing x = kept-sound
+
+-- so of a frame whose fields break
+pub field-numbers : (limit : Option ℕ) (s : List ℕ) (k t : ℕ) (vs : List ℕ) → Breaks limit s (nr k vs) t → isIn k ofFields ≡ true
+field-numbers limit s k t vs (x, l, b, f, e, h, g) = kept-fields l x b (nr k vs) g

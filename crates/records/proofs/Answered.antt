@@ -1,0 +1,131 @@
+-- Answers: each comes back from what it tells. So an input, whose answer is told by a definition, admits one answer only. Assumes nothing.
+use mathlib.Core.Path.{_≡_, refl, ap, _∙_}
+use Prim.Native.Nat.{ℕ}
+use Rattle.grammar.specs.Record.{Val, num, str, duo}
+use Rattle.grammar.specs.Record as record-of
+use Rattle.reading.specs.Refusal.{Refusal, nr, Answer, accepted, refused}
+use Rattle.reading.specs.Reader.{Fit, got, bad}
+use Rattle.reading.specs.Place.{Placed}
+use Rattle.reading.specs.Place as place
+use Rattle.records.specs.Told.{toldError}
+use Rattle.records.specs.Answered.{withTaken, told, toldSized, toldWritten, toldUser, toldIdentifier, toldFilterItem, toldGotReason}
+use Rattle.records.specs.declared.answer.Read.{Read}
+use Rattle.records.specs.declared.answer.Sized.{Sized}
+use Rattle.records.specs.declared.answer.Written.{Written}
+use Rattle.records.specs.declared.answer.UserItem.{UserItem}
+use Rattle.records.specs.declared.answer.IdentifierItem.{IdentifierItem}
+use Rattle.records.specs.declared.answer.FilterItem.{FilterItem}
+use Rattle.records.specs.declared.puback.GotReason.{GotReason}
+use Rattle.records.proofs.Laws.{injective-by}
+use Rattle.records.proofs.Told.{backError, backReason, backSpan, back-error, back-reason, back-span}
+use Rattle.records.proofs.Said.{backPacket, backFilter, back-packet, back-filter}
+
+-- ---- reading
+
+pub backRead : Answer Placed → Read
+backRead (accepted p n) = Read.Packet (backPacket p) n
+backRead (refused k vs n) = Read.Refused (backError (nr k vs)) n
+
+back-taken : (k : Refusal) (n : ℕ) → backRead (withTaken k n) ≡ Read.Refused (backError k) n
+unfolding backRead
+back-taken (nr k vs) n = refl
+
+pub back-read : (r : Read) → backRead (told r) ≡ r
+unfolding backRead
+back-read (Read.Packet p n) = ap (λ q. Read.Packet q n) (back-packet p)
+back-read (Read.Refused e n) = back-taken (toldError e) n ∙ ap (λ k. Read.Refused k n) (back-error e)
+
+-- ---- sizes
+
+pub backSized : Fit ℕ → Sized
+backSized (got n) = Sized.Size n
+backSized (bad k) = Sized.Refused (backError k)
+
+pub back-sized : (r : Sized) → backSized (toldSized r) ≡ r
+unfolding backSized
+back-sized (Sized.Size n) = refl
+back-sized (Sized.Refused e) = ap Sized.Refused (back-error e)
+
+pub backWritten : Fit ℕ → Written
+backWritten (got n) = Written.Size n
+backWritten (bad k) = Written.Refused (backError k)
+
+pub back-written : (r : Written) → backWritten (toldWritten r) ≡ r
+unfolding backWritten
+back-written (Written.Size n) = refl
+back-written (Written.Refused e) = ap Written.Refused (back-error e)
+
+-- ---- items
+
+-- the pair of a value
+abbrev pairIn : Val place.Span → UserItem
+pairIn (num n) = UserItem.NoItem
+pairIn (str p) = UserItem.NoItem
+pairIn (duo k v) = UserItem.Pair (backSpan k) (backSpan v)
+
+pub backUser : Fit (Val place.Span) → UserItem
+backUser (got v) = pairIn v
+backUser (bad k) = UserItem.NoItem
+
+pub back-user : (r : UserItem) → backUser (toldUser r) ≡ r
+unfolding backUser
+back-user (UserItem.Pair k v) = simp back-span
+back-user UserItem.NoItem = refl
+
+-- the number of a value
+abbrev numberIn : Val place.Span → IdentifierItem
+numberIn (num n) = IdentifierItem.Number n
+numberIn (str p) = IdentifierItem.NoItem
+numberIn (duo k v) = IdentifierItem.NoItem
+
+pub backIdentifier : Fit (Val place.Span) → IdentifierItem
+backIdentifier (got v) = numberIn v
+backIdentifier (bad k) = IdentifierItem.NoItem
+
+pub back-identifier : (r : IdentifierItem) → backIdentifier (toldIdentifier r) ≡ r
+unfolding backIdentifier
+back-identifier (IdentifierItem.Number n) = refl
+back-identifier IdentifierItem.NoItem = refl
+
+pub backFilterItem : Fit (record-of.Filter place.Span) → FilterItem
+backFilterItem (got f) = FilterItem.Filter (backFilter f)
+backFilterItem (bad k) = FilterItem.NoItem
+
+pub back-filter-item : (r : FilterItem) → backFilterItem (toldFilterItem r) ≡ r
+unfolding backFilterItem
+back-filter-item (FilterItem.Filter f) = ap FilterItem.Filter (back-filter f)
+back-filter-item FilterItem.NoItem = refl
+
+-- ---- reasons
+
+pub backGotReason : Fit ℕ → GotReason
+backGotReason (got n) = GotReason.Value (backReason n)
+backGotReason (bad k) = GotReason.Refused (backError k)
+
+pub back-got-reason : (r : GotReason) → backGotReason (toldGotReason r) ≡ r
+unfolding backGotReason
+back-got-reason (GotReason.Value a) = ap GotReason.Value (back-reason a)
+back-got-reason (GotReason.Refused e) = ap GotReason.Refused (back-error e)
+
+-- ---- one answer only
+
+pub read-injective : {a b : Read} → told a ≡ told b → a ≡ b
+read-injective = injective-by told backRead back-read
+
+pub sized-injective : {a b : Sized} → toldSized a ≡ toldSized b → a ≡ b
+sized-injective = injective-by toldSized backSized back-sized
+
+pub written-injective : {a b : Written} → toldWritten a ≡ toldWritten b → a ≡ b
+written-injective = injective-by toldWritten backWritten back-written
+
+pub user-injective : {a b : UserItem} → toldUser a ≡ toldUser b → a ≡ b
+user-injective = injective-by toldUser backUser back-user
+
+pub identifier-injective : {a b : IdentifierItem} → toldIdentifier a ≡ toldIdentifier b → a ≡ b
+identifier-injective = injective-by toldIdentifier backIdentifier back-identifier
+
+pub filter-item-injective : {a b : FilterItem} → toldFilterItem a ≡ toldFilterItem b → a ≡ b
+filter-item-injective = injective-by toldFilterItem backFilterItem back-filter-item
+
+pub got-reason-injective : {a b : GotReason} → toldGotReason a ≡ toldGotReason b → a ≡ b
+got-reason-injective = injective-by toldGotReason backGotReason back-got-reason

@@ -1,0 +1,5 @@
+pub mod Laws
+pub mod Told
+pub mod Said
+pub mod Answered
+pub mod Names

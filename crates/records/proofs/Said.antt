@@ -1,0 +1,174 @@
+-- Records: each comes back field by field from what it tells, so that what is told leaves no choice of it. Assumes nothing.
+use mathlib.Core.Path.{_≡_, refl, ap}
+use mathlib.Core.Option.{Option, none, some}
+use lib.Dec.{eqb}
+use Rattle.grammar.specs.Choice.{pick}
+use Rattle.grammar.specs.Record.{PublishProps, SubscribeProps, AckProps, publish, ack, subscribe, ping}
+use Rattle.grammar.specs.Record as record-of
+use Rattle.reading.specs.Place.{Placed}
+use Rattle.reading.specs.Place as place
+use Rattle.records.specs.Said.{toldPublishProperties, toldSubscribeProperties, toldPubAckProperties, toldPublishBlock, toldSubscribeBlock, toldPubAckBlock, toldPublish, toldFilter, toldSubscribe, toldPubAck, toldPacket}
+use Rattle.records.specs.declared.packet.Packet.{Packet}
+use Rattle.records.specs.declared.puback.PubAck.{PubAck}
+use Rattle.records.specs.declared.puback.PubAckProperties.{PubAckProperties}
+use Rattle.records.specs.declared.puback.MaybePubAckProperties.{MaybePubAckProperties}
+use Rattle.records.specs.declared.publish.Publish.{Publish}
+use Rattle.records.specs.declared.publish.PublishProperties.{PublishProperties}
+use Rattle.records.specs.declared.publish.MaybePublishProperties.{MaybePublishProperties}
+use Rattle.records.specs.declared.subscribe.Filter.{Filter}
+use Rattle.records.specs.declared.subscribe.Subscribe.{Subscribe}
+use Rattle.records.specs.declared.subscribe.SubscribeProperties.{SubscribeProperties}
+use Rattle.records.specs.declared.subscribe.MaybeSubscribeProperties.{MaybeSubscribeProperties}
+use Rattle.records.proofs.Laws.{injective-by}
+use Rattle.records.proofs.Told.{backBool, backQoS, backReason, backRule, backSpan, backU8, backU16, backU32, backString, back-bool, back-qos, back-reason, back-rule, back-span, back-u8, back-u16, back-u32, back-string}
+
+-- ---- property sets
+
+pub backPublishProperties : PublishProps place.Span (λ A. place.Span) → PublishProperties
+backPublishProperties p = record {
+  «payload_format_indicator» = backU8 (p .format);
+  «message_expiry_interval» = backU32 (p .expiry);
+  «topic_alias» = backU16 (p .alias);
+  «response_topic» = backString (p .response);
+  «correlation_data» = backString (p .correlation);
+  «content_type» = backString (p .content);
+  block = backSpan (p .user);
+}
+
+pub back-publish-properties : (p : PublishProperties) → backPublishProperties (toldPublishProperties p) ≡ p
+unfolding backPublishProperties
+back-publish-properties p = simp (back-u8, back-u16, back-u32, back-string, back-span)
+
+pub backSubscribeProperties : SubscribeProps place.Span (λ A. place.Span) → SubscribeProperties
+backSubscribeProperties p = record { id = backU32 (p .ident); block = backSpan (p .user) }
+
+pub back-subscribe-properties : (p : SubscribeProperties) → backSubscribeProperties (toldSubscribeProperties p) ≡ p
+unfolding backSubscribeProperties
+back-subscribe-properties p = simp (back-u32, back-span)
+
+pub backPubAckProperties : AckProps place.Span (λ A. place.Span) → PubAckProperties
+backPubAckProperties p = record { «reason_string» = backString (p .reason); block = backSpan (p .user) }
+
+pub back-puback-properties : (p : PubAckProperties) → backPubAckProperties (toldPubAckProperties p) ≡ p
+unfolding backPubAckProperties
+back-puback-properties p = simp (back-string, back-span)
+
+pub backPublishBlock : Option (PublishProps place.Span (λ A. place.Span)) → MaybePublishProperties
+backPublishBlock none = MaybePublishProperties.Absent
+backPublishBlock (some p) = MaybePublishProperties.Present (backPublishProperties p)
+
+pub back-publish-block : (m : MaybePublishProperties) → backPublishBlock (toldPublishBlock m) ≡ m
+unfolding backPublishBlock
+back-publish-block MaybePublishProperties.Absent = refl
+back-publish-block (MaybePublishProperties.Present p) = ap MaybePublishProperties.Present (back-publish-properties p)
+
+pub backSubscribeBlock : Option (SubscribeProps place.Span (λ A. place.Span)) → MaybeSubscribeProperties
+backSubscribeBlock none = MaybeSubscribeProperties.Absent
+backSubscribeBlock (some p) = MaybeSubscribeProperties.Present (backSubscribeProperties p)
+
+pub back-subscribe-block : (m : MaybeSubscribeProperties) → backSubscribeBlock (toldSubscribeBlock m) ≡ m
+unfolding backSubscribeBlock
+back-subscribe-block MaybeSubscribeProperties.Absent = refl
+back-subscribe-block (MaybeSubscribeProperties.Present p) = ap MaybeSubscribeProperties.Present (back-subscribe-properties p)
+
+pub backPubAckBlock : Option (AckProps place.Span (λ A. place.Span)) → MaybePubAckProperties
+backPubAckBlock none = MaybePubAckProperties.Absent
+backPubAckBlock (some p) = MaybePubAckProperties.Present (backPubAckProperties p)
+
+pub back-puback-block : (m : MaybePubAckProperties) → backPubAckBlock (toldPubAckBlock m) ≡ m
+unfolding backPubAckBlock
+back-puback-block MaybePubAckProperties.Absent = refl
+back-puback-block (MaybePubAckProperties.Present p) = ap MaybePubAckProperties.Present (back-puback-properties p)
+
+-- ---- packets
+
+pub backPublish : record-of.Publish place.Span (λ A. place.Span) → Publish
+backPublish m = record {
+  dup = backBool (m .dup);
+  qos = backQoS (m .qos);
+  retain = backBool (m .retain);
+  topic = backSpan (m .topic);
+  pkid = m .ident;
+  payload = backSpan (m .payload);
+  properties = backPublishBlock (m .props);
+}
+
+pub back-publish : (m : Publish) → backPublish (toldPublish m) ≡ m
+unfolding backPublish
+back-publish m = simp (back-bool, back-qos, back-span, back-publish-block)
+
+pub backFilter : record-of.Filter place.Span → Filter
+backFilter f = record {
+  path = backSpan (f .path);
+  qos = backQoS (f .qos);
+  nolocal = backBool (f .noLocal);
+  «preserve_retain» = backBool (f .preserve);
+  «retain_forward_rule» = backRule (f .rule);
+}
+
+pub back-filter : (f : Filter) → backFilter (toldFilter f) ≡ f
+unfolding backFilter
+back-filter f = simp (back-span, back-qos, back-bool, back-rule)
+
+pub backSubscribe : record-of.Subscribe place.Span (λ A. place.Span) → Subscribe
+backSubscribe m = record { pkid = m .ident; filters = backSpan (m .filters); properties = backSubscribeBlock (m .props) }
+
+pub back-subscribe : (m : Subscribe) → backSubscribe (toldSubscribe m) ≡ m
+unfolding backSubscribe
+back-subscribe m = simp (back-span, back-subscribe-block)
+
+pub backPubAck : record-of.Ack place.Span (λ A. place.Span) → PubAck
+backPubAck m = record { pkid = m .ident; reason = backReason (m .reason); properties = backPubAckBlock (m .props) }
+
+pub back-puback : (m : PubAck) → backPubAck (toldPubAck m) ≡ m
+unfolding backPubAck
+back-puback m = simp (back-reason, back-puback-block)
+
+pub backPacket : Placed → Packet
+backPacket (publish m) = Packet.Publish (backPublish m)
+backPacket (ack k m) = Packet.PubAck (backPubAck m)
+backPacket (subscribe m) = Packet.Subscribe (backSubscribe m)
+backPacket (ping k) = pick (eqb k 12) Packet.PingReq Packet.PingResp
+
+pub back-packet : (p : Packet) → backPacket (toldPacket p) ≡ p
+unfolding backPacket
+back-packet (Packet.Publish m) = ap Packet.Publish (back-publish m)
+back-packet (Packet.PubAck m) = ap Packet.PubAck (back-puback m)
+back-packet (Packet.Subscribe m) = ap Packet.Subscribe (back-subscribe m)
+back-packet Packet.PingReq = refl
+back-packet Packet.PingResp = refl
+
+-- ---- one record only
+
+pub publish-properties-injective : {a b : PublishProperties} → toldPublishProperties a ≡ toldPublishProperties b → a ≡ b
+publish-properties-injective = injective-by toldPublishProperties backPublishProperties back-publish-properties
+
+pub subscribe-properties-injective : {a b : SubscribeProperties} → toldSubscribeProperties a ≡ toldSubscribeProperties b → a ≡ b
+subscribe-properties-injective = injective-by toldSubscribeProperties backSubscribeProperties back-subscribe-properties
+
+pub puback-properties-injective : {a b : PubAckProperties} → toldPubAckProperties a ≡ toldPubAckProperties b → a ≡ b
+puback-properties-injective = injective-by toldPubAckProperties backPubAckProperties back-puback-properties
+
+pub publish-block-injective : {a b : MaybePublishProperties} → toldPublishBlock a ≡ toldPublishBlock b → a ≡ b
+publish-block-injective = injective-by toldPublishBlock backPublishBlock back-publish-block
+
+pub subscribe-block-injective : {a b : MaybeSubscribeProperties} → toldSubscribeBlock a ≡ toldSubscribeBlock b → a ≡ b
+subscribe-block-injective = injective-by toldSubscribeBlock backSubscribeBlock back-subscribe-block
+
+pub puback-block-injective : {a b : MaybePubAckProperties} → toldPubAckBlock a ≡ toldPubAckBlock b → a ≡ b
+puback-block-injective = injective-by toldPubAckBlock backPubAckBlock back-puback-block
+
+pub publish-injective : {a b : Publish} → toldPublish a ≡ toldPublish b → a ≡ b
+publish-injective = injective-by toldPublish backPublish back-publish
+
+pub filter-injective : {a b : Filter} → toldFilter a ≡ toldFilter b → a ≡ b
+filter-injective = injective-by toldFilter backFilter back-filter
+
+pub subscribe-injective : {a b : Subscribe} → toldSubscribe a ≡ toldSubscribe b → a ≡ b
+subscribe-injective = injective-by toldSubscribe backSubscribe back-subscribe
+
+pub puback-injective : {a b : PubAck} → toldPubAck a ≡ toldPubAck b → a ≡ b
+puback-injective = injective-by toldPubAck backPubAck back-puback
+
+pub packet-injective : {a b : Packet} → toldPacket a ≡ toldPacket b → a ≡ b
+packet-injective = injective-by toldPacket backPacket back-packet

@@ -1,0 +1,63 @@
+-- What each answer tells: of a read, a size, a write, an item, and a reason. Assumes nothing.
+use mathlib.Core.List.{[], _∷_}
+use Prim.Native.Nat.{ℕ}
+use Rattle.grammar.specs.Choice.{isIn}
+use Rattle.grammar.specs.Tables.{reasons}
+use Rattle.grammar.specs.Record.{Val, num, duo}
+use Rattle.grammar.specs.Record as record-of
+use Rattle.reading.specs.Refusal.{Refusal, nr, Answer, accepted, refused}
+use Rattle.reading.specs.Reader.{Fit, got, bad, _>>_, guard}
+use Rattle.reading.specs.Place.{Placed, noItem}
+use Rattle.reading.specs.Place as place
+use Rattle.records.specs.Told.{toldError, toldReason, toldSpan}
+use Rattle.records.specs.Said.{toldPacket, toldFilter}
+use Rattle.records.specs.declared.answer.Read.{Read}
+use Rattle.records.specs.declared.answer.Sized.{Sized}
+use Rattle.records.specs.declared.answer.Written.{Written}
+use Rattle.records.specs.declared.answer.UserItem.{UserItem}
+use Rattle.records.specs.declared.answer.IdentifierItem.{IdentifierItem}
+use Rattle.records.specs.declared.answer.FilterItem.{FilterItem}
+use Rattle.records.specs.declared.puback.GotReason.{GotReason}
+
+-- 01, "When the desk says no": a refusal, and the count in its column Taken
+abbrev pub withTaken : {A : Type 0} → Refusal → ℕ → Answer A
+withTaken (nr k vs) n = refused k vs n
+
+-- 01, "When the desk says no": "Taken is the count of stream bytes used up"
+abbrev pub told : Read → Answer Placed
+told (Read.Packet p n) = accepted (toldPacket p) n
+told (Read.Refused e n) = withTaken (toldError e) n
+
+-- 01: "Asked alone, size refuses only with 20, then 17 for R"
+abbrev pub toldSized : Sized → Fit ℕ
+toldSized (Sized.Size n) = got n
+toldSized (Sized.Refused e) = bad (toldError e)
+
+-- 01: "An accepted one sets the first size bytes, gives that size"
+abbrev pub toldWritten : Written → Fit ℕ
+toldWritten (Written.Size n) = got n
+toldWritten (Written.Refused e) = bad (toldError e)
+
+-- 01, "What must change shape": "a way to get the n-th pair", or row 21
+abbrev pub toldUser : UserItem → Fit (Val place.Span)
+toldUser (UserItem.Pair k v) = got (duo (toldSpan k) (toldSpan v))
+toldUser UserItem.NoItem = bad noItem
+
+-- 01, "What must change shape": the n-th identifier, or row 21
+abbrev pub toldIdentifier : IdentifierItem → Fit (Val place.Span)
+toldIdentifier (IdentifierItem.Number n) = got (num n)
+toldIdentifier IdentifierItem.NoItem = bad noItem
+
+-- 01, "What must change shape": the n-th filter, or row 21
+abbrev pub toldFilterItem : FilterItem → Fit (record-of.Filter place.Span)
+toldFilterItem (FilterItem.Filter f) = got (toldFilter f)
+toldFilterItem FilterItem.NoItem = bad noItem
+
+-- 01, row 15: "not one of the nine"
+abbrev pub toldGotReason : GotReason → Fit ℕ
+toldGotReason (GotReason.Value a) = got (toldReason a)
+toldGotReason (GotReason.Refused e) = bad (toldError e)
+
+-- 01, row 15, of the number k
+abbrev pub reasonOf : ℕ → Fit ℕ
+reasonOf k = guard (isIn k reasons) (nr 15 (k ∷ [])) >> got k
