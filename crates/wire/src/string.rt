@@ -38,8 +38,7 @@ pub fn read_mqtt_string(s: &[u8], at: usize) -> GotSpan
     match read_mqtt_bytes(s, at) {
         GotSpan::Refused(e) => GotSpan::Refused(e),
         GotSpan::Value(p, next) => {
-            let from = p.start;
-            if text::is_utf8(&s[from..next]) {
+            if text::is_utf8(part(s, p)) {
                 return GotSpan::Value(p, next);
             }
             GotSpan::Refused(Error::TopicNotUtf8)
