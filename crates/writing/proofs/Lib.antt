@@ -1,8 +1,10 @@
 pub mod Each
+pub mod Tests
 pub mod Says
 pub mod Values
 pub mod Sets
 pub mod Belong
 pub mod Sizes
+pub mod Judge
 pub mod Verdict
 pub mod Packets

@@ -23,10 +23,11 @@ use Rattle.writing.specs.Write.{firsts, firstOf, firstByte, identBytes, 
 use Rattle.writing.specs.Refuse.{InBlock, Belongs, Sound, Small, Accepts}
 use Rattle.writing.specs.Value.{said, PublishTyped, AckTyped, SubscribeTyped, Typed}
 use Rattle.writing.proofs.Each.{each-head, each-tail, each-append, each-left, each-right, each-flat, each-piece}
+use Rattle.writing.proofs.Tests.{and-left, and-right, not-true, passes-when}
 use Rattle.writing.proofs.Says.{Says, says-nothing, says-map, says-only, says-then, says-is, says-wide, says-short}
 use Rattle.writing.proofs.Values.{says-bytes, an-u8, an-u16, an-u32, a-number, a-text, a-bytes, RightRow, says-block, one-suits, below-each, lent-suits, pairs-suit, several-suit, says-filters}
 use Rattle.writing.proofs.Sets.{publish-says, ack-says, subscribe-says}
-use Rattle.writing.proofs.Belong.{and-left, and-right, not-true, passes-when, unnamed-when, unasked-when, nothing-entries}
+use Rattle.writing.proofs.Belong.{unnamed-when, unasked-when, nothing-entries}
 use Rattle.writing.proofs.Sizes.{length-body}
 
 -- ---- the kinds that are carried, row by row

@@ -3,11 +3,10 @@ use mathlib.Core.Path.{_≡_, refl, sym, ap, _∙_, subst}
 use mathlib.Core.Bool.{Bool, true, false}
 use mathlib.Core.Option.{Option, none, some}
 use mathlib.Core.Logic.{_↔_, _⊎_, inl, inr}
-use mathlib.Core.List.{List, [], _∷_, _++_, map, append-assoc}
+use mathlib.Core.List.{List, [], _∷_, _++_, map}
 use Prim.Native.Nat.{ℕ, _≤_, _<_}
 use lib.Dec.{leb, leb→le, nleb→lt}
 use lib.ListN.{length}
-use Rattle.grammar.specs.Choice.{pick}
 use Rattle.grammar.specs.Text.{Utf8}
 use Rattle.grammar.specs.Sentence.{qosFine, ruleFine}
 use Rattle.reading.specs.Refusal.{Refusal, nr}
@@ -16,82 +15,35 @@ use Rattle.reading.specs.Read.{isText}
 use Rattle.reading.proofs.Lists.{no-way, T-of, leb-yes, leb-no}
 use Rattle.reading.proofs.Reading.{bad-got, got-inj}
 use Rattle.reading.proofs.Fields.{text-fine}
-use Rattle.writing.specs.Lists.{Each, nil, _&_, flat}
+use Rattle.writing.specs.Lists.{Each, nil, _&_}
 use Rattle.writing.specs.Handed.{Handed, belongs}
 use Rattle.writing.specs.Size.{restIs, sizeIs}
-use Rattle.writing.specs.Order.{Test, judge, Field, raw, word, filter, fieldTests, fieldsOf, most, small, numbersOf, named, asked, belongsTest, restTest, limitTests, nameTest, askTest, roomTest, order}
+use Rattle.writing.specs.Order.{Test, judge, Field, raw, word, filter, fieldsOf, most, small, numbersOf, named, asked, belongsTest, restTest, limitTests, nameTest, askTest, roomTest, order}
 use Rattle.writing.specs.Write.{frameBytes, sizeOf, writeOf}
 use Rattle.writing.specs.Refuse.{Belongs, Short, Sound, Faulty, long-raw, long-word, long-filter, bad-word, bad-filter, bad-rule, bad-qos, FirstFault, Small, TooLarge, Unnamed, Unasked, Within, Countable, Refuses, field, too-large, no-name, number, none-asked, no-room, Accepts, Unsized}
-use Rattle.writing.proofs.Belong.{belongs-when, passes-when, unnamed-when, unasked-when}
+use Rattle.writing.proofs.Tests.{passes-when, fails-when, decide-by}
+use Rattle.writing.proofs.Belong.{belongs-when, unnamed-when, unasked-when}
+use Rattle.writing.proofs.Judge.{test-pass, test-fault, fields-pass, fields-fault, numbers-pass, numbers-fault, limit-pass, limit-fault}
 use Rattle.writing.specs.Refuse as r
 
 -- ---- decisions
 
 either : (t : Bool) → (t ≡ true) ⊎ (t ≡ false)
-either true = inl refl
-either false = inr refl
+either t = decide-by t (λ e. e) (λ e. e)
 
 le-or : (m n : ℕ) → (m ≤ n) ⊎ (n < m)
-le-or m n = go (leb m n) refl
-  where
-    go : (t : Bool) → leb m n ≡ t → (m ≤ n) ⊎ (n < m)
-    go true e = inl (leb→le m n (T-of (leb m n) e))
-    go false e = inr (nleb→lt m n (rw e tt))
+le-or m n = decide-by (leb m n) (λ e. leb→le m n (T-of (leb m n) e)) (λ e. nleb→lt m n (rw e tt))
 
-text-no : (s : List ℕ) → (Utf8 s → ⊥) → isText s ≡ false
-text-no s n = go (isText s) refl
-  where
-    go : (t : Bool) → isText s ≡ t → isText s ≡ false
-    go true e = absurd (n (text-fine s .0 e))
-    go false e = e
+-- of a test that holds exactly when P does
+holds-or : {P : Type 0} (t : Bool) → (t ≡ true) ↔ P → P ⊎ (P → ⊥)
+holds-or t w = decide-by t (w .0) (λ e p. no-way (sym e ∙ w .1 p))
 
-text-or : (s : List ℕ) → Utf8 s ⊎ (Utf8 s → ⊥)
-text-or s = go (isText s) refl
-  where
-    go : (t : Bool) → isText s ≡ t → Utf8 s ⊎ (Utf8 s → ⊥)
-    go true e = inl (text-fine s .0 e)
-    go false e = inr (λ u. no-way (sym e ∙ text-fine s .1 u))
-
--- ---- fields
-
-module _ {A : Type 0} (a : A) where
-  test-pass : (t : Test) (ts : List Test) → t .0 ≡ true → judge (t ∷ ts) a ≡ judge ts a
-  unfolding judge
-  test-pass t ts e = rw e
-
-  test-fault : (t : Test) (ts : List Test) → t .0 ≡ false → judge (t ∷ ts) a ≡ bad (t .1)
-  unfolding judge
-  test-fault t ts e = rw e
-
-  field-pass : (f : Field) (ts : List Test) → Sound f → judge (fieldTests f ++ ts) a ≡ judge ts a
-  unfolding judge
-  field-pass (raw s) ts h = rw (leb-yes (length s) 65535 h)
-  field-pass (word s) ts (h, u) = rw (leb-yes (length s) 65535 h, text-fine s .1 u)
-  field-pass (filter s o) ts (h, u, p, q) = rw (leb-yes (length s) 65535 h, text-fine s .1 u, p, q)
-
-  field-fault : {f : Field} {k : Refusal} (ts : List Test) → Faulty f k → judge (fieldTests f ++ ts) a ≡ bad k
-  unfolding judge
-  field-fault ts (long-raw {s} h) = rw (leb-no (length s) 65535 h)
-  field-fault ts (long-word {s} h) = rw (leb-no (length s) 65535 h)
-  field-fault ts (long-filter {s} h) = rw (leb-no (length s) 65535 h)
-  field-fault ts (bad-word {s} h n) = rw (leb-yes (length s) 65535 h, text-no s n)
-  field-fault ts (bad-filter {s} h n) = rw (leb-yes (length s) 65535 h, text-no s n)
-  field-fault ts (bad-rule {s} h u p) = rw (leb-yes (length s) 65535 h, text-fine s .1 u, p)
-  field-fault ts (bad-qos {s} h u p q) = rw (leb-yes (length s) 65535 h, text-fine s .1 u, p, q)
-
-  fields-pass : {fs : List Field} (ts : List Test) → Each Sound fs → judge (flat fieldTests fs ++ ts) a ≡ judge ts a
-  fields-pass ts nil = refl
-  fields-pass ts (_&_ {a = f} {l = fs} p ps) =
-      rw (append-assoc (fieldTests f) (flat fieldTests fs) ts) (field-pass f (flat fieldTests fs ++ ts) p ∙ fields-pass ts ps)
-
-  fields-fault : {fs : List Field} {k : Refusal} (ts : List Test) → FirstFault k fs → judge (flat fieldTests fs ++ ts) a ≡ bad k
-  fields-fault ts (r.FirstFault.here {f = f} {fs = fs} p) =
-      rw (append-assoc (fieldTests f) (flat fieldTests fs) ts) (field-fault (flat fieldTests fs ++ ts) p)
-  fields-fault ts (r.FirstFault.later {f = f} {fs = fs} p ps) =
-      rw (append-assoc (fieldTests f) (flat fieldTests fs) ts) (field-pass f (flat fieldTests fs ++ ts) p ∙ fields-fault ts ps)
+-- of one that fails exactly when P does
+fails-or : {P : Type 0} (t : Bool) → (t ≡ false) ↔ P → (P → ⊥) ⊎ P
+fails-or t w = decide-by t (passes-when t w .0) (w .0)
 
 decide-word : (s : List ℕ) → (Short s × Utf8 s) ⊎ ((65535 < length s) ⊎ (Short s × (Utf8 s → ⊥)))
-decide-word s = go (le-or (length s) 65535) (text-or s)
+decide-word s = go (le-or (length s) 65535) (holds-or (isText s) (text-fine s))
   where
     go : (Short s ⊎ (65535 < length s)) → (Utf8 s ⊎ (Utf8 s → ⊥)) → (Short s × Utf8 s) ⊎ ((65535 < length s) ⊎ (Short s × (Utf8 s → ⊥)))
     go (inr l) u = inr (inl l)
@@ -129,32 +81,6 @@ decide-fields (f ∷ fs) = go (decide-field f) (decide-fields fs)
     go (inl p) (inl ps) = inl (p & ps)
     go (inl p) (inr t) = inr (t .0, r.FirstFault.later p (t .1))
 
--- ---- numbers and the limit
-
-module _ {A : Type 0} (a : A) where
-  numbers-pass : {ns : List ℕ} (ts : List Test) → Each Small ns → judge (map small ns ++ ts) a ≡ judge ts a
-  unfolding judge
-  numbers-pass ts nil = refl
-  numbers-pass ts (_&_ {a = n} p ps) = rw (leb-yes n most p) (numbers-pass ts ps)
-
-  numbers-fault : {ns : List ℕ} (ts : List Test) → TooLarge ns → judge (map small ns ++ ts) a ≡ bad (nr 17 [])
-  unfolding judge
-  numbers-fault ts (r.TooLarge.here {n = n} p) = rw (leb-no n most p)
-  numbers-fault ts (r.TooLarge.later {n = n} {ns = ns} p) = go (leb n most) (numbers-fault ts p)
-    where
-      go : (t : Bool) → judge (map small ns ++ ts) a ≡ bad (nr 17 []) → pick t (judge (map small ns ++ ts) a) (bad (nr 17 [])) ≡ bad (nr 17 [])
-      go true e = e
-      go false e = refl
-
-  limit-pass : (limit : Option ℕ) (n : ℕ) (ts : List Test) → Within limit n → judge (limitTests limit n ++ ts) a ≡ judge ts a
-  unfolding judge
-  limit-pass none n ts h = refl
-  limit-pass (some m) n ts h = rw (leb-yes n m h)
-
-  limit-fault : (m n : ℕ) (ts : List Test) → m < n → judge (limitTests (some m) n ++ ts) a ≡ bad (nr 16 (n ∷ m ∷ []))
-  unfolding judge
-  limit-fault m n ts h = rw (leb-no n m h)
-
 decide-numbers : (ns : List ℕ) → Each Small ns ⊎ TooLarge ns
 decide-numbers [] = inl nil
 decide-numbers (n ∷ ns) = go (le-or n most) (decide-numbers ns)
@@ -174,31 +100,10 @@ decide-limit (some m) n = go (le-or n m)
 
 -- ---- the order
 
-decide-by : {P : Type 0} (t : Bool) → (t ≡ false) ↔ P → (P → ⊥) ⊎ P
-decide-by {P} t w = go (either t)
-  where
-    go : ((t ≡ true) ⊎ (t ≡ false)) → (P → ⊥) ⊎ P
-    go (inl e) = inl (passes-when t w .0 e)
-    go (inr e) = inr (w .0 e)
-
-decide-belongs : (h : Handed) → Belongs h ⊎ (Belongs h → ⊥)
-decide-belongs h = go (either (belongs h))
-  where
-    go : ((belongs h ≡ true) ⊎ (belongs h ≡ false)) → Belongs h ⊎ (Belongs h → ⊥)
-    go (inl e) = inl (belongs-when h .0 e)
-    go (inr e) = inr (λ p. no-way (sym e ∙ belongs-when h .1 p))
-
-belongs-not : (h : Handed) → (Belongs h → ⊥) → belongs h ≡ false
-belongs-not h n = go (either (belongs h))
-  where
-    go : ((belongs h ≡ true) ⊎ (belongs h ≡ false)) → belongs h ≡ false
-    go (inl e) = absurd (n (belongs-when h .0 e))
-    go (inr e) = e
-
 module _ (limit : Option ℕ) (room : ℕ) (h : Handed) where
   decide : Accepts limit room h ⊎ ((k : Refusal) × Refuses limit room h k)
-  decide = go (decide-belongs h) (decide-fields (fieldsOf h)) (le-or (restIs h) most) (decide-limit limit (sizeIs h)) (decide-by (named h) (unnamed-when h))
-      (decide-numbers (numbersOf h)) (decide-by (asked h) (unasked-when h)) (le-or (sizeIs h) room)
+  decide = go (holds-or (belongs h) (belongs-when h)) (decide-fields (fieldsOf h)) (le-or (restIs h) most) (decide-limit limit (sizeIs h)) (fails-or (named h) (unnamed-when h))
+      (decide-numbers (numbersOf h)) (fails-or (asked h) (unasked-when h)) (le-or (sizeIs h) room)
     where
       go : (Belongs h ⊎ (Belongs h → ⊥)) → (Each Sound (fieldsOf h) ⊎ ((k : Refusal) × FirstFault k (fieldsOf h))) → (Small (restIs h) ⊎ (most < restIs h))
           → (Within limit (sizeIs h) ⊎ ((m : ℕ) × (limit ≡ some m) × (m < sizeIs h))) → ((Unnamed h → ⊥) ⊎ Unnamed h) → (Each Small (numbersOf h) ⊎ TooLarge (numbersOf h))
@@ -254,7 +159,7 @@ module _ (limit : Option ℕ) (room : ℕ) (h : Handed) where
 
     refuses-bad : {k : Refusal} → Refuses limit room h k → verdict ≡ bad k
     unfolding order
-    refuses-bad (r.Refuses.mismatch w) = test-fault a (belongsTest h) _ (belongs-not h w)
+    refuses-bad (r.Refuses.mismatch w) = test-fault a (belongsTest h) _ (fails-when (belongs h) (belongs-when h) w)
     refuses-bad (field w f) = test-pass a (belongsTest h) _ (belongs-when h .1 w) ∙ fields-fault a (restTest h ∷ mid) f
     refuses-bad (r.Refuses.too-long w f l) = rest-next w f ∙ test-fault a (restTest h) mid (leb-no (restIs h) most l)
     refuses-bad (too-large {m} c e l) = limit-next c ∙ ap (λ (o : Option ℕ). judge (limitTests o (sizeIs h) ++ late) a) e ∙ limit-fault a m (sizeIs h) late l
@@ -265,37 +170,44 @@ module _ (limit : Option ℕ) (room : ℕ) (h : Handed) where
 
 -- ---- the verdict
 
+-- an answer that is a if P holds, and k if Q k does, where one of them does: it is so exactly then
+module _ {A : Type 0} {P : Type 0} {Q : Refusal → Type 0} (m : Fit A) (a : A) (yes′ : P → m ≡ got a) (no′ : (k : Refusal) → Q k → m ≡ bad k) (decided : P ⊎ ((k : Refusal) × Q k)) where
+  got-when : (b : A) → (m ≡ got b) ↔ (P × (a ≡ b))
+  got-when b = (go decided, λ p. yes′ (p .0) ∙ ap got (p .1))
+    where
+      go : P ⊎ ((k : Refusal) × Q k) → m ≡ got b → P × (a ≡ b)
+      go (inl p) e = (p, got-inj (sym (yes′ p) ∙ e))
+      go (inr t) e = absurd (bad-got (sym (no′ (t .0) (t .1)) ∙ e))
+
+  bad-when : (k : Refusal) → (m ≡ bad k) ↔ Q k
+  bad-when k = (go decided, no′ k)
+    where
+      go : P ⊎ ((k : Refusal) × Q k) → m ≡ bad k → Q k
+      go (inl p) e = absurd (bad-got (sym e ∙ yes′ p))
+      go (inr t) e =
+          let q : _≡_ {A = Fit A} (bad (t .0)) (bad k) = sym (no′ (t .0) (t .1)) ∙ e in
+          let i : t .0 ≡ k = cc in
+          subst Q i (t .1)
+
 module _ (limit : Option ℕ) (room : ℕ) (h : Handed) where
   -- a write is accepted exactly when no row applies, and then it is the frame
   pub accepted-when : (b : List ℕ) → (writeOf limit room h ≡ got b) ↔ (Accepts limit room h × (frameBytes h ≡ b))
   unfolding writeOf
-  accepted-when b = (go (decide limit room h), λ p. accepts-got limit room h (frameBytes h) (p .0) ∙ ap got (p .1))
-    where
-      go : (Accepts limit room h ⊎ ((k : Refusal) × Refuses limit room h k)) → judge (order limit room h) (frameBytes h) ≡ got b
-          → Accepts limit room h × (frameBytes h ≡ b)
-      go (inl p) e = (p, got-inj (sym (accepts-got limit room h (frameBytes h) p) ∙ e))
-      go (inr t) e = absurd (bad-got (sym (refuses-bad limit room h (frameBytes h) (t .1)) ∙ e))
+  accepted-when = got-when (verdict limit room h (frameBytes h)) (frameBytes h) (accepts-got limit room h (frameBytes h)) (λ k. refuses-bad limit room h (frameBytes h)) (decide limit room h)
 
   -- it is refused exactly as the first row that applies says
   pub refused-when : (k : Refusal) → (writeOf limit room h ≡ bad k) ↔ Refuses limit room h k
   unfolding writeOf
-  refused-when k = (go (decide limit room h), refuses-bad limit room h (frameBytes h))
-    where
-      go : (Accepts limit room h ⊎ ((k : Refusal) × Refuses limit room h k)) → judge (order limit room h) (frameBytes h) ≡ bad k → Refuses limit room h k
-      go (inl p) e = absurd (bad-got (sym e ∙ accepts-got limit room h (frameBytes h) p))
-      go (inr t) e =
-          let q : _≡_ {A = Fit (List ℕ)} (bad (t .0)) (bad k) = sym (refuses-bad limit room h (frameBytes h) (t .1)) ∙ e in
-          let i : t .0 ≡ k = cc in
-          subst (λ (c : Refusal). Refuses limit room h c) i (t .1)
+  refused-when = bad-when (verdict limit room h (frameBytes h)) (frameBytes h) (accepts-got limit room h (frameBytes h)) (λ k. refuses-bad limit room h (frameBytes h)) (decide limit room h)
 
 -- ---- size, asked alone
 
 module _ (h : Handed) where
-  abbrev Sized : Type 0
+  abbrev pub Sized : Type 0
   Sized = Belongs h × Small (restIs h)
 
   decide-size : Sized ⊎ ((k : Refusal) × Unsized h k)
-  decide-size = go (decide-belongs h) (le-or (restIs h) most)
+  decide-size = go (holds-or (belongs h) (belongs-when h)) (le-or (restIs h) most)
     where
       go : (Belongs h ⊎ (Belongs h → ⊥)) → (Small (restIs h) ⊎ (most < restIs h)) → Sized ⊎ ((k : Refusal) × Unsized h k)
       go (inr w) l = inr (nr 20 [], r.Unsized.mismatch w)
@@ -308,22 +220,13 @@ module _ (h : Handed) where
 
   unsized-bad : {k : Refusal} → Unsized h k → sizeOf h ≡ bad k
   unfolding sizeOf judge
-  unsized-bad (r.Unsized.mismatch w) = rw (belongs-not h w)
+  unsized-bad (r.Unsized.mismatch w) = rw (fails-when (belongs h) (belongs-when h) w)
   unsized-bad (r.Unsized.too-long w l) = rw (belongs-when h .1 w, leb-no (restIs h) most l)
 
+  -- the size is told exactly when what is handed over belongs together and R can be written
   pub sized-when : (n : ℕ) → (sizeOf h ≡ got n) ↔ (Sized × (sizeIs h ≡ n))
-  sized-when n = (go decide-size, λ p. sized-got (p .0) ∙ ap got (p .1))
-    where
-      go : (Sized ⊎ ((k : Refusal) × Unsized h k)) → sizeOf h ≡ got n → Sized × (sizeIs h ≡ n)
-      go (inl p) e = (p, got-inj (sym (sized-got p) ∙ e))
-      go (inr t) e = absurd (bad-got (sym (unsized-bad (t .1)) ∙ e))
+  sized-when = got-when (sizeOf h) (sizeIs h) sized-got (λ k. unsized-bad) decide-size
 
+  -- it is refused exactly as 20, then 17 for R say
   pub unsized-when : (k : Refusal) → (sizeOf h ≡ bad k) ↔ Unsized h k
-  unsized-when k = (go decide-size, unsized-bad)
-    where
-      go : (Sized ⊎ ((k : Refusal) × Unsized h k)) → sizeOf h ≡ bad k → Unsized h k
-      go (inl p) e = absurd (bad-got (sym e ∙ sized-got p))
-      go (inr t) e =
-          let q : _≡_ {A = Fit ℕ} (bad (t .0)) (bad k) = sym (unsized-bad (t .1)) ∙ e in
-          let i : t .0 ≡ k = cc in
-          subst (λ (c : Refusal). Unsized h c) i (t .1)
+  unsized-when = bad-when (sizeOf h) (sizeIs h) sized-got (λ k. unsized-bad) decide-size
