@@ -8,3 +8,5 @@ pub mod Sizes
 pub mod Judge
 pub mod Verdict
 pub mod Packets
+pub mod Demand
+pub mod Back
