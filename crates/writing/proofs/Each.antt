@@ -1,5 +1,6 @@
--- Facts of every element. Assumes nothing.
-use mathlib.Core.List.{List, [], _∷_, _++_, map}
+-- Facts of every element, and of lists one after the other. Assumes nothing.
+use mathlib.Core.Path.{_≡_, refl}
+use mathlib.Core.List.{List, [], _∷_, _++_, map, append-assoc}
 use Prim.Native.Nat.{ℕ, zero, suc}
 use lib.ListN.{take, drop}
 use Rattle.writing.specs.Lists.{Each, nil, _&_, Octets, flat, pieces}
@@ -61,3 +62,9 @@ module _ {A : Type 0} {P : A → Type 0} where
 pub each-piece : (ns : List ℕ) {run : List ℕ} → Octets run → Each Octets (pieces ns run)
 each-piece [] p = nil
 each-piece (n ∷ ns) p = each-take n p & each-piece ns (each-drop n p)
+
+-- ---- one after the other
+
+pub flat-append : {A B : Type 0} (f : A → List B) (l m : List A) → flat f (l ++ m) ≡ flat f l ++ flat f m
+flat-append f [] m = refl
+flat-append f (a ∷ l) m = rw (flat-append f l m, append-assoc (f a) (flat f l) (flat f m))

@@ -10,3 +10,5 @@ pub mod Verdict
 pub mod Packets
 pub mod Demand
 pub mod Back
+pub mod Shortest
+pub mod Pins

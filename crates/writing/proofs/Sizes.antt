@@ -2,7 +2,7 @@
 use mathlib.Core.Path.{_≡_, refl, ap, _∙_}
 use mathlib.Core.Bool.{Bool, true, false}
 use mathlib.Core.Option.{none, some}
-use mathlib.Core.List.{List, [], _∷_, _++_}
+use mathlib.Core.List.{List, [], _∷_}
 use Prim.Native.Nat.{ℕ, suc, _+_, _*_, _/_, _%_, _≤_, _<_}
 use native.Mathlib.Omega.{arith}
 use lib.Dec.{ltb, ltb→lt}
@@ -14,8 +14,8 @@ use Rattle.grammar.specs.Record.{str}
 use Rattle.grammar.specs.Sentence.{Value}
 use Rattle.reading.proofs.Lists.{T-of, ltb-yes, ltb-false, ltb-no}
 use Rattle.writing.specs.Lists.{Each, nil, _&_, flat, total, sum, pieces, beside}
-use Rattle.writing.specs.Handed.{SubscribeHanded, Handed, publish, ack, subscribe, ping, Given, one, lent, pairs, several, Givens, publishGiven, subscribeGiven, ackGiven, strings, duos, items, Entry, tag, entries, filters}
-use Rattle.writing.specs.Spell.{wide, spellStep, spell, short, string, numeral, value, entry, propsBytes, counted, block, filterBytes}
+use Rattle.writing.specs.Handed.{SubscribeHanded, Handed, publish, ack, subscribe, ping, Given, one, lent, pairs, several, Givens, publishGiven, subscribeGiven, ackGiven, strings, duos, items, tag, filters}
+use Rattle.writing.specs.Spell.{wide, spellStep, spell, short, string, numeral, value, entry, rowBytes, propsBytes, counted, block, filterBytes}
 use Rattle.writing.specs.Size.{lenLen, withLength, numSize, givenSize, propsSize, noIdent, identSize, isPlain, filtersSize, restIs, sizeIs}
 use Rattle.writing.specs.Write.{identBytes, bodyBytes, frameBytes}
 use Rattle.writing.specs.Refuse.{AddsUp, Sorted, InBlock, Belongs}
@@ -96,9 +96,9 @@ length-pieces (n ∷ ns) run = ap suc (length-pieces ns (drop n run))
 abbrev weigh : Form → List Value → ℕ
 weigh f vs = total (λ v. suc (length (value f v))) vs
 
-length-tag : (r : ℕ × Form) (vs : List Value) (es : List Entry) → length (flat entry (tag r vs ++ es)) ≡ weigh (r .1) vs + length (flat entry es)
-length-tag r [] es = omega arith
-length-tag r (v ∷ vs) es = let e = length-tag r vs es in simp length-append (omega arith)
+length-row : (r : ℕ × Form) (vs : List Value) → length (flat entry (tag r vs)) ≡ weigh (r .1) vs
+length-row r [] = refl
+length-row r (v ∷ vs) = let e = length-row r vs in simp length-append (omega arith)
 
 weigh-duos : (f : Form) (ss : List (List ℕ)) → length ss % 2 ≡ 0 → weigh f (duos ss) ≡ total (λ s. 2 + length s) ss + length ss / 2
 unfolding value
@@ -129,16 +129,16 @@ weigh-given f (pairs r) (a, e) =
     omega arith
 weigh-given f (several ns) w = weigh-several f ns
 
-length-rows : {b : Bool} (g : Givens) {place : Place} → Each (InBlock b g) place → length (flat entry (flat (λ r. tag r (items (g (r .0)))) place)) ≡ total (λ r. givenSize (r .1) (g (r .0))) place
+length-rows : {b : Bool} (g : Givens) {place : Place} → Each (InBlock b g) place → length (flat (λ r. rowBytes r (g (r .0))) place) ≡ total (λ r. givenSize (r .1) (g (r .0))) place
 length-rows g nil = refl
 length-rows g (_&_ {a = r} {l = rs} p ps) =
     let ih = length-rows g ps in
-    let w = weigh-given (r .1) (g (r .0)) (p .0) in
-    omega (arith, length-tag r (items (g (r .0))) (flat (λ r. tag r (items (g (r .0)))) rs))
+    let e : length (rowBytes r (g (r .0))) ≡ givenSize (r .1) (g (r .0)) = length-row r (items (g (r .0))) ∙ weigh-given (r .1) (g (r .0)) (p .0) in
+    omega (arith, length-append (rowBytes r (g (r .0))) (flat (λ r. rowBytes r (g (r .0))) rs))
 
 -- L
 pub length-props : (place : Place) (b : Bool) (g : Givens) → Each (InBlock b g) place → length (propsBytes place g) ≡ propsSize place g
-unfolding propsBytes entries propsSize
+unfolding propsBytes propsSize
 length-props place b g rows = length-rows g rows
 
 pub length-block : (place : Place) (b : Bool) (g : Givens) → Each (InBlock b g) place → length (block place g) ≡ withLength (propsSize place g)

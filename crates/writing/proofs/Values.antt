@@ -1,5 +1,5 @@
 -- Strings, values, properties, blocks and filters that pass their tests say what was handed over. Assumes nothing.
-use mathlib.Core.Path.{_≡_}
+use mathlib.Core.Path.{_≡_, refl}
 use mathlib.Core.Bool.{Bool, true, false}
 use mathlib.Core.Option.{Option, none, some}
 use mathlib.Core.List.{List, [], _∷_, map}
@@ -15,11 +15,11 @@ use Rattle.grammar.specs.Record.{num, str, duo, mkFilter}
 use Rattle.grammar.specs.Sentence.{Any, Bytes, Text, Value, Prop, duoOf, Spelt, Property, property, Block, qosFine, ruleFine, FilterOf}
 use Rattle.writing.specs.Lists.{Each, nil, _&_, Octets, flat}
 use Rattle.writing.specs.Handed.{Lent, Run, one, lent, pairs, several, Givens, strings, duos, items, Entry, propOf, tag, entries}
-use Rattle.writing.specs.Spell.{string, numeral, value, entry, propsBytes, block, filterBytes}
+use Rattle.writing.specs.Spell.{string, numeral, value, entry, rowBytes, propsBytes, block, filterBytes}
 use Rattle.writing.specs.Order.{word, stringField, filterField, most, orNone}
 use Rattle.writing.specs.Refuse.{Short, Sound, Small}
 use Rattle.writing.specs.Value.{Below}
-use Rattle.writing.proofs.Each.{each-imp, each-both, map-each, flat-each, each-piece}
+use Rattle.writing.proofs.Each.{each-imp, each-both, map-each, flat-each, each-piece, flat-append}
 use Rattle.writing.proofs.Says.{Says, says-map, says-only, says-then, says-sized, says-is, says-many, says-byte, says-wide, says-short, says-counted}
 
 -- ---- strings
@@ -88,9 +88,14 @@ module _ (place : Place) where
       right-row : (r : ℕ × Form) → RightRow g r → Each Right (tag r (items (g (r .0))))
       right-row r w = right-tag r (w .known) (w .small) (w .suits)
 
+  -- the bytes of a block are its properties, one after the other
+  rows-entries : (g : Givens) (rs : Place) → flat (λ r. rowBytes r (g (r .0))) rs ≡ flat entry (flat (λ r. tag r (items (g (r .0)))) rs)
+  rows-entries g [] = refl
+  rows-entries g (r ∷ rs) = rw (flat-append entry (tag r (items (g (r .0)))) (flat (λ r. tag r (items (g (r .0)))) rs), rows-entries g rs)
+
   pub says-block : {A : Type 0} (f : List Prop → A) (g : Givens) → Each (RightRow g) place → length (propsBytes place g) ≤ most → Says (Block place f) (f (map propOf (entries place g))) (block place g)
-  unfolding block propsBytes
-  says-block f g rows h = says-counted h (says-map f (says-many propOf entry (entries place g) (each-imp says-entry (entries-right g rows))))
+  unfolding block propsBytes entries
+  says-block f g rows h = says-counted h (rw (rows-entries g place) (says-map f (says-many propOf entry (entries place g) (each-imp says-entry (entries-right g rows)))))
 
 -- ---- what is handed over can be written
 

@@ -3,14 +3,14 @@ use mathlib.Core.Path.{_≡_, refl, sym, ap, _∙_, subst}
 use mathlib.Core.Bool.{Bool, true, false}
 use mathlib.Core.Option.{Option, none, some}
 use mathlib.Core.Logic.{_↔_, _⊎_, inl, inr}
-use mathlib.Core.List.{List, [], _∷_, _++_, map}
+use mathlib.Core.List.{List, [], _∷_, map}
 use Prim.Native.Nat.{ℕ, _≤_, _<_}
 use lib.Dec.{leb, leb→le, nleb→lt}
 use lib.ListN.{length}
 use Rattle.grammar.specs.Text.{Utf8}
 use Rattle.grammar.specs.Sentence.{qosFine, ruleFine}
 use Rattle.reading.specs.Refusal.{Refusal, nr}
-use Rattle.reading.specs.Reader.{Fit, got, bad}
+use Rattle.reading.specs.Reader.{Fit, got, bad, _>>_, guard}
 use Rattle.reading.specs.Read.{isText}
 use Rattle.reading.proofs.Lists.{no-way, T-of, leb-yes, leb-no}
 use Rattle.reading.proofs.Reading.{bad-got, got-inj}
@@ -18,12 +18,12 @@ use Rattle.reading.proofs.Fields.{text-fine}
 use Rattle.writing.specs.Lists.{Each, nil, _&_}
 use Rattle.writing.specs.Handed.{Handed, belongs}
 use Rattle.writing.specs.Size.{restIs, sizeIs}
-use Rattle.writing.specs.Order.{Test, judge, Field, raw, word, filter, fieldsOf, most, small, numbersOf, named, asked, belongsTest, restTest, limitTests, nameTest, askTest, roomTest, order}
-use Rattle.writing.specs.Write.{frameBytes, sizeOf, writeOf}
+use Rattle.writing.specs.Order.{judge, Field, raw, word, filter, fieldsOf, most, small, numbersOf, named, asked, limitTests, permit}
+use Rattle.writing.specs.Write.{frameBytes, sizeOf, writeOf, answerOf}
 use Rattle.writing.specs.Refuse.{Belongs, Short, Sound, Faulty, long-raw, long-word, long-filter, bad-word, bad-filter, bad-rule, bad-qos, FirstFault, Small, TooLarge, Unnamed, Unasked, Within, Countable, Refuses, field, too-large, no-name, number, none-asked, no-room, Accepts, Unsized}
 use Rattle.writing.proofs.Tests.{passes-when, fails-when, decide-by}
 use Rattle.writing.proofs.Belong.{belongs-when, unnamed-when, unasked-when}
-use Rattle.writing.proofs.Judge.{test-pass, test-fault, fields-pass, fields-fault, numbers-pass, numbers-fault, limit-pass, limit-fault}
+use Rattle.writing.proofs.Judge.{fields-pass, fields-fault, numbers-pass, numbers-fault, limit-pass, limit-fault}
 use Rattle.writing.specs.Refuse as r
 
 -- ---- decisions
@@ -119,54 +119,40 @@ module _ (limit : Option ℕ) (room : ℕ) (h : Handed) where
       go (inl w) (inl f) (inl l) (inl m) (inl i) (inl n) (inl s) (inl o) =
           inl (record { countable = record { belongs = w; fields = f; rest = l }; within = m; named = i; numbers = n; asked = s; fits = o })
 
-  -- the tests after 17 for identifiers, after 16 and after 17 for R
-  abbrev last : List Test
-  last = askTest h ∷ roomTest room (sizeIs h) ∷ []
+  unnamed-not : (Unnamed h → ⊥) → named h ≡ true
+  unnamed-not = passes-when (named h) (unnamed-when h) .1
 
-  abbrev late : List Test
-  late = nameTest h ∷ (map small (numbersOf h) ++ last)
+  unasked-not : (Unasked h → ⊥) → asked h ≡ true
+  unasked-not = passes-when (asked h) (unasked-when h) .1
 
-  abbrev mid : List Test
-  mid = limitTests limit (sizeIs h) ++ late
+  -- what is left of the order after 17 for R
+  abbrev later : Fit (Unit {0})
+  later = do
+    judge (limitTests limit (sizeIs h))
+    guard (named h) (nr 12 [])
+    judge (map small (numbersOf h))
+    guard (asked h) (nr 13 [])
+    guard (leb (sizeIs h) room) (nr 19 (sizeIs h ∷ []))
 
-  module _ {A : Type 0} (a : A) where
-    abbrev verdict : Fit A
-    verdict = judge (order limit room h) a
+  go-on : Countable h → permit limit room h ≡ later
+  unfolding permit
+  go-on c = rw (belongs-when h .1 (c .belongs), fields-pass (c .fields), leb-yes (restIs h) most (c .rest))
 
-    rest-next : Belongs h → Each Sound (fieldsOf h) → verdict ≡ judge (restTest h ∷ mid) a
-    unfolding order
-    rest-next w f = test-pass a (belongsTest h) _ (belongs-when h .1 w) ∙ fields-pass a (restTest h ∷ mid) f
+  accepts-got : Accepts limit room h → permit limit room h ≡ got tt
+  accepts-got p =
+      go-on (p .countable)
+      ∙ rw (limit-pass limit (sizeIs h) (p .within), unnamed-not (p .named), numbers-pass (p .numbers), unasked-not (p .asked), leb-yes (sizeIs h) room (p .fits))
 
-    limit-next : Countable h → verdict ≡ judge mid a
-    limit-next c = rest-next (c .belongs) (c .fields) ∙ test-pass a (restTest h) mid (leb-yes (restIs h) most (c .rest))
-
-    name-next : Countable h → Within limit (sizeIs h) → verdict ≡ judge late a
-    name-next c m = limit-next c ∙ limit-pass a limit (sizeIs h) late m
-
-    numbers-next : Countable h → Within limit (sizeIs h) → (Unnamed h → ⊥) → verdict ≡ judge (map small (numbersOf h) ++ last) a
-    numbers-next c m i = name-next c m ∙ test-pass a (nameTest h) (map small (numbersOf h) ++ last) (passes-when (named h) (unnamed-when h) .1 i)
-
-    ask-next : Countable h → Within limit (sizeIs h) → (Unnamed h → ⊥) → Each Small (numbersOf h) → verdict ≡ judge last a
-    ask-next c m i n = numbers-next c m i ∙ numbers-pass a last n
-
-    room-next : Countable h → Within limit (sizeIs h) → (Unnamed h → ⊥) → Each Small (numbersOf h) → (Unasked h → ⊥) → verdict ≡ judge (roomTest room (sizeIs h) ∷ []) a
-    room-next c m i n s = ask-next c m i n ∙ test-pass a (askTest h) (roomTest room (sizeIs h) ∷ []) (passes-when (asked h) (unasked-when h) .1 s)
-
-    accepts-got : Accepts limit room h → verdict ≡ got a
-    unfolding judge
-    accepts-got p =
-        room-next (p .countable) (p .within) (p .named) (p .numbers) (p .asked) ∙ test-pass a (roomTest room (sizeIs h)) [] (leb-yes (sizeIs h) room (p .fits))
-
-    refuses-bad : {k : Refusal} → Refuses limit room h k → verdict ≡ bad k
-    unfolding order
-    refuses-bad (r.Refuses.mismatch w) = test-fault a (belongsTest h) _ (fails-when (belongs h) (belongs-when h) w)
-    refuses-bad (field w f) = test-pass a (belongsTest h) _ (belongs-when h .1 w) ∙ fields-fault a (restTest h ∷ mid) f
-    refuses-bad (r.Refuses.too-long w f l) = rest-next w f ∙ test-fault a (restTest h) mid (leb-no (restIs h) most l)
-    refuses-bad (too-large {m} c e l) = limit-next c ∙ ap (λ (o : Option ℕ). judge (limitTests o (sizeIs h) ++ late) a) e ∙ limit-fault a m (sizeIs h) late l
-    refuses-bad (no-name c m i) = name-next c m ∙ test-fault a (nameTest h) _ (unnamed-when h .1 i)
-    refuses-bad (number c m i n) = numbers-next c m i ∙ numbers-fault a last n
-    refuses-bad (none-asked c m i n s) = ask-next c m i n ∙ test-fault a (askTest h) _ (unasked-when h .1 s)
-    refuses-bad (no-room c m i n s o) = room-next c m i n s ∙ test-fault a (roomTest room (sizeIs h)) [] (leb-no (sizeIs h) room o)
+  refuses-bad : (k : Refusal) → Refuses limit room h k → permit limit room h ≡ bad k
+  unfolding permit
+  refuses-bad _ (r.Refuses.mismatch w) = rw (fails-when (belongs h) (belongs-when h) w)
+  refuses-bad _ (field w f) = rw (belongs-when h .1 w, fields-fault f)
+  refuses-bad _ (r.Refuses.too-long w f l) = rw (belongs-when h .1 w, fields-pass f, leb-no (restIs h) most l)
+  refuses-bad _ (too-large {m} c e l) = go-on c ∙ rw (e, limit-fault m (sizeIs h) l)
+  refuses-bad _ (no-name c m i) = go-on c ∙ rw (limit-pass limit (sizeIs h) m, unnamed-when h .1 i)
+  refuses-bad _ (number c m i n) = go-on c ∙ rw (limit-pass limit (sizeIs h) m, unnamed-not i, numbers-fault n)
+  refuses-bad _ (none-asked c m i n s) = go-on c ∙ rw (limit-pass limit (sizeIs h) m, unnamed-not i, numbers-pass n, unasked-when h .1 s)
+  refuses-bad _ (no-room c m i n s o) = go-on c ∙ rw (limit-pass limit (sizeIs h) m, unnamed-not i, numbers-pass n, unasked-not s, leb-no (sizeIs h) room o)
 
 -- ---- the verdict
 
@@ -190,15 +176,36 @@ module _ {A : Type 0} {P : Type 0} {Q : Refusal → Type 0} (m : Fit A) (a : A) 
           subst Q i (t .1)
 
 module _ (limit : Option ℕ) (room : ℕ) (h : Handed) where
+  -- what is given if the write is permitted, and else the refusal
+  module _ {A : Type 0} (a : A) where
+    abbrev given : Fit A
+    given = permit limit room h >> got a
+
+    given-got : Accepts limit room h → given ≡ got a
+    given-got p = rw (accepts-got limit room h p)
+
+    given-bad : (k : Refusal) → Refuses limit room h k → given ≡ bad k
+    given-bad k p = rw (refuses-bad limit room h k p)
+
   -- a write is accepted exactly when no row applies, and then it is the frame
   pub accepted-when : (b : List ℕ) → (writeOf limit room h ≡ got b) ↔ (Accepts limit room h × (frameBytes h ≡ b))
   unfolding writeOf
-  accepted-when = got-when (verdict limit room h (frameBytes h)) (frameBytes h) (accepts-got limit room h (frameBytes h)) (λ k. refuses-bad limit room h (frameBytes h)) (decide limit room h)
+  accepted-when = got-when (given (frameBytes h)) (frameBytes h) (given-got (frameBytes h)) (given-bad (frameBytes h)) (decide limit room h)
 
   -- it is refused exactly as the first row that applies says
   pub refused-when : (k : Refusal) → (writeOf limit room h ≡ bad k) ↔ Refuses limit room h k
   unfolding writeOf
-  refused-when = bad-when (verdict limit room h (frameBytes h)) (frameBytes h) (accepts-got limit room h (frameBytes h)) (λ k. refuses-bad limit room h (frameBytes h)) (decide limit room h)
+  refused-when = bad-when (given (frameBytes h)) (frameBytes h) (given-got (frameBytes h)) (given-bad (frameBytes h)) (decide limit room h)
+
+  -- the answer is the size, exactly when the write is accepted
+  pub answered-when : (n : ℕ) → (answerOf limit room h ≡ got n) ↔ (Accepts limit room h × (sizeIs h ≡ n))
+  unfolding answerOf
+  answered-when = got-when (given (sizeIs h)) (sizeIs h) (given-got (sizeIs h)) (given-bad (sizeIs h)) (decide limit room h)
+
+  -- and the refusal, exactly when it is refused
+  pub unanswered-when : (k : Refusal) → (answerOf limit room h ≡ bad k) ↔ Refuses limit room h k
+  unfolding answerOf
+  unanswered-when = bad-when (given (sizeIs h)) (sizeIs h) (given-got (sizeIs h)) (given-bad (sizeIs h)) (decide limit room h)
 
 -- ---- size, asked alone
 
@@ -215,18 +222,18 @@ module _ (h : Handed) where
       go (inl w) (inl l) = inl (w, l)
 
   sized-got : Sized → sizeOf h ≡ got (sizeIs h)
-  unfolding sizeOf judge
+  unfolding sizeOf
   sized-got (w, l) = rw (belongs-when h .1 w, leb-yes (restIs h) most l)
 
-  unsized-bad : {k : Refusal} → Unsized h k → sizeOf h ≡ bad k
-  unfolding sizeOf judge
-  unsized-bad (r.Unsized.mismatch w) = rw (fails-when (belongs h) (belongs-when h) w)
-  unsized-bad (r.Unsized.too-long w l) = rw (belongs-when h .1 w, leb-no (restIs h) most l)
+  unsized-bad : (k : Refusal) → Unsized h k → sizeOf h ≡ bad k
+  unfolding sizeOf
+  unsized-bad _ (r.Unsized.mismatch w) = rw (fails-when (belongs h) (belongs-when h) w)
+  unsized-bad _ (r.Unsized.too-long w l) = rw (belongs-when h .1 w, leb-no (restIs h) most l)
 
   -- the size is told exactly when what is handed over belongs together and R can be written
   pub sized-when : (n : ℕ) → (sizeOf h ≡ got n) ↔ (Sized × (sizeIs h ≡ n))
-  sized-when = got-when (sizeOf h) (sizeIs h) sized-got (λ k. unsized-bad) decide-size
+  sized-when = got-when (sizeOf h) (sizeIs h) sized-got unsized-bad decide-size
 
   -- it is refused exactly as 20, then 17 for R say
   pub unsized-when : (k : Refusal) → (sizeOf h ≡ bad k) ↔ Unsized h k
-  unsized-when = bad-when (sizeOf h) (sizeIs h) sized-got (λ k. unsized-bad) decide-size
+  unsized-when = bad-when (sizeOf h) (sizeIs h) sized-got unsized-bad decide-size

@@ -136,7 +136,7 @@ abbrev pub tag : ℕ × Form → List Value → List Entry
 tag r [] = []
 tag r (v ∷ vs) = (r, v) ∷ tag r vs
 
--- 01, grammar: "The writer emits the properties in the order of the table above"; and the values of a row in theirs
+-- 01, table of properties: the properties of a block, row by row, and the values of a row in their order
 unfoldable pub entries : Place → Givens → List Entry
 entries place g = flat (λ r. tag r (items (g (r .0)))) place
 

@@ -1,4 +1,4 @@
--- Tests in an order, of which the first that fails says the refusal; and what is tested of a hand-over, field by field. Assumes nothing.
+-- What is tested of a hand-over, and in which order: the first test that fails says the refusal. Assumes nothing.
 use mathlib.Core.Bool.{Bool, true, not, _||_}
 use mathlib.Core.Option.{Option, none, some}
 use mathlib.Core.List.{List, [], _∷_, _++_, map}
@@ -9,7 +9,7 @@ use Rattle.grammar.specs.Choice.{pick, isEmpty}
 use Rattle.grammar.specs.Tables.{Form, u8, u16, u32, number, text, bytes, pair, Place, publishPlace, subscribePlace, ackPlace}
 use Rattle.grammar.specs.Sentence.{notZero, qosFine, ruleFine}
 use Rattle.reading.specs.Refusal.{Refusal, nr}
-use Rattle.reading.specs.Reader.{Fit, got, bad}
+use Rattle.reading.specs.Reader.{Fit, got, _>>_, guard}
 use Rattle.reading.specs.Read.{isText}
 use Rattle.writing.specs.Lists.{flat}
 use Rattle.writing.specs.Handed.{Handed, publish, ack, subscribe, ping, Given, one, lent, pairs, several, Givens, publishGiven, subscribeGiven, ackGiven, strings, filters, belongs}
@@ -19,10 +19,12 @@ use Rattle.writing.specs.Size.{restIs, sizeIs}
 abbrev pub Test : Type 0
 Test = Bool × Refusal
 
--- a, or the refusal of the first test that fails
-unfoldable pub judge : {A : Type 0} → List Test → A → Fit A
-judge [] a = got a
-judge (t ∷ ts) a = pick (t .0) (judge ts a) (bad (t .1))
+-- the refusal of the first test that fails
+unfoldable pub judge : List Test → Fit (Unit {0})
+judge [] = got tt
+judge (t ∷ ts) = do
+  guard (t .0) (t .1)
+  judge ts
 
 -- ---- the fields that are tested as they are written
 
@@ -114,32 +116,19 @@ asked (ack k h) = true
 asked (subscribe h) = not (isEmpty (filters h))
 asked (ping k) = true
 
--- 20
-abbrev pub belongsTest : Handed → Test
-belongsTest h = (belongs h, nr 20 [])
-
--- 17 for R
-abbrev pub restTest : Handed → Test
-restTest h = small (restIs h)
-
 -- 01, row 16: "write size above the limit"
 abbrev pub limitTests : Option ℕ → ℕ → List Test
 limitTests none n = []
 limitTests (some m) n = (leb n m, nr 16 (n ∷ m ∷ [])) ∷ []
 
--- 12
-abbrev pub nameTest : Handed → Test
-nameTest h = (named h, nr 12 [])
-
--- 13
-abbrev pub askTest : Handed → Test
-askTest h = (asked h, nr 13 [])
-
--- 01, row 19: "output shorter than the size"
-abbrev pub roomTest : ℕ → ℕ → Test
-roomTest room n = (leb n room, nr 19 (n ∷ []))
-
 -- 01, writing order: "20; then 18, and 9 for text, field by field as written, ..; 17 for R; 16; 12; 17 for identifiers in order; 13; 19"
-unfoldable pub order : Option ℕ → ℕ → Handed → List Test
-order limit room h =
-    belongsTest h ∷ (flat fieldTests (fieldsOf h) ++ restTest h ∷ (limitTests limit (sizeIs h) ++ nameTest h ∷ (map small (numbersOf h) ++ askTest h ∷ roomTest room (sizeIs h) ∷ [])))
+unfoldable pub permit : Option ℕ → ℕ → Handed → Fit (Unit {0})
+permit limit room h = do
+  guard (belongs h) (nr 20 [])
+  judge (flat fieldTests (fieldsOf h))
+  guard (leb (restIs h) most) (nr 17 [])
+  judge (limitTests limit (sizeIs h))
+  guard (named h) (nr 12 [])
+  judge (map small (numbersOf h))
+  guard (asked h) (nr 13 [])
+  guard (leb (sizeIs h) room) (nr 19 (sizeIs h ∷ []))

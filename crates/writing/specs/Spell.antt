@@ -8,7 +8,7 @@ use Rattle.grammar.specs.Tables.{Form, u8, u16, u32, number, text, bytes, pair,
 use Rattle.grammar.specs.Record.{num, str, duo}
 use Rattle.grammar.specs.Sentence.{Value}
 use Rattle.writing.specs.Lists.{flat}
-use Rattle.writing.specs.Handed.{Givens, Entry, entries}
+use Rattle.writing.specs.Handed.{Given, Givens, items, Entry, tag}
 
 -- 01, grammar: "Numbers are big-endian": k bytes
 unfoldable pub wide : ℕ → ℕ → List ℕ
@@ -55,9 +55,13 @@ value f (duo a b) = string a ++ string b
 abbrev pub entry : Entry → List ℕ
 entry e = e .0 .0 ∷ value (e .0 .1) (e .1)
 
--- what fills a place's block
+-- what is written of a row: its values in order
+abbrev pub rowBytes : ℕ × Form → Given → List ℕ
+rowBytes r g = flat entry (tag r (items g))
+
+-- 01, grammar: "The writer emits the properties in the order of the table above": what fills a place's block
 unfoldable pub propsBytes : Place → Givens → List ℕ
-propsBytes place g = flat entry (entries place g)
+propsBytes place g = flat (λ r. rowBytes r (g (r .0))) place
 
 -- the number of bytes, and the bytes: R and what fills a frame, L and what fills a block
 unfoldable pub counted : List ℕ → List ℕ

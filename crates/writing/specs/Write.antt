@@ -1,16 +1,19 @@
 -- The bytes of a frame, the size, what a write gives, and the output afterwards. Assumes nothing.
+use mathlib.Core.Path.{_≡_}
 use mathlib.Core.Option.{Option, none, some}
 use mathlib.Core.List.{List, [], _∷_, _++_}
 use Prim.Native.Nat.{ℕ, _+_, _*_}
+use lib.Dec.{leb}
 use lib.ListN.{length, drop}
 use Rattle.grammar.specs.Choice.{pick, lookup}
 use Rattle.grammar.specs.Tables.{publishPlace, subscribePlace, ackPlace}
-use Rattle.reading.specs.Reader.{Fit, got, bad}
+use Rattle.reading.specs.Refusal.{nr}
+use Rattle.reading.specs.Reader.{Fit, got, bad, _>>_, guard}
 use Rattle.writing.specs.Lists.{flat}
-use Rattle.writing.specs.Handed.{Handed, publish, ack, subscribe, ping, publishGiven, subscribeGiven, ackGiven, filters}
+use Rattle.writing.specs.Handed.{Handed, publish, ack, subscribe, ping, publishGiven, subscribeGiven, ackGiven, filters, belongs}
 use Rattle.writing.specs.Spell.{wide, string, counted, block, filterBytes}
-use Rattle.writing.specs.Size.{noIdent, isPlain, sizeIs}
-use Rattle.writing.specs.Order.{judge, belongsTest, restTest, order}
+use Rattle.writing.specs.Size.{noIdent, isPlain, restIs, sizeIs}
+use Rattle.writing.specs.Order.{most, permit}
 
 -- ---- the first byte
 
@@ -54,11 +57,22 @@ frameBytes h = firstByte h ∷ counted (bodyBytes h)
 
 -- 01: "Asked alone, size refuses only with 20, then 17 for R"
 unfoldable pub sizeOf : Handed → Fit ℕ
-sizeOf h = judge (belongsTest h ∷ restTest h ∷ []) (sizeIs h)
+sizeOf h = do
+  guard (belongs h) (nr 20 [])
+  guard (leb (restIs h) most) (nr 17 [])
+  got (sizeIs h)
 
 -- what a write gives under a limit, into an output of `room` bytes
 unfoldable pub writeOf : Option ℕ → ℕ → Handed → Fit (List ℕ)
-writeOf limit room h = judge (order limit room h) (frameBytes h)
+writeOf limit room h = do
+  permit limit room h
+  got (frameBytes h)
+
+-- 01: an accepted write "gives that size"
+unfoldable pub answerOf : Option ℕ → ℕ → Handed → Fit ℕ
+answerOf limit room h = do
+  permit limit room h
+  got (sizeIs h)
 
 -- 01: "A refused write leaves the output as it stood. An accepted one sets the first size bytes, .. and keeps the rest"
 abbrev pub leaves : List ℕ → Fit (List ℕ) → List ℕ
@@ -68,3 +82,8 @@ leaves out (bad k) = out
 -- the output afterwards
 unfoldable pub outOf : Option ℕ → List ℕ → Handed → List ℕ
 outOf limit out h = leaves out (writeOf limit (length out) h)
+
+-- what every writer's contract says: what its answer tells, and the output before and after
+pub record Written (limit : Option ℕ) (h : Handed) (before after : List ℕ) (told : Fit ℕ) : Type 0 where
+  pub answer : told ≡ answerOf limit (length before) h
+  pub output : after ≡ outOf limit before h
