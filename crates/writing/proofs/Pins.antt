@@ -1,19 +1,21 @@
 -- What 01 says of the bytes, and the sentence theorem leaves open: first bytes, shortest lengths (`Shortest`), the order of properties,
 -- no identifier at QoS 0, bits 6-7 of options, a plain success, empty pings. Assumes nothing.
 use mathlib.Core.Path.{_≡_, refl, ap, _∙_}
-use mathlib.Core.Bool.{Bool, true, false}
+use mathlib.Core.Bool.{Bool, true, false, _||_}
 use mathlib.Core.Option.{Option, some}
-use mathlib.Core.List.{List, [], _∷_, _++_, append-nil}
+use mathlib.Core.List.{List, [], _∷_, _++_, map, append-nil}
 use Prim.Native.Nat.{ℕ, _+_, _*_, _/_, _%_}
 use native.Mathlib.Omega.{arith}
+use lib.Dec.{eqb}
 use Rattle.grammar.specs.Choice.{pick}
 use Rattle.grammar.specs.Tables.{Form, u8, u16, u32, number, text, bytes, pair, publishPlace, subscribePlace, ackPlace}
 use Rattle.grammar.specs.Record.{str}
 use Rattle.reading.specs.Reader.{got}
 use Rattle.writing.specs.Lists.{flat}
-use Rattle.writing.specs.Handed.{Lent, PublishHanded, SubscribeHanded, AckHanded, publish, ack, subscribe, ping, one, lent, pairs, several, publishGiven, subscribeGiven, ackGiven, tag, filters}
+use Rattle.writing.specs.Handed.{Lent, PublishHanded, SubscribeHanded, AckHanded, publish, ack, subscribe, ping, one, lent, pairs, several, publishGiven, subscribeGiven, ackGiven, strings, tag, filters}
 use Rattle.writing.specs.Spell.{wide, spellStep, spell, short, string, numeral, value, entry, rowBytes, propsBytes, counted, block, filterBytes}
-use Rattle.writing.specs.Size.{isPlain}
+use Rattle.writing.specs.Size.{identSize, isPlain}
+use Rattle.writing.specs.Order.{raw, word, propsFields, filterField, fieldsOf}
 use Rattle.writing.specs.Write.{firsts, firstOf, firstByte, identBytes, bodyBytes, frameBytes, writeOf}
 use Rattle.writing.proofs.Demand.{written}
 
@@ -57,6 +59,29 @@ lent-bytes i f l = go (l .on)
     go true = ap (λ (s : List ℕ). i ∷ s) (append-nil (string (l .bytes)))
     go false = refl
 
+-- ---- the fields that are tested, in the order in which they are written
+
+-- 01, writing order: topic, 8, 9, pairs key then value, 3
+pub publish-order : (h : PublishHanded) → fieldsOf (publish h)
+    ≡ raw (h .topic)
+    ∷ (pick (h .response .on) (word (h .response .bytes) ∷ []) []
+    ++ (pick (h .correlation .on) (raw (h .correlation .bytes) ∷ []) []
+    ++ (map word (strings (h .user))
+    ++ (pick (h .content .on) (word (h .content .bytes) ∷ []) []
+    ++ []))))
+unfolding fieldsOf propsFields publishPlace publishGiven
+publish-order h = refl
+
+-- 01, writing order: pairs, then each filter's text and options
+pub subscribe-order : (h : SubscribeHanded) → fieldsOf (subscribe h) ≡ (map word (strings (h .user)) ++ []) ++ map filterField (filters h)
+unfolding fieldsOf propsFields subscribePlace subscribeGiven
+subscribe-order h = refl
+
+-- 01, writing order: 31, pairs
+pub ack-order : (k : ℕ) (h : AckHanded) → fieldsOf (ack k h) ≡ pick (h .text .on) (word (h .text .bytes) ∷ []) [] ++ (map word (strings (h .user)) ++ [])
+unfolding fieldsOf propsFields ackPlace ackGiven
+ack-order k h = refl
+
 -- ---- whole frames
 
 module _ (limit : Option ℕ) (room : ℕ) (b : List ℕ) where
@@ -98,6 +123,14 @@ first-bytes = (refl, refl, refl, refl)
 -- 01, grammar: "QoS 0 writes no identifier"
 pub no-ident : (i : ℕ) → identBytes 0 i ≡ []
 no-ident i = refl
+
+-- 01, writing order: "size leaves out a Publish identifier that is 0"
+pub zero-left-out : (q : ℕ) → identSize q 0 ≡ 0
+zero-left-out q = go (eqb q 0)
+  where
+    go : (t : Bool) → _≡_ {A = ℕ} (pick (t || true) 0 2) 0
+    go true = refl
+    go false = refl
 
 -- 01, "What must change shape": "bits 6-7 written as 0 and no part of the record"
 pub options-low : (o : ℕ) → o % 64 / 64 ≡ 0
