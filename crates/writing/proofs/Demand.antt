@@ -20,12 +20,13 @@ use Rattle.reading.proofs.Lists.{eq-of}
 use Rattle.reading.proofs.Demand.{reads-sentence}
 use Rattle.writing.specs.Lists.{Each, Octets}
 use Rattle.writing.specs.Handed.{PublishHanded, SubscribeHanded, AckHanded, Handed, publish, ack, subscribe, ping, Givens, publishGiven, subscribeGiven, ackGiven, entries}
-use Rattle.writing.specs.Write.{frameBytes, sizeOf, writeOf, leaves, outOf}
-use Rattle.writing.specs.Refuse.{InBlock, Belongs, Within, Accepts}
+use Rattle.writing.specs.Size.{sizeIs}
+use Rattle.writing.specs.Write.{frameBytes, sizeOf, writeOf, answerOf, leaves, outOf}
+use Rattle.writing.specs.Refuse.{InBlock, Belongs, Within}
 use Rattle.writing.specs.Value.{publishSet, subscribeSet, ackSet, thePublish, theAck, theSubscribe, meant, nonePublish, noneAck, noneSubscribe, said, Typed, Filled, Plain}
 use Rattle.writing.proofs.Belong.{nothing-entries}
 use Rattle.writing.proofs.Sizes.{length-frame}
-use Rattle.writing.proofs.Verdict.{accepted-when, sized-when}
+use Rattle.writing.proofs.Verdict.{answered-when, accepts, written, sized-when}
 use Rattle.writing.proofs.Packets.{says-handed}
 
 -- ---- an accepted write, of anything that is handed over
@@ -35,21 +36,14 @@ pub record Wrote (limit : Option ℕ) (room : ℕ) (h : Handed) (b : List ℕ) :
   pub sentence : Sentence (said h) b
   pub octets : Octets b
   pub size : sizeOf h ≡ got (length b)
+  pub answer : answerOf limit room h ≡ got (length b)
   pub within : Within limit (length b)
   pub fits : length b ≤ room
 
--- a write that is accepted gives the size, and keeps the limit and the room
 module _ (limit : Option ℕ) (room : ℕ) (h : Handed) (b : List ℕ) (e : writeOf limit room h ≡ got b) where
-  pub accepts : Accepts limit room h
-  accepts = accepted-when limit room h b .0 e .0
-
-  pub written : b ≡ frameBytes h
-  written = sym (accepted-when limit room h b .0 e .1)
-
-  pub written-size : sizeOf h ≡ got (length b)
-  written-size =
-      let c = accepts .countable in
-      sized-when h (length b) .1 ((c .belongs, c .rest), sym (ap length written ∙ length-frame h (c .belongs)))
+  -- the size is the number of bytes
+  pub written-size : sizeIs h ≡ length b
+  written-size = sym (ap length (written limit room h b e) ∙ length-frame h (accepts limit room h b e .countable .belongs))
 
 module _ (limit : Option ℕ) (room : ℕ) (h : Handed) (b : List ℕ) (t : Typed h) (e : writeOf limit room h ≡ got b) where
   pub writes : Wrote limit room h b
@@ -57,13 +51,14 @@ module _ (limit : Option ℕ) (room : ℕ) (h : Handed) (b : List ℕ) (t : Type
       let p = accepts limit room h b e in
       let i : b ≡ frameBytes h = written limit room h b e in
       let s = says-handed limit room h t p in
-      let l = length-frame h (p .countable .belongs) in
+      let l : sizeIs h ≡ length b = written-size limit room h b e in
       record {
         sentence = rw i (s .spelled);
         octets = rw i (s .octets);
-        size = written-size limit room h b e;
-        within = rw (i, l) (p .within);
-        fits = rw (i, l) (p .fits);
+        size = sized-when h (length b) .1 ((p .countable .belongs, p .countable .rest), l);
+        answer = answered-when limit room h (length b) .1 (p, l);
+        within = rw l at (p .within);
+        fits = rw l at (p .fits);
       }
 
   -- whatever follows, what is read is what the bytes say, and taken is the size
@@ -144,9 +139,7 @@ module _ (limit : Option ℕ) (out : List ℕ) (h : Handed) where
   out-written b e = rw e
 
   room-for : (b : List ℕ) → writeOf limit (length out) h ≡ got b → length b ≤ length out
-  room-for b e =
-      let p = accepts limit (length out) h b e in
-      rw (written limit (length out) h b e, length-frame h (p .countable .belongs)) (p .fits)
+  room-for b e = rw (written-size limit (length out) h b e) at (accepts limit (length out) h b e .fits)
 
   -- the same as a run of stores from place 0 on
   pub out-sets : (b : List ℕ) → writeOf limit (length out) h ≡ got b → outOf limit out h ≡ sets out 0 b

@@ -17,7 +17,7 @@ use Rattle.writing.specs.Spell.{wide, spellStep, spell, short, string, n
 use Rattle.writing.specs.Size.{identSize, isPlain}
 use Rattle.writing.specs.Order.{raw, word, propsFields, filterField, fieldsOf}
 use Rattle.writing.specs.Write.{firsts, firstOf, firstByte, identBytes, bodyBytes, frameBytes, writeOf}
-use Rattle.writing.proofs.Demand.{written}
+use Rattle.writing.proofs.Verdict.{written}
 
 -- ---- the order of properties, and each row
 

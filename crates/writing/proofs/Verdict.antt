@@ -207,6 +207,14 @@ module _ (limit : Option ℕ) (room : ℕ) (h : Handed) where
   unfolding answerOf
   unanswered-when = bad-when (given (sizeIs h)) (sizeIs h) (given-got (sizeIs h)) (given-bad (sizeIs h)) (decide limit room h)
 
+-- what was accepted, and its bytes
+module _ (limit : Option ℕ) (room : ℕ) (h : Handed) (b : List ℕ) (e : writeOf limit room h ≡ got b) where
+  pub accepts : Accepts limit room h
+  accepts = accepted-when limit room h b .0 e .0
+
+  pub written : b ≡ frameBytes h
+  written = sym (accepted-when limit room h b .0 e .1)
+
 -- ---- size, asked alone
 
 module _ (h : Handed) where
