@@ -13,7 +13,8 @@ use Rattle.reading.specs.Read.{isText}
 use Rattle.reading.proofs.Lists.{leb-yes, leb-no}
 use Rattle.reading.proofs.Fields.{text-fine}
 use Rattle.writing.specs.Lists.{Each, nil, _&_, flat}
-use Rattle.writing.specs.Order.{Test, judge, Field, raw, word, filter, fieldTests, most, small, limitTests}
+use Rattle.writing.specs.Size.{most}
+use Rattle.writing.specs.Order.{Test, judge, Field, raw, word, filter, fieldTests, small, limitTests}
 use Rattle.writing.specs.Refuse.{Sound, Faulty, long-raw, long-word, long-filter, bad-word, bad-filter, bad-rule, bad-qos, FirstFault, Small, TooLarge, Within}
 use Rattle.writing.proofs.Tests.{fails-when}
 use Rattle.writing.specs.Refuse as r

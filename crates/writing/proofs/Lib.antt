@@ -12,3 +12,4 @@ pub mod Demand
 pub mod Back
 pub mod Shortest
 pub mod Pins
+pub mod ForCode

@@ -17,8 +17,8 @@ use Rattle.reading.proofs.Lists.{no-way, eq-of}
 use Rattle.writing.specs.Lists.{Each, nil, _&_, Octet, Octets, flat, beside}
 use Rattle.writing.specs.Handed.{PublishHanded, SubscribeHanded, AckHanded, Handed, publish, ack, subscribe, ping, publishGiven, subscribeGiven, ackGiven, strings, propOf, entries, filters}
 use Rattle.writing.specs.Spell.{wide, propsBytes, counted, block}
-use Rattle.writing.specs.Size.{isPlain}
-use Rattle.writing.specs.Order.{Field, givenFields, propsFields, filterField, fieldsOf, most, numbersOf, named, asked}
+use Rattle.writing.specs.Size.{most, isPlain}
+use Rattle.writing.specs.Order.{Field, givenFields, propsFields, filterField, fieldsOf, numbersOf, named, asked}
 use Rattle.writing.specs.Write.{firsts, firstOf, firstByte, identBytes, bodyBytes, frameBytes}
 use Rattle.writing.specs.Refuse.{InBlock, Belongs, Sound, Small, Accepts}
 use Rattle.writing.specs.Value.{said, PublishTyped, AckTyped, SubscribeTyped, Typed}

@@ -12,7 +12,7 @@ use Rattle.grammar.specs.Number.{Byte, byte, bigFrom, Big, big, Groups, last, n
 use Rattle.reading.proofs.Lists.{T-of, ltb-false}
 use Rattle.writing.specs.Lists.{Each, nil, _&_, Octets, flat}
 use Rattle.writing.specs.Spell.{wide, spellStep, spell, short, counted}
-use Rattle.writing.specs.Order.{most}
+use Rattle.writing.specs.Size.{most}
 use Rattle.writing.proofs.Each.{each-append}
 
 -- the bytes b say a

@@ -3,10 +3,10 @@ use mathlib.Core.Path.{_≡_, refl, sym, _∙_}
 use mathlib.Core.Bool.{Bool, true, false, not, _&&_, _||_}
 use mathlib.Core.Logic.{_↔_, _⊎_, inl, inr}
 use mathlib.Core.List.{List, [], _∷_}
-use Prim.Native.Nat.{ℕ}
-use lib.Dec.{eqb, eqb-refl}
+use Prim.Native.Nat.{ℕ, _≤_, _<_}
+use lib.Dec.{eqb, leb, eqb-refl, leb→le, nleb→lt}
 use Rattle.grammar.specs.Choice.{isEmpty}
-use Rattle.reading.proofs.Lists.{no-way, T-true, eq-of}
+use Rattle.reading.proofs.Lists.{no-way, T-true, T-of, eq-of}
 use Rattle.writing.specs.Lists.{Each, nil, _&_, all}
 use Rattle.writing.proofs.Each.{each-head, each-tail}
 
@@ -78,3 +78,12 @@ fails-when t w n = go t refl
 pub decide-by : {P Q : Type 0} (t : Bool) → (t ≡ true → P) → (t ≡ false → Q) → P ⊎ Q
 decide-by true p q = inl (p refl)
 decide-by false p q = inr (q refl)
+
+pub le-or : (m n : ℕ) → (m ≤ n) ⊎ (n < m)
+le-or m n = decide-by (leb m n) (λ e. leb→le m n (T-of (leb m n) e)) (λ e. nleb→lt m n (rw e tt))
+
+-- two tests that say the same
+pub same-test : (a b : Bool) → (a ≡ true → b ≡ true) → (b ≡ true → a ≡ true) → a ≡ b
+same-test true b f g = sym (f refl)
+same-test false true f g = g refl
+same-test false false f g = refl

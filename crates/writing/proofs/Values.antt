@@ -16,7 +16,8 @@ use Rattle.grammar.specs.Sentence.{Any, Bytes, Text, Value, Prop, duoOf, Spelt,
 use Rattle.writing.specs.Lists.{Each, nil, _&_, Octets, flat}
 use Rattle.writing.specs.Handed.{Lent, Run, one, lent, pairs, several, Givens, strings, duos, items, Entry, propOf, tag, entries}
 use Rattle.writing.specs.Spell.{string, numeral, value, entry, rowBytes, propsBytes, block, filterBytes}
-use Rattle.writing.specs.Order.{word, stringField, filterField, most, orNone}
+use Rattle.writing.specs.Size.{most}
+use Rattle.writing.specs.Order.{word, stringField, filterField, orNone}
 use Rattle.writing.specs.Refuse.{Short, Sound, Small}
 use Rattle.writing.specs.Value.{Below}
 use Rattle.writing.proofs.Each.{each-imp, each-both, map-each, flat-each, each-piece, flat-append}

@@ -5,23 +5,23 @@ use mathlib.Core.Option.{Option, none, some}
 use mathlib.Core.Logic.{_↔_, _⊎_, inl, inr}
 use mathlib.Core.List.{List, [], _∷_, map}
 use Prim.Native.Nat.{ℕ, _≤_, _<_}
-use lib.Dec.{leb, leb→le, nleb→lt}
+use lib.Dec.{leb}
 use lib.ListN.{length}
 use Rattle.grammar.specs.Text.{Utf8}
 use Rattle.grammar.specs.Sentence.{qosFine, ruleFine}
 use Rattle.reading.specs.Refusal.{Refusal, nr}
 use Rattle.reading.specs.Reader.{Fit, got, bad, _>>_, guard}
 use Rattle.reading.specs.Read.{isText}
-use Rattle.reading.proofs.Lists.{no-way, T-of, leb-yes, leb-no}
+use Rattle.reading.proofs.Lists.{no-way, leb-yes, leb-no}
 use Rattle.reading.proofs.Reading.{bad-got, got-inj}
 use Rattle.reading.proofs.Fields.{text-fine}
 use Rattle.writing.specs.Lists.{Each, nil, _&_}
 use Rattle.writing.specs.Handed.{Handed, belongs}
-use Rattle.writing.specs.Size.{restIs, sizeIs}
-use Rattle.writing.specs.Order.{judge, Field, raw, word, filter, fieldsOf, most, small, numbersOf, named, asked, limitTests, permit}
+use Rattle.writing.specs.Size.{most, restIs, sizeIs}
+use Rattle.writing.specs.Order.{judge, Field, raw, word, filter, fieldsOf, small, numbersOf, named, asked, limitTests, permit}
 use Rattle.writing.specs.Write.{frameBytes, sizeOf, writeOf, answerOf}
 use Rattle.writing.specs.Refuse.{Belongs, Short, Sound, Faulty, long-raw, long-word, long-filter, bad-word, bad-filter, bad-rule, bad-qos, FirstFault, Small, TooLarge, Unnamed, Unasked, Within, Countable, Refuses, field, too-large, no-name, number, none-asked, no-room, Accepts, Unsized}
-use Rattle.writing.proofs.Tests.{passes-when, fails-when, decide-by}
+use Rattle.writing.proofs.Tests.{passes-when, fails-when, decide-by, le-or}
 use Rattle.writing.proofs.Belong.{belongs-when, unnamed-when, unasked-when}
 use Rattle.writing.proofs.Judge.{fields-pass, fields-fault, numbers-pass, numbers-fault, limit-pass, limit-fault}
 use Rattle.writing.specs.Refuse as r
@@ -30,9 +30,6 @@ use Rattle.writing.specs.Refuse as r
 
 either : (t : Bool) → (t ≡ true) ⊎ (t ≡ false)
 either t = decide-by t (λ e. e) (λ e. e)
-
-le-or : (m n : ℕ) → (m ≤ n) ⊎ (n < m)
-le-or m n = decide-by (leb m n) (λ e. leb→le m n (T-of (leb m n) e)) (λ e. nleb→lt m n (rw e tt))
 
 -- of a test that holds exactly when P does
 holds-or : {P : Type 0} (t : Bool) → (t ≡ true) ↔ P → P ⊎ (P → ⊥)

@@ -165,9 +165,13 @@ nothing (lent l) = not (l .on) && isEmpty (l .bytes)
 nothing (pairs r) = isEmpty (r .bytes) && isEmpty (r .lengths)
 nothing (several ns) = isEmpty ns
 
--- "anything is handed over for an absent .. block"
+-- "anything is handed over for an absent .. block": what is handed over for a row, where the block is present or not
+abbrev pub rowBelongs : Bool → Given → Bool
+rowBelongs block g = sorted g && (block || nothing g)
+
+-- the rows of a block
 unfoldable pub blockBelongs : Place → Bool → Givens → Bool
-blockBelongs place block g = all (λ r. sorted (g (r .0)) && (block || nothing (g (r .0)))) place
+blockBelongs place block g = all (λ r. rowBelongs block (g (r .0))) place
 
 -- "options bytes and filter lengths differ in number"
 unfoldable pub filtersBelong : SubscribeHanded → Bool

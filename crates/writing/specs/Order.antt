@@ -13,7 +13,7 @@ use Rattle.reading.specs.Reader.{Fit, got, _>>_, guard}
 use Rattle.reading.specs.Read.{isText}
 use Rattle.writing.specs.Lists.{flat}
 use Rattle.writing.specs.Handed.{Handed, publish, ack, subscribe, ping, Given, one, lent, pairs, several, Givens, publishGiven, subscribeGiven, ackGiven, strings, filters, belongs}
-use Rattle.writing.specs.Size.{restIs, sizeIs}
+use Rattle.writing.specs.Size.{most, restIs, sizeIs}
 
 -- what must hold, and the refusal if it does not
 abbrev pub Test : Type 0
@@ -81,10 +81,6 @@ fieldsOf (subscribe h) = propsFields subscribePlace (subscribeGiven h) ++ map fi
 fieldsOf (ping k) = []
 
 -- ---- the other tests
-
--- 01, grammar: "Largest: 268,435,455"
-abbrev pub most : ℕ
-most = 268435455
 
 -- 01, row 17: "written R, or a subscription identifier, above 268,435,455"
 abbrev pub small : ℕ → Test

@@ -11,8 +11,8 @@ use Rattle.grammar.specs.Sentence.{qosFine, ruleFine}
 use Rattle.reading.specs.Refusal.{Refusal, nr}
 use Rattle.writing.specs.Lists.{Each, sum}
 use Rattle.writing.specs.Handed.{Run, Handed, publish, ack, subscribe, ping, Given, one, lent, pairs, several, Givens, publishGiven, subscribeGiven, ackGiven, filters}
-use Rattle.writing.specs.Size.{restIs, sizeIs}
-use Rattle.writing.specs.Order.{Field, raw, word, filter, fieldsOf, most, numbersOf}
+use Rattle.writing.specs.Size.{most, restIs, sizeIs}
+use Rattle.writing.specs.Order.{Field, raw, word, filter, fieldsOf, numbersOf}
 
 -- ---- what belongs together (20)
 

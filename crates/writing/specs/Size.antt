@@ -2,7 +2,7 @@
 use mathlib.Core.Bool.{Bool, not, _&&_, _||_}
 use mathlib.Core.Option.{none, some}
 use Prim.Native.Nat.{ℕ, _+_, _*_, _/_}
-use lib.Dec.{ltb, eqb}
+use lib.Dec.{leb, ltb, eqb}
 use lib.ListN.{length}
 use Rattle.grammar.specs.Choice.{pick}
 use Rattle.grammar.specs.Tables.{Form, u8, u16, u32, number, text, bytes, pair, Place, publishPlace, subscribePlace, ackPlace}
@@ -12,6 +12,10 @@ use Rattle.writing.specs.Handed.{SubscribeHanded, AckHanded, Handed, pub
 -- 01, "Lengths": how many bytes spell a number; writing order: "counts four bytes for a subscription identifier too large to write"
 abbrev pub lenLen : ℕ → ℕ
 lenLen n = pick (ltb n 128) 1 (pick (ltb n 16384) 2 (pick (ltb n 2097152) 3 4))
+
+-- 01, grammar: "Largest: 268,435,455"
+abbrev pub most : ℕ
+most = 268435455
 
 -- n bytes with their number in front
 abbrev pub withLength : ℕ → ℕ
@@ -69,3 +73,9 @@ restIs (ping k) = 0
 -- 01, grammar: "A frame is one byte .., a variable length number R, then R bytes"
 unfoldable pub sizeIs : Handed → ℕ
 sizeIs h = 1 + withLength (restIs h)
+
+-- ---- sums that are cut off
+
+-- 01, row 17: "above 268,435,455": the sum itself up to there, else one more, which is as much of it as the refusal needs
+abbrev pub cap : ℕ → ℕ
+cap n = pick (leb n most) n (most + 1)

@@ -12,8 +12,8 @@ use Rattle.reading.specs.Reader.{Fit, got, bad, _>>_, guard}
 use Rattle.writing.specs.Lists.{flat}
 use Rattle.writing.specs.Handed.{Handed, publish, ack, subscribe, ping, publishGiven, subscribeGiven, ackGiven, filters, belongs}
 use Rattle.writing.specs.Spell.{wide, string, counted, block, filterBytes}
-use Rattle.writing.specs.Size.{noIdent, isPlain, restIs, sizeIs}
-use Rattle.writing.specs.Order.{most, permit}
+use Rattle.writing.specs.Size.{most, noIdent, isPlain, restIs, sizeIs}
+use Rattle.writing.specs.Order.{permit}
 
 -- ---- the first byte
 

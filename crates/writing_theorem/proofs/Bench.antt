@@ -14,8 +14,8 @@ use Rattle.reading.specs.Read.{byteOf, followOf, restOf, charOf, isText}
 use Rattle.writing.specs.Lists.{Each, nil, _&_}
 use Rattle.writing.specs.Handed.{Lent, Run, PublishHanded, Handed, publish, ack, subscribe, ping, publishGiven, subscribeGiven, ackGiven, filters, blockBelongs, filtersBelong, belongs}
 use Rattle.writing.specs.Spell.{wide, spellStep, spell, short, string, numeral, value, propsBytes, counted, block}
-use Rattle.writing.specs.Size.{propsSize, restIs, sizeIs}
-use Rattle.writing.specs.Order.{judge, raw, propsFields, fieldsOf, most, permit}
+use Rattle.writing.specs.Size.{most, propsSize, restIs, sizeIs}
+use Rattle.writing.specs.Order.{judge, raw, propsFields, fieldsOf, permit}
 use Rattle.writing.specs.Write.{firsts, firstOf, firstByte, bodyBytes, frameBytes, sizeOf, writeOf, outOf}
 use Rattle.writing.specs.Refuse.{Sound, Refuses}
 use Rattle.writing.proofs.Belong.{belongs-when}
