@@ -18,7 +18,7 @@ use Rattle.reading.proofs.Places.{placed-says}
 use Rattle.reading.proofs.Items.{nth-filter, nth-of-publish, nth-identifier, nth-of-subscribe, nth-of-ack}
 use Rattle.writing.specs.Handed.{PublishHanded, SubscribeHanded, AckHanded, Handed, publish, ack, subscribe, ping, strings, duos, filters}
 use Rattle.writing.specs.Write.{writeOf}
-use Rattle.writing.specs.Value.{publishSet, subscribeSet, ackSet, meant, nonePublish, noneAck, noneSubscribe, said, Typed, Plain}
+use Rattle.writing.specs.Meant.{publishSet, subscribeSet, ackSet, meant, nonePublish, noneAck, noneSubscribe, said, Typed, Plain}
 use Rattle.writing.proofs.Demand.{reads-said, reads-back}
 use Rattle.grammar.specs.Record as g
 

@@ -23,7 +23,7 @@ use Rattle.writing.specs.Handed.{PublishHanded, SubscribeHanded, AckHand
 use Rattle.writing.specs.Size.{sizeIs}
 use Rattle.writing.specs.Write.{frameBytes, sizeOf, writeOf, answerOf, leaves, outOf}
 use Rattle.writing.specs.Refuse.{InBlock, Belongs, Within}
-use Rattle.writing.specs.Value.{publishSet, subscribeSet, ackSet, thePublish, theAck, theSubscribe, meant, nonePublish, noneAck, noneSubscribe, said, Typed, Filled, Plain}
+use Rattle.writing.specs.Meant.{publishSet, subscribeSet, ackSet, thePublish, theAck, theSubscribe, meant, nonePublish, noneAck, noneSubscribe, said, Typed, Filled, Plain}
 use Rattle.writing.proofs.Belong.{nothing-entries}
 use Rattle.writing.proofs.Sizes.{length-frame}
 use Rattle.writing.proofs.Verdict.{answered-when, accepts, written, sized-when}
@@ -91,7 +91,7 @@ said-meant (ack k h) w p = rw (set-same ackPlace (h .block) (ackGiven h) w p (ac
 said-meant (subscribe h) w p = rw (set-same subscribePlace (h .block) (subscribeGiven h) (w .0) p (subscribeSet h))
 said-meant (ping k) w p = refl
 
--- THE theorem: what is written is a sentence that says the record, and is read back, whatever follows
+-- the theorem: what is written is a sentence that says the record, and is read back, whatever follows
 module _ (limit : Option ℕ) (room : ℕ) (h : Handed) (b : List ℕ) (t : Typed h) (p : Plain h) (e : writeOf limit room h ≡ got b) where
   said-so : said h ≡ meant h
   said-so = said-meant h (accepts limit room h b e .countable .belongs) p

@@ -21,7 +21,7 @@ use Rattle.writing.specs.Size.{most, isPlain}
 use Rattle.writing.specs.Order.{Field, givenFields, propsFields, filterField, fieldsOf, numbersOf, named, asked}
 use Rattle.writing.specs.Write.{firsts, firstOf, firstByte, identBytes, bodyBytes, frameBytes}
 use Rattle.writing.specs.Refuse.{InBlock, Belongs, Sound, Small, Accepts}
-use Rattle.writing.specs.Value.{said, PublishTyped, AckTyped, SubscribeTyped, Typed}
+use Rattle.writing.specs.Meant.{said, PublishTyped, AckTyped, SubscribeTyped, Typed}
 use Rattle.writing.proofs.Each.{each-head, each-tail, each-append, each-left, each-right, each-flat, each-piece}
 use Rattle.writing.proofs.Tests.{and-left, and-right, not-true, passes-when}
 use Rattle.writing.proofs.Says.{Says, says-nothing, says-map, says-only, says-then, says-is, says-wide, says-short}

@@ -11,7 +11,7 @@ use Rattle.grammar.specs.Record.{str, lastFrom, lastOf, allOf, unlessEmpty, pub
 use Rattle.grammar.specs.Sentence.{Value, Prop, asList, publishOf, subscribeOf, ackOf}
 use Rattle.writing.specs.Lists.{flat}
 use Rattle.writing.specs.Handed.{Lent, PublishHanded, SubscribeHanded, AckHanded, one, lent, pairs, several, Givens, publishGiven, subscribeGiven, ackGiven, items, Entry, propOf, tag, entries}
-use Rattle.writing.specs.Value.{numeralOf, stringOf, publishSet, subscribeSet, ackSet, nonePublish, noneAck, noneSubscribe}
+use Rattle.writing.specs.Meant.{numeralOf, stringOf, publishSet, subscribeSet, ackSet, nonePublish, noneAck, noneSubscribe}
 
 -- ---- of a block, the last value of a row and all of them, by what is handed over for the row
 

@@ -19,7 +19,7 @@ use Rattle.writing.specs.Spell.{string, numeral, value, entry, rowBytes,
 use Rattle.writing.specs.Size.{most}
 use Rattle.writing.specs.Order.{word, stringField, filterField, orNone}
 use Rattle.writing.specs.Refuse.{Short, Sound, Small}
-use Rattle.writing.specs.Value.{Below}
+use Rattle.writing.specs.Meant.{Below}
 use Rattle.writing.proofs.Each.{each-imp, each-both, map-each, flat-each, each-piece, flat-append}
 use Rattle.writing.proofs.Says.{Says, says-map, says-only, says-then, says-sized, says-is, says-many, says-byte, says-wide, says-short, says-counted}
 

@@ -5,4 +5,4 @@ pub mod Size
 pub mod Order
 pub mod Write
 pub mod Refuse
-pub mod Value
+pub mod Meant

@@ -21,6 +21,7 @@ use Rattle.writing.specs.Order.{permit}
 unfoldable pub firsts : List (ℕ × ℕ)
 firsts = (4, 0x40) ∷ (8, 0x82) ∷ (12, 0xC0) ∷ (13, 0xD0) ∷ []
 
+-- 0 for a kind that is not in the table
 abbrev orZero : Option ℕ → ℕ
 orZero none = 0
 orZero (some x) = x

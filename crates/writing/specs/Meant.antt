@@ -47,12 +47,15 @@ ackSet h = record { reason = stringOf (h .text); user = duos (strings (h .user))
 
 -- ---- packets, with an identifier and a set of properties
 
+-- 01, grammar: "Publish (3)"
 abbrev pub thePublish : PublishHanded → ℕ → Option (PublishProps (List ℕ) List) → Packet
 thePublish h i ps = g.publish (record { dup = h .dup; qos = h .qos; retain = h .retain; topic = h .topic; ident = i; props = ps; payload = h .payload })
 
+-- 01, grammar: "PubAck (4)"; k is the number of the kind
 abbrev pub theAck : ℕ → AckHanded → Option (AckProps (List ℕ) List) → Packet
 theAck k h ps = g.ack k (record { ident = h .ident; reason = h .reason; props = ps })
 
+-- 01, grammar: "Subscribe (8)"
 abbrev pub theSubscribe : SubscribeHanded → Option (SubscribeProps (List ℕ) List) → Packet
 theSubscribe h ps = g.subscribe (record { ident = h .ident; props = ps; filters = map mkFilter (filters h) })
 
@@ -63,13 +66,15 @@ meant (ack k h) = theAck k h (pick (h .block) (some (ackSet h)) none)
 meant (subscribe h) = theSubscribe h (pick (h .block) (some (subscribeSet h)) none)
 meant (ping k) = g.ping k
 
--- the property sets have nothing in them
+-- a property set has nothing in it
 abbrev pub nonePublish : PublishHanded → Bool
 nonePublish h = isEmpty (entries publishPlace (publishGiven h))
 
+-- the same of an acknowledgement
 abbrev pub noneAck : AckHanded → Bool
 noneAck h = isEmpty (entries ackPlace (ackGiven h))
 
+-- the same of a Subscribe
 abbrev pub noneSubscribe : SubscribeHanded → Bool
 noneSubscribe h = isEmpty (entries subscribePlace (subscribeGiven h))
 
@@ -88,6 +93,7 @@ abbrev pub Below : ℕ → Option ℕ → Type 0
 Below m none = Unit {0}
 Below m (some n) = n < m
 
+-- dup and retain are bools, QoS has three cases; lent strings are bytes
 pub record PublishTyped (h : PublishHanded) : Type 0 where
   pub dup : h .dup < 2
   pub qos : h .qos < 3
@@ -112,11 +118,13 @@ pub record AckTyped (k : ℕ) (h : AckHanded) : Type 0 where
   pub text : Octets (h .text .bytes)
   pub user : Octets (h .user .bytes)
 
+-- its options bytes and lengths may be any
 pub record SubscribeTyped (h : SubscribeHanded) : Type 0 where
   pub ident : h .ident < 65536
   pub user : Octets (h .user .bytes)
   pub filters : Octets (h .filters .bytes)
 
+-- each kind; a ping of a kind that is carried
 abbrev pub Typed : Handed → Type 0
 Typed (publish h) = PublishTyped h
 Typed (ack k h) = AckTyped k h
@@ -125,9 +133,11 @@ Typed (ping k) = lookup kinds k ≡ some aPing
 
 -- ---- 01, reading back: "QoS 0 has identifier 0, and no property set is present but empty"
 
+-- the set is not present but empty
 abbrev pub Filled : Bool → Bool → Type 0
 Filled block empty = block ≡ true → empty ≡ true → ⊥
 
+-- both conditions, of each kind
 abbrev pub Plain : Handed → Type 0
 Plain (publish h) = (h .qos ≡ 0 → h .ident ≡ 0) × Filled (h .block) (nonePublish h)
 Plain (ack k h) = Filled (h .block) (noneAck h)
