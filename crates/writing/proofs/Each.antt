@@ -1,9 +1,15 @@
 -- Facts of every element, and of lists one after the other. Assumes nothing.
 use mathlib.Core.Path.{_≡_, refl}
+use mathlib.Core.Bool.{Bool, true, false}
+use mathlib.Core.Option.{some}
+use native.Mathlib.Omega.{arith}
+use lib.Dec.{eqb}
+use Rattle.grammar.specs.Choice.{pick, lookup}
+use Rattle.reading.proofs.Lists.{eq-of}
+use Rattle.writing.specs.Lists.{Each, nil, _&_, Octets, flat, pieces}
 use mathlib.Core.List.{List, [], _∷_, _++_, map, append-assoc}
 use Prim.Native.Nat.{ℕ, zero, suc}
 use lib.ListN.{take, drop}
-use Rattle.writing.specs.Lists.{Each, nil, _&_, Octets, flat, pieces}
 
 module _ {A : Type 0} {P : A → Type 0} where
   pub each-head : {a : A} {l : List A} → Each P (a ∷ l) → P a
@@ -62,6 +68,24 @@ module _ {A : Type 0} {P : A → Type 0} where
 pub each-piece : (ns : List ℕ) {run : List ℕ} → Octets run → Each Octets (pieces ns run)
 each-piece [] p = nil
 each-piece (n ∷ ns) p = each-take n p & each-piece ns (each-drop n p)
+
+-- ---- tables
+
+-- a fact of each row of a table, one after the other
+pub rows-of : {A : Type 0} (P : A → Type 0) (l : List A) → Each P l → Each P l
+rows-of P l p = p
+
+-- what holds of every row of a table holds of what is looked up
+pub lookup-each : {A : Type 0} (P : ℕ × A → Type 0) {t : List (ℕ × A)} → Each P t → (k : ℕ) (a : A) → lookup t k ≡ some a → P (k, a)
+lookup-each P nil k a e = let z : _≡_ {A = ℕ} 0 1 = cc in absurd (omega arith)
+lookup-each {A} P (_&_ {a = r} {l = rs} p ps) k a e = go (eqb (r .0) k) refl e (lookup-each P ps k a)
+  where
+    go : (t : Bool) → eqb (r .0) k ≡ t → pick t (some (r .1)) (lookup rs k) ≡ some a → (lookup rs k ≡ some a → P (k, a)) → P (k, a)
+    go true q e ih =
+        let i : r .0 ≡ k = eq-of (r .0) k q in
+        let j : r .1 ≡ a = cc in
+        rw (← i, ← j) p
+    go false q e ih = ih e
 
 -- ---- one after the other
 

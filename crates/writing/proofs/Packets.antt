@@ -22,7 +22,7 @@ use Rattle.writing.specs.Order.{Field, givenFields, propsFields, filterF
 use Rattle.writing.specs.Write.{firsts, firstOf, firstByte, identBytes, bodyBytes, frameBytes}
 use Rattle.writing.specs.Refuse.{InBlock, Belongs, Sound, Small, Accepts}
 use Rattle.writing.specs.Meant.{said, PublishTyped, AckTyped, SubscribeTyped, Typed}
-use Rattle.writing.proofs.Each.{each-head, each-tail, each-append, each-left, each-right, each-flat, each-piece}
+use Rattle.writing.proofs.Each.{each-head, each-tail, each-append, each-left, each-right, each-flat, each-piece, rows-of, lookup-each}
 use Rattle.writing.proofs.Tests.{and-left, and-right, not-true, passes-when}
 use Rattle.writing.proofs.Says.{Says, says-nothing, says-map, says-only, says-then, says-is, says-wide, says-short}
 use Rattle.writing.proofs.Values.{says-bytes, an-u8, an-u16, an-u32, a-number, a-text, a-bytes, RightRow, says-block, one-suits, below-each, lent-suits, pairs-suit, several-suit, says-filters}
@@ -31,18 +31,6 @@ use Rattle.writing.proofs.Belong.{unnamed-when, unasked-when, nothing-e
 use Rattle.writing.proofs.Sizes.{length-body}
 
 -- ---- the kinds that are carried, row by row
-
--- what holds of every row of a table holds of what is looked up
-lookup-each : {A : Type 0} (P : ℕ × A → Type 0) {t : List (ℕ × A)} → Each P t → (k : ℕ) (a : A) → lookup t k ≡ some a → P (k, a)
-lookup-each P nil k a e = let z : _≡_ {A = ℕ} 0 1 = cc in absurd (omega arith)
-lookup-each {A} P (_&_ {a = r} {l = rs} p ps) k a e = go (eqb (r .0) k) refl e (lookup-each P ps k a)
-  where
-    go : (t : Bool) → eqb (r .0) k ≡ t → pick t (some (r .1)) (lookup rs k) ≡ some a → (lookup rs k ≡ some a → P (k, a)) → P (k, a)
-    go true q e ih =
-        let i : r .0 ≡ k = eq-of (r .0) k q in
-        let j : r .1 ≡ a = cc in
-        rw (← i, ← j) p
-    go false q e ih = ih e
 
 -- the first byte is of the kind
 abbrev First : ℕ → Type 0
@@ -57,10 +45,6 @@ Fine r = go (r .1)
     go (anAck rs) = First (r .0) × Octets rs
     go aSubscribe = First (r .0)
     go aPing = First (r .0)
-
--- a fact of each row of a table, one after the other
-rows-of : {A : Type 0} (P : A → Type 0) (l : List A) → Each P l → Each P l
-rows-of P l p = p
 
 kinds-fine : Each Fine kinds
 unfolding kinds reasons firsts firstOf

@@ -93,7 +93,7 @@ length-pieces (n ∷ ns) run = ap suc (length-pieces ns (drop n run))
 -- ---- properties
 
 -- a row's values, each with its identifier byte
-abbrev weigh : Form → List Value → ℕ
+abbrev pub weigh : Form → List Value → ℕ
 weigh f vs = total (λ v. suc (length (value f v))) vs
 
 length-row : (r : ℕ × Form) (vs : List Value) → length (flat entry (tag r vs)) ≡ weigh (r .1) vs
@@ -113,7 +113,7 @@ unfolding value
 weigh-several f [] = refl
 weigh-several f (n ∷ ns) = rw (length-numeral f n, weigh-several f ns) (omega arith)
 
-weigh-given : (f : Form) (g : Given) → Sorted g → weigh f (items g) ≡ givenSize f g
+pub weigh-given : (f : Form) (g : Given) → Sorted g → weigh f (items g) ≡ givenSize f g
 unfolding value
 weigh-given f (one none) w = refl
 weigh-given f (one (some n)) w = rw (length-numeral f n) (omega arith)

@@ -131,13 +131,13 @@ several-suit (p & ps) = a-number p & several-suit ps
 
 -- the two high bits of an options byte say nothing
 module _ (o : ℕ) where
-  low-qos : o % 64 % 4 ≡ o % 4
+  pub low-qos : o % 64 % 4 ≡ o % 4
   low-qos = omega arith
 
-  low-rule : o % 64 / 16 % 4 ≡ o / 16 % 4
+  pub low-rule : o % 64 / 16 % 4 ≡ o / 16 % 4
   low-rule = omega arith
 
-  low-filter : (s : List ℕ) → mkFilter (s, o % 64) ≡ mkFilter (s, o)
+  pub low-filter : (s : List ℕ) → mkFilter (s, o % 64) ≡ mkFilter (s, o)
   low-filter s =
       let d : o % 64 / 4 % 2 ≡ o / 4 % 2 = omega arith in
       let e : o % 64 / 8 % 2 ≡ o / 8 % 2 = omega arith in
