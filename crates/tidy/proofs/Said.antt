@@ -15,11 +15,11 @@ use Rattle.grammar.specs.Tables.{publishPlace, subscribePlace, ackPlace, reason
 use Rattle.grammar.specs.Record.{AckProps, Publish, Filter, Subscribe, Ack, kindOf, flagQos, mkFilter}
 use Rattle.grammar.specs.Sentence.{Any, publishOf, subscribeOf, ackOf, notThree, notZero, Ident, qosFine, ruleFine, FilterOf, someOf, AckRest, plain, coded, full, Packet, Fields, body, framed, Sentence}
 use Rattle.reading.proofs.Lists.{no-way}
-use Rattle.writing.specs.Lists.{Each, nil, _&_, Octets, total}
+use Rattle.writing.specs.Lists.{Each, nil, Octets, total}
 use Rattle.writing.specs.Size.{most, identSize}
 use Rattle.writing.specs.Refuse.{Short}
-use Rattle.writing.proofs.Each.{each-tail, each-left, each-right, rows-of, lookup-each}
-use Rattle.writing.proofs.Tests.{eq-not}
+use Rattle.writing.proofs.Each.{each-tail, each-left, each-right, lookup-each}
+use Rattle.writing.proofs.Tests.{eq-not, all-when}
 use Rattle.tidy.proofs.Has.{has-many, has-big, has-number, has-string, FromList, has-block}
 use Rattle.grammar.specs.Record as g
 
@@ -124,18 +124,16 @@ publish-said x _ _ (only t (mapped (both {a = s} {b = b₁} {d = d₁} g₁ (bot
 -- ---- acknowledgements
 
 -- every kind of acknowledgement can give success
-abbrev Zero : ℕ × Layout → Type 0
-Zero r = go (r .1)
-  where
-    go : Layout → Type 0
-    go aPublish = Unit {0}
-    go (anAck rs) = isIn 0 rs ≡ true
-    go aSubscribe = Unit {0}
-    go aPing = Unit {0}
+abbrev hasZero : Layout → Bool
+hasZero aPublish = true
+hasZero (anAck rs) = isIn 0 rs
+hasZero aSubscribe = true
+hasZero aPing = true
 
-kinds-zero : Each Zero kinds
+-- by computation over the table
+kinds-zero : (k : ℕ) (l : Layout) → lookup kinds k ≡ some l → hasZero l ≡ true
 unfolding kinds reasons
-kinds-zero = rows-of Zero kinds (tt & (refl & (tt & (tt & (tt & nil)))))
+kinds-zero = lookup-each (λ r. hasZero (r .1) ≡ true) (all-when (λ r. hasZero (r .1)) (λ r. (λ e. e, λ e. e)) kinds .0 refl)
 
 record RestSaid (rs : List ℕ) (v : ℕ × Option (AckProps (List ℕ) List)) (n : ℕ) : Type 0 where
   reason : isIn (v .0) rs ≡ true
@@ -154,7 +152,7 @@ rest-said rs z _ _ (full {ps = ps} {b = b} t g) o = record { reason = t; size = 
 ack-said : (rs : List ℕ) (x : ℕ) → lookup kinds (kindOf x) ≡ some (anAck rs) → (v : Packet) (b : List ℕ) → Fields (anAck rs) x v b → Octets b → length b ≤ most → Said v
 ack-said rs x e _ _ (mapped (both {a = i} {c = v} {b = c} {d = d} g w)) o l =
     let (h, n) = has-big 2 i c g (each-left c d o) in
-    let r = rest-said rs (lookup-each Zero kinds-zero (kindOf x) (anAck rs) e) v d w (each-right c d o) in
+    let r = rest-said rs (kinds-zero (kindOf x) (anAck rs) e) v d w (each-right c d o) in
     record { reasons = rs; kind = e; reason = r .reason; ident = omega arith; size = r .size; props = r .props; light = r .light (omega (arith, length-append c d)) }
 
 -- ---- Subscribe

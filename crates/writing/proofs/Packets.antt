@@ -1,11 +1,11 @@
 -- What each kind writes fills a frame as its grammar says. Assumes nothing.
 use mathlib.Core.Path.{_≡_, refl, ap, _∙_}
-use mathlib.Core.Bool.{Bool, true, false, not, _||_}
+use mathlib.Core.Bool.{Bool, true, false, not, _&&_, _||_}
 use mathlib.Core.Option.{Option, some}
 use mathlib.Core.List.{List, [], _∷_, map}
 use Prim.Native.Nat.{ℕ, zero, suc, _+_, _*_, _/_, _%_, _≤_, _<_}
 use native.Mathlib.Omega.{arith}
-use lib.Dec.{eqb, eqb·suc-zero, lit<}
+use lib.Dec.{eqb, ltb, ltb→lt, eqb·suc-zero}
 use lib.ListN.{length, length-append}
 use Rattle.grammar.specs.Choice.{pick, or, isIn, lookup, isEmpty}
 use Rattle.grammar.specs.Gram.{Only, both, sized, is}
@@ -13,8 +13,8 @@ use Rattle.grammar.specs.Number.{byte, Big}
 use Rattle.grammar.specs.Tables.{publishPlace, subscribePlace, ackPlace, reasons, Layout, aPublish, anAck, aSubscribe, aPing, kinds}
 use Rattle.grammar.specs.Record.{kindOf, flagQos, mkPublish, mkAck, mkFilter, mkSubscribe, mkPing}
 use Rattle.grammar.specs.Sentence.{Any, publishOf, subscribeOf, ackOf, notThree, notZero, Ident, publishGood, someOf, AckRest, plain, full, Packet, Fields, body, framed, Sentence}
-use Rattle.reading.proofs.Lists.{no-way, eq-of}
-use Rattle.writing.specs.Lists.{Each, nil, _&_, Octet, Octets, flat, beside}
+use Rattle.reading.proofs.Lists.{no-way, T-of, ltb-yes, eq-of}
+use Rattle.writing.specs.Lists.{Each, nil, _&_, Octet, Octets, flat, all, beside}
 use Rattle.writing.specs.Handed.{PublishHanded, SubscribeHanded, AckHanded, Handed, publish, ack, subscribe, ping, publishGiven, subscribeGiven, ackGiven, strings, propOf, entries, filters}
 use Rattle.writing.specs.Spell.{wide, propsBytes, counted, block}
 use Rattle.writing.specs.Size.{most, isPlain}
@@ -23,7 +23,7 @@ use Rattle.writing.specs.Write.{firsts, firstOf, firstByte, identBytes, 
 use Rattle.writing.specs.Refuse.{InBlock, Belongs, Sound, Small, Accepts}
 use Rattle.writing.specs.Meant.{said, PublishTyped, AckTyped, SubscribeTyped, Typed}
 use Rattle.writing.proofs.Each.{each-head, each-tail, each-append, each-left, each-right, each-flat, each-piece, rows-of, lookup-each}
-use Rattle.writing.proofs.Tests.{and-left, and-right, not-true, passes-when}
+use Rattle.writing.proofs.Tests.{and-left, and-right, not-true, all-when, passes-when}
 use Rattle.writing.proofs.Says.{Says, says-nothing, says-map, says-only, says-then, says-is, says-wide, says-short}
 use Rattle.writing.proofs.Values.{says-bytes, an-u8, an-u16, an-u32, a-number, a-text, a-bytes, RightRow, says-block, one-suits, below-each, lent-suits, pairs-suit, several-suit, says-filters}
 use Rattle.writing.proofs.Sets.{publish-says, ack-says, subscribe-says}
@@ -32,29 +32,42 @@ use Rattle.writing.proofs.Sizes.{length-body}
 
 -- ---- the kinds that are carried, row by row
 
--- the first byte is of the kind
-abbrev First : ℕ → Type 0
-First k = (kindOf (firstOf k) ≡ k) × (firstOf k < 256)
+-- the first byte of the table is of the kind
+firstFine : ℕ → Bool
+firstFine k = eqb (kindOf (firstOf k)) k && ltb (firstOf k) 256
 
--- a kind whose first byte stands in the table; an acknowledgement's reasons are bytes
-abbrev Fine : ℕ × Layout → Type 0
-Fine r = go (r .1)
-  where
-    go : Layout → Type 0
-    go aPublish = Unit {0}
-    go (anAck rs) = First (r .0) × Octets rs
-    go aSubscribe = First (r .0)
-    go aPing = First (r .0)
+-- it is for each kind but Publish; and an acknowledgement's reasons are bytes
+abbrev rowFine : ℕ → Layout → Bool
+rowFine k aPublish = true
+rowFine k (anAck rs) = firstFine k && all (λ x. ltb x 256) rs
+rowFine k aSubscribe = firstFine k
+rowFine k aPing = firstFine k
 
-kinds-fine : Each Fine kinds
-unfolding kinds reasons firsts firstOf
-kinds-fine = rows-of Fine kinds
-    (tt
-    & (((refl, lit< tt), lit< tt & lit< tt & lit< tt & lit< tt & lit< tt & lit< tt & lit< tt & lit< tt & lit< tt & nil)
-    & ((refl, lit< tt)
-    & ((refl, lit< tt)
-    & ((refl, lit< tt)
-    & nil)))))
+-- by computation over the table
+kinds-fine : (k : ℕ) (l : Layout) → lookup kinds k ≡ some l → rowFine k l ≡ true
+unfolding kinds reasons firsts firstOf firstFine
+kinds-fine = lookup-each (λ r. rowFine (r .0) (r .1) ≡ true) (all-when (λ r. rowFine (r .0) (r .1)) (λ r. (λ e. e, λ e. e)) kinds .0 refl)
+
+record First (k : ℕ) : Type 0 where
+  kind : kindOf (firstOf k) ≡ k
+  octet : firstOf k < 256
+
+octet-of : (x : ℕ) → ltb x 256 ≡ true → x < 256
+octet-of x e = ltb→lt x 256 (T-of (ltb x 256) e)
+
+first-of : (k : ℕ) → firstFine k ≡ true → First k
+unfolding firstFine
+first-of k e =
+    let a : Bool = eqb (kindOf (firstOf k)) k in
+    let b : Bool = ltb (firstOf k) 256 in
+    record { kind = eq-of (kindOf (firstOf k)) k (and-left a b e); octet = octet-of (firstOf k) (and-right a b e) }
+
+-- what an acknowledgement's row says
+ack-fine : (k : ℕ) (rs : List ℕ) → lookup kinds k ≡ some (anAck rs) → First k × Octets rs
+ack-fine k rs e =
+    let f = kinds-fine k (anAck rs) e in
+    let r = and-right (firstFine k) (all (λ x. ltb x 256) rs) f in
+    (first-of k (and-left (firstFine k) (all (λ x. ltb x 256) rs) f), all-when (λ x. ltb x 256) (λ x. (octet-of x, ltb-yes x 256)) rs .0 r)
 
 is-in : (P : ℕ → Type 0) (x : ℕ) {l : List ℕ} → Each P l → isIn x l ≡ true → P x
 is-in P x nil e = absurd (no-way e)
@@ -74,7 +87,7 @@ says-frame l x {b = b} e h m s =
 
 -- a first byte of the table
 says-first : (l : Layout) (k : ℕ) {v : Packet} {b : List ℕ} → lookup kinds k ≡ some l → First k → length b ≤ most → Says (Fields l (firstOf k)) v b → Says Sentence v (firstOf k ∷ counted b)
-says-first l k e (i, h) m s = says-frame l (firstOf k) (ap (lookup kinds) i ∙ e) h m s
+says-first l k e f m s = says-frame l (firstOf k) (ap (lookup kinds) (f .kind) ∙ e) (f .octet) m s
 
 -- a block stands within what it stands in
 block-fits : (b : List ℕ) → length (counted b) ≤ most → length b ≤ most
@@ -178,9 +191,9 @@ ack-rest k h t o w p false e l =
 ack-fields : (k : ℕ) (h : AckHanded) (t : AckTyped k h) → First k → Octets (t .reasons) → Belongs (ack k h) → Each Sound (fieldsOf (ack k h)) → length (bodyBytes (ack k h)) ≤ most
     → Says (Fields (anAck (t .reasons)) (firstOf k)) (said (ack k h)) (bodyBytes (ack k h))
 unfolding fieldsOf bodyBytes said
-ack-fields k h t (i, _) o w p l =
+ack-fields k h t f o w p l =
     let m : length (pick (isPlain h) [] (h .reason ∷ block ackPlace (ackGiven h))) ≤ most = omega (arith, simp length-append at l) in
-    let same : mkAck (firstOf k) (h .ident, (h .reason, ackOf (map propOf (entries ackPlace (ackGiven h))))) ≡ said (ack k h) = rw (i, ack-says h) in
+    let same : mkAck (firstOf k) (h .ident, (h .reason, ackOf (map propOf (entries ackPlace (ackGiven h))))) ≡ said (ack k h) = rw (f .kind, ack-says h) in
     rw (← same) (says-map (mkAck (firstOf k)) (says-then (says-wide 2 (h .ident) (omega (arith, t .ident))) (ack-rest k h t o w p (isPlain h) refl m)))
 
 -- ---- Subscribe
@@ -223,14 +236,14 @@ frame-says limit room (publish h) t p l =
     let n = passes-when (named (publish h)) (unnamed-when (publish h)) .1 (p .named) in
     says-frame aPublish (firstByte (publish h)) e b l (publish-fields h t (p .countable .fields) n (p .numbers) l)
 frame-says limit room (ack k h) t p l =
-    let (f, o) = lookup-each Fine kinds-fine k (anAck (t .reasons)) (t .kind) in
+    let (f, o) = ack-fine k (t .reasons) (t .kind) in
     says-first (anAck (t .reasons)) k (t .kind) f l (ack-fields k h t f o (p .countable .belongs) (p .countable .fields) l)
 frame-says limit room (subscribe h) t p l =
     let a = passes-when (asked (subscribe h)) (unasked-when (subscribe h)) .1 (p .asked) in
-    says-first aSubscribe 8 refl (lookup-each Fine kinds-fine 8 aSubscribe refl) l (subscribe-fields h t (p .countable .fields) (p .numbers) a l)
+    says-first aSubscribe 8 refl (first-of 8 (kinds-fine 8 aSubscribe refl)) l (subscribe-fields h t (p .countable .fields) (p .numbers) a l)
 frame-says limit room (ping k) t p l =
-    let f : First k = lookup-each Fine kinds-fine k aPing t in
-    let same : mkPing (firstOf k) [] ≡ said (ping k) = rw (f .0) in
+    let f : First k = first-of k (kinds-fine k aPing t) in
+    let same : mkPing (firstOf k) [] ≡ said (ping k) = rw (f .kind) in
     says-first aPing k t f l (rw (← same) (says-map (mkPing (firstOf k)) (says-is Any [] tt nil)))
 
 -- 01: what is accepted is written as a sentence, in bytes
