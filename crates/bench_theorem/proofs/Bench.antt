@@ -72,6 +72,9 @@ more =
     ∷ case none (0x30 ∷ 0x03 ∷ 0x00 ∷ 0x05 ∷ 0x61 ∷ []) (refused 8 (5 ∷ []) 5)
     ∷ case none (0x30 ∷ 0x04 ∷ 0x00 ∷ 0x01 ∷ 0xFF ∷ 0x00 ∷ []) (accepted (message (0xFF ∷ []) none []) 6)
     ∷ case none (0x34 ∷ 0x05 ∷ 0x00 ∷ 0x01 ∷ 0x61 ∷ 0x00 ∷ 0x00 ∷ []) (refused 12 [] 7)
+    ∷ case none (0x38 ∷ 0x03 ∷ 0x00 ∷ 0x00 ∷ 0x00 ∷ []) (accepted (publish (record { dup = 1; qos = 0; retain = 0; topic = []; ident = 0; props = none; payload = [] })) 5)
+    ∷ case none (0x31 ∷ 0x03 ∷ 0x00 ∷ 0x00 ∷ 0x00 ∷ []) (accepted (publish (record { dup = 0; qos = 0; retain = 1; topic = []; ident = 0; props = none; payload = [] })) 5)
+    ∷ case none (0x34 ∷ 0x05 ∷ 0x00 ∷ 0x00 ∷ 0x01 ∷ 0x02 ∷ 0x00 ∷ []) (accepted (publish (record { dup = 0; qos = 2; retain = 0; topic = []; ident = 258; props = none; payload = [] })) 7)
     -- blocks: L cut off, too long, too large; a number that fills a block; an identifier of another place
     ∷ case none (0x30 ∷ 0x06 ∷ 0x00 ∷ 0x01 ∷ 0x61 ∷ 0x80 ∷ 0x80 ∷ 0x80 ∷ []) (refused 7 [] 8)
     ∷ case none (0x30 ∷ 0x07 ∷ 0x00 ∷ 0x01 ∷ 0x61 ∷ 0x80 ∷ 0x80 ∷ 0x80 ∷ 0x80 ∷ []) (refused 2 [] 9)
@@ -81,10 +84,18 @@ more =
     ∷ case none (0x30 ∷ 0x07 ∷ 0x00 ∷ 0x01 ∷ 0x61 ∷ 0x03 ∷ 0x1F ∷ 0x00 ∷ 0x00 ∷ []) (refused 10 (31 ∷ []) 9)
     -- all eight properties; one given twice, the last counts; lists in order
     ∷ case none (0x3B ∷ 0x28 ∷ 0x00 ∷ 0x01 ∷ 0x61 ∷ 0x00 ∷ 0x07 ∷ 0x21 ∷ 0x01 ∷ 0x01 ∷ 0x02 ∷ 0x00 ∷ 0x00 ∷ 0x00 ∷ 0x05 ∷ 0x23 ∷ 0x00 ∷ 0x09 ∷ 0x08 ∷ 0x00 ∷ 0x01 ∷ 0x62 ∷ 0x09 ∷ 0x00 ∷ 0x01 ∷ 0xFF ∷ 0x26 ∷ 0x00 ∷ 0x01 ∷ 0x6B ∷ 0x00 ∷ 0x01 ∷ 0x76 ∷ 0x0B ∷ 0x80 ∷ 0x01 ∷ 0x03 ∷ 0x00 ∷ 0x02 ∷ 0xC3 ∷ 0xA9 ∷ 0x07 ∷ []) (accepted (publish (record { dup = 1; qos = 1; retain = 1; topic = 0x61 ∷ []; ident = 7; props = some (record { format = some (num 1); expiry = some (num 5); alias = some (num 9); response = some (str (0x62 ∷ [])); correlation = some (str (0xFF ∷ [])); user = duo (0x6B ∷ []) (0x76 ∷ []) ∷ []; subscriptions = num 128 ∷ []; content = some (str (0xC3 ∷ 0xA9 ∷ [])) }); payload = 0x07 ∷ [] })) 42)
+    ∷ case none (0x30 ∷ 0x0B ∷ 0x00 ∷ 0x00 ∷ 0x08 ∷ 0x02 ∷ 0x01 ∷ 0x02 ∷ 0x03 ∷ 0x04 ∷ 0x23 ∷ 0x01 ∷ 0x02 ∷ []) (accepted (message [] (some (record { format = none; expiry = some (num 16909060); alias = some (num 258); response = none; correlation = none; user = []; subscriptions = []; content = none })) []) 13)
     ∷ case none (0x30 ∷ 0x18 ∷ 0x00 ∷ 0x01 ∷ 0x61 ∷ 0x14 ∷ 0x03 ∷ 0x00 ∷ 0x01 ∷ 0x61 ∷ 0x26 ∷ 0x00 ∷ 0x01 ∷ 0x61 ∷ 0x00 ∷ 0x01 ∷ 0x62 ∷ 0x03 ∷ 0x00 ∷ 0x01 ∷ 0x62 ∷ 0x26 ∷ 0x00 ∷ 0x00 ∷ 0x00 ∷ 0x00 ∷ []) (accepted (message (0x61 ∷ []) (some (record { format = none; expiry = none; alias = none; response = none; correlation = none; user = duo (0x61 ∷ []) (0x62 ∷ []) ∷ duo [] [] ∷ []; subscriptions = []; content = some (str (0x62 ∷ [])) })) []) 26)
     -- Subscribe: identifier 0, both properties, every option; 9, 7, 11
     ∷ case none (0x82 ∷ 0x10 ∷ 0x00 ∷ 0x00 ∷ 0x09 ∷ 0x0B ∷ 0x05 ∷ 0x26 ∷ 0x00 ∷ 0x01 ∷ 0x6B ∷ 0x00 ∷ 0x01 ∷ 0x76 ∷ 0x00 ∷ 0x01 ∷ 0x61 ∷ 0xEE ∷ []) (accepted (subscribe (record { ident = 0; props = some (record { ident = some (num 5); user = duo (0x6B ∷ []) (0x76 ∷ []) ∷ [] }); filters = record { path = 0x61 ∷ []; qos = 2; noLocal = 1; preserve = 1; rule = 2 } ∷ [] })) 18)
     ∷ case none (0x82 ∷ 0x07 ∷ 0x00 ∷ 0x01 ∷ 0x00 ∷ 0x00 ∷ 0x01 ∷ 0x61 ∷ 0x03 ∷ []) (refused 11 (3 ∷ []) 9)
+    ∷ case none (0x82 ∷ 0x07 ∷ 0x00 ∷ 0x01 ∷ 0x00 ∷ 0x00 ∷ 0x01 ∷ 0x61 ∷ 0x04 ∷ []) (accepted (subscribe (record { ident = 1; props = none; filters = record { path = 0x61 ∷ []; qos = 0; noLocal = 1; preserve = 0; rule = 0 } ∷ [] })) 9)
+    ∷ case none (0x82 ∷ 0x07 ∷ 0x00 ∷ 0x01 ∷ 0x00 ∷ 0x00 ∷ 0x01 ∷ 0x61 ∷ 0xC8 ∷ []) (accepted (subscribe (record { ident = 1; props = none; filters = record { path = 0x61 ∷ []; qos = 0; noLocal = 0; preserve = 1; rule = 0 } ∷ [] })) 9)
+    ∷ case none (0x82 ∷ 0x07 ∷ 0x00 ∷ 0x01 ∷ 0x00 ∷ 0x00 ∷ 0x01 ∷ 0x61 ∷ 0x07 ∷ []) (refused 11 (3 ∷ []) 9)
+    ∷ case none (0x82 ∷ 0x07 ∷ 0x00 ∷ 0x01 ∷ 0x00 ∷ 0x00 ∷ 0x01 ∷ 0x61 ∷ 0x43 ∷ []) (refused 11 (3 ∷ []) 9)
+    ∷ case none (0x82 ∷ 0x07 ∷ 0x00 ∷ 0x01 ∷ 0x00 ∷ 0x00 ∷ 0x01 ∷ 0x61 ∷ 0x70 ∷ []) (refused 14 (3 ∷ []) 9)
+    ∷ case none (0x82 ∷ 0x07 ∷ 0x00 ∷ 0x01 ∷ 0x00 ∷ 0x00 ∷ 0x01 ∷ 0x61 ∷ 0xB0 ∷ []) (refused 14 (3 ∷ []) 9)
+    ∷ case none (0x82 ∷ 0x07 ∷ 0x00 ∷ 0x01 ∷ 0x00 ∷ 0x00 ∷ 0x01 ∷ 0x61 ∷ 0xF3 ∷ []) (refused 14 (3 ∷ []) 9)
     ∷ case none (0x82 ∷ 0x06 ∷ 0x00 ∷ 0x01 ∷ 0x00 ∷ 0x00 ∷ 0x01 ∷ 0x61 ∷ []) (refused 7 [] 8)
     ∷ case none (0x82 ∷ 0x07 ∷ 0x00 ∷ 0x01 ∷ 0x00 ∷ 0x00 ∷ 0x01 ∷ 0xFF ∷ 0x00 ∷ []) (refused 9 [] 9)
     -- PubAck: both properties; L = 0, in two bytes; 15 before the block, 10 before the bytes after it
@@ -116,27 +127,25 @@ acks = 0x40 ∷ 0x0F ∷ 0x00 ∷ 0x0A ∷ 0x99 ∷ 0x0B ∷ 0x1F ∷ 0x00 ∷ 0
 
 -- where their strings, blocks and filters stand
 abbrev placed : List (List ℕ × Answer Placed)
-placed = (
-  three,
-  accepted (publish (record {
-    dup = 0;
-    qos = 0;
-    retain = 0;
-    topic = span 4 1;
-    ident = 0;
-    props = some (record {
-      format = none;
-      expiry = none;
-      alias = none;
-      response = none;
-      correlation = none;
-      user = span 6 6;
-      subscriptions = span 6 6;
-      content = none;
-    });
-    payload = span 12 1;
-  })) 13,
-)
+placed =
+    (three, accepted (publish (record {
+      dup = 0;
+      qos = 0;
+      retain = 0;
+      topic = span 4 1;
+      ident = 0;
+      props = some (record {
+        format = none;
+        expiry = none;
+        alias = none;
+        response = none;
+        correlation = none;
+        user = span 6 6;
+        subscriptions = span 6 6;
+        content = none;
+      });
+      payload = span 12 1;
+    })) 13)
     ∷ (two, accepted (subscribe (record { ident = 1; props = none; filters = span 5 10 })) 15)
     ∷ (acks, accepted (ack 4 (record { ident = 10; reason = 0x99; props = some (record { reason = some (str (span 9 1)); user = span 6 11 }) })) 17)
     ∷ []

@@ -38,7 +38,7 @@ rows =
     ∷ ((0xF4, 0xF4), (0x80, 0x8F) ∷ tail ∷ tail ∷ [])
     ∷ []
 
--- the row of a first byte
+-- Unicode, table 3-7: what the row of a first byte asks for after it
 abbrev pub rowAt : List Row → ℕ → Option (List Range)
 rowAt [] x = none
 rowAt (r ∷ rs) x = pick (inRange (r .0) x) (some (r .1)) (rowAt rs x)
@@ -52,7 +52,7 @@ abbrev pub Follow : List Range → List ℕ → List ℕ → Type 0
 Follow [] = Nothing []
 Follow (r ∷ rs) = Map cons (Then (Only (inRange r) Byte) (λ _. Follow rs))
 
--- a first byte of no row begins no character
+-- Unicode, table 3-7: a first byte of no row begins no character
 abbrev pub Rest : Option (List Range) → List ℕ → List ℕ → Type 0
 Rest none = Never
 Rest (some rs) = Follow rs
