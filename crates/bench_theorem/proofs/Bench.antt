@@ -127,25 +127,27 @@ acks = 0x40 ∷ 0x0F ∷ 0x00 ∷ 0x0A ∷ 0x99 ∷ 0x0B ∷ 0x1F ∷ 0x00 ∷ 0
 
 -- where their strings, blocks and filters stand
 abbrev placed : List (List ℕ × Answer Placed)
-placed =
-    (three, accepted (publish (record {
-      dup = 0;
-      qos = 0;
-      retain = 0;
-      topic = span 4 1;
-      ident = 0;
-      props = some (record {
-        format = none;
-        expiry = none;
-        alias = none;
-        response = none;
-        correlation = none;
-        user = span 6 6;
-        subscriptions = span 6 6;
-        content = none;
-      });
-      payload = span 12 1;
-    })) 13)
+placed = (
+  three,
+  accepted (publish (record {
+    dup = 0;
+    qos = 0;
+    retain = 0;
+    topic = span 4 1;
+    ident = 0;
+    props = some (record {
+      format = none;
+      expiry = none;
+      alias = none;
+      response = none;
+      correlation = none;
+      user = span 6 6;
+      subscriptions = span 6 6;
+      content = none;
+    });
+    payload = span 12 1;
+  })) 13,
+)
     ∷ (two, accepted (subscribe (record { ident = 1; props = none; filters = span 5 10 })) 15)
     ∷ (acks, accepted (ack 4 (record { ident = 10; reason = 0x99; props = some (record { reason = some (str (span 9 1)); user = span 6 11 }) })) 17)
     ∷ []

@@ -11,10 +11,7 @@ use Rattle.grammar.specs.Record.{flagQos}
 use Rattle.reading.specs.Refusal.{Refusal, nr}
 use Rattle.reading.specs.Fault.{Fault, Sound, OnlyFault, under, fails, ThenFault, first, second, SizedFault, sizes, crosses, fills, ManyFault, now, later, ExactFault, before, follows, IsFault, isnt, ByteFault, noByte, BigFault, fewer, NumFault, endless, long, BytesFault, TextFault, ValueFault, PropertyFault, noId, unknown, value, BlockFault, AckFault, reason, block, IdentFault, FiltersFault, noFilters, filter, PublishFault, qos, fields, FieldsFault, kind}
 use Rattle.reading.specs.Rows.{Breaks}
-
--- rows 7 to 15, and 2
-abbrev pub ofFields : List ℕ
-ofFields = 2 ∷ 7 ∷ 8 ∷ 9 ∷ 10 ∷ 11 ∷ 12 ∷ 13 ∷ 14 ∷ 15 ∷ []
+use Rattle.reading.specs.Demand.{ofFields}
 
 abbrev numbered : Refusal → Type 0
 numbered (nr k vs) = isIn k ofFields ≡ true
