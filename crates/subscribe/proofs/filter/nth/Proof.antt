@@ -1,55 +1,50 @@
+-- `subscribe::filter::nth` is right since each turn passes one filter and keeps the n-th of those passed. Assumes nothing.
+use Prim.Native.Nat.{_-_}
+use native.Mathlib.Omega.{arith}
+use borrow.Author.Needs.{needs}
+use lib.ListN.{length}
+use denote.Ref.{now}
+use Rattle.subscribe.proofs.Laws.Filters.{filter-ahead, Counting, counting-start, counting-bad, counting-next, counting-end}
 use Rattle.subscribe.proofs.filter.nth.Statement.{statement}
 use Rattle.subscribe.proofs.filter.nth.Tie as tie
-use Rattle.subscribe.proofs.filter.nth.Reads as reads
-use Rattle.subscribe.proofs.filter.nth.Lts as lts
-use Rattle.subscribe.proofs.filter.choose.Reads as choose-reads
-use Rattle.subscribe.proofs.filter.read_filter.Reads as read-filter-reads
 
 abbrev Inv-loop : tie.InvT-loop
-Inv-loop s at n item₀ turn₀ i₀ item turn i = ?
+Inv-loop s at n item₀ turn₀ i₀ item turn i = Counting s at n item turn i
 
 abbrev μ-loop : tie.MeasureT-loop
-μ-loop s at n item₀ turn₀ i₀ item turn i = ?
+μ-loop s at n item₀ turn₀ i₀ item turn i = length s - i
 
--- src/filter.rt:130:5
 loop-holds : tie.Need-loop-holds Inv-loop μ-loop
-loop-holds c = ?
+loop-holds c = counting-start (now (c .before .args .s)) (c .before .args .at) (c .before .args .n)
 
--- src/filter.rt:131:15
 read-filter-requires : tie.Need-read-filter-requires Inv-loop μ-loop
-read-filter-requires c κs = ?
+read-filter-requires c κs = search needs
 
--- src/filter.rt:132:38
 enum-told : tie.Need-enum-told Inv-loop μ-loop
-enum-told c = ?
+enum-told c = search needs
 
--- src/filter.rt:132:38
 returns : tie.Need-returns Inv-loop μ-loop
-returns c = ?
+returns c = counting-bad (c .before .before .before .before .loop .inv) (c .before .before .before .loop-test .taken) (rw (c .enum-told .given .1) at (c .before .before .read-filter .ensures))
 
--- src/filter.rt:133:30
 enum-known-f : tie.Need-enum-known-f Inv-loop μ-loop
-enum-known-f c = ?
+enum-known-f c = search needs
 
--- src/filter.rt:134:17
 choose-requires : tie.Need-choose-requires Inv-loop μ-loop
-choose-requires c κs = ?
+choose-requires c κs = search needs
 
--- src/filter.rt:135:24
 add-turn : tie.Need-add-turn Inv-loop μ-loop
-add-turn c = ?
+add-turn c = omega (arith, c .before .before .before .before .before .before .loop .inv .room)
 
--- src/filter.rt:130:5
 loop-less : tie.Need-loop-less Inv-loop μ-loop
-loop-less c = ?
+loop-less c =
+    let h = filter-ahead (now (c .before .before .before .before .before .before .before .before .args .s)) (c .before .before .before .before .before .loop-test .taken) (rw (c .before .before .f .given .1) at (c .before .before .before .before .read-filter .ensures)) in
+    omega (arith, h)
 
--- src/filter.rt:130:5
 loop-again : tie.Need-loop-again Inv-loop μ-loop
-loop-again c = ?
+loop-again c = counting-next (c .before .before .before .before .before .before .loop .inv) (c .before .before .before .before .before .loop-test .taken) (c .before .before .f .given .0 .0) (rw (c .before .before .f .given .1) at (c .before .before .before .before .read-filter .ensures)) (c .choose .ensures)
 
--- src/filter.rt:124:1
 returns-2 : tie.Need-returns-2 Inv-loop μ-loop
-returns-2 c = ?
+returns-2 c = counting-end (c .before .loop .inv) (c .loop-test .left)
 
 pub nth-spec : {M : Type 1} → statement M
 nth-spec =
