@@ -8,8 +8,8 @@ use records::subscribe::RetainForwardRule;
 use wire::fixed;
 use wire::got::GotSpan;
 use wire::got::GotU8;
-use wire::qos::GotQos;
 use wire::qos;
+use wire::qos::GotQos;
 use wire::string;
 ghost use mathlib.Core.Path.{_≡_};
 ghost use Prim.Native.Nat.{_%_};
@@ -117,7 +117,11 @@ pub fn read_filters(s: &[u8], at: usize) -> GotFilters
 fn choose(item: FilterItem, f: Filter, turn: usize, n: usize) -> FilterItem
     ensures { λ r. ⌜ toldFilterItem r ≡ chosen item f turn n ⌝ }
 {
-    if turn == n { FilterItem::Filter(f) } else { item }
+    if turn == n {
+        FilterItem::Filter(f)
+    } else {
+        item
+    }
 }
 
 // The n-th filter of the run from `at` to the end; a fault after it refuses too.

@@ -22,6 +22,7 @@ use Rattle.positions.proofs.At.{part-slice}
 use Rattle.positions.proofs.Less.{filter-less}
 use Rattle.positions.proofs.Trails.{Trails, trails-byte, trails-text, trails-filter}
 use Rattle.positions.proofs.Position.{got-left, got-within, bad-left, left-at, left-bad}
+use Rattle.positions.proofs.Run.{Passed, none-passed, item-ahead, passed-end, passed-bad, passed-next, nth-behind}
 use Rattle.wire.specs.Qos.{qosOf}
 use Rattle.records.specs.Told.{toldBool}
 use Rattle.records.specs.Said.{toldFilter}
@@ -30,7 +31,6 @@ use Rattle.records.specs.declared.answer.FilterItem.{FilterItem}
 use Rattle.records.specs.declared.answer.FilterItem.the-variants.{NoItem}
 use Rattle.records.specs.declared.subscribe.Filter as said
 use Rattle.subscribe.specs.Told.{ruleOf, optionsOf, placeFit, chosen, nthFit}
-use Rattle.subscribe.proofs.Laws.Run.{Passed, none-passed, item-ahead, passed-end, passed-bad, passed-next, nth-behind}
 
 -- ---- the options byte
 

@@ -1,37 +1,43 @@
+-- `subscribe::filter::filter` is right since a place that lies within is the end of the slice that stops there. Assumes nothing.
+use mathlib.Core.Path.{sym, _∙_}
+use Prim.Native.Nat.{_+_}
+use native.Mathlib.Omega.{arith}
+use lib.Seq.{length-take-le}
 use borrow.Author.Needs.{needs}
+use denote.Ref.{now}
+use Rattle.records.specs.Told.{toldSpan}
+use Rattle.subscribe.proofs.Laws.Filters.{filter-outside, filter-within}
 use Rattle.subscribe.proofs.filter.filter.Statement.{statement}
 use Rattle.subscribe.proofs.filter.filter.Tie as tie
-use Rattle.subscribe.proofs.filter.filter.Reads as reads
-use Rattle.subscribe.proofs.filter.filter.Lts as lts
-use Rattle.subscribe.proofs.filter.nth.Reads as nth-reads
 
--- src/filter.rt:150:9
 returns : tie.Need-returns
-returns c = ?
+returns c =
+    let a = c .before .before .args in
+    filter-outside (now (a .s)) (toldSpan (a .p)) (a .n) (omega arith)
 
--- src/filter.rt:152:8
 sub-if2 : tie.Need-sub-if2
 sub-if2 c = search needs
 
--- src/filter.rt:153:9
 returns-2 : tie.Need-returns-2
-returns-2 c = ?
+returns-2 c =
+    let a = c .before .before .before .args in
+    filter-outside (now (a .s)) (toldSpan (a .p)) (a .n) (omega arith)
 
--- src/filter.rt:155:15
 add-end : tie.Need-add-end
 add-end c = search needs
 
--- src/filter.rt:156:9
 slice-aggregate-nth : tie.Need-slice-aggregate-nth
-slice-aggregate-nth c = ?
+slice-aggregate-nth c =
+    let a = c .before .before .before .before .args in
+    sym (length-take-le (a .p .start + a .p .len) (now (a .s)) (omega arith))
 
--- src/filter.rt:156:5
 nth-requires : tie.Need-nth-requires
 nth-requires c κs = search needs
 
--- src/filter.rt:144:1
 returns-3 : tie.Need-returns-3
-returns-3 c = ?
+returns-3 c =
+    let a = c .before .before .before .before .before .args in
+    c .nth .ensures ∙ filter-within (now (a .s)) (toldSpan (a .p)) (a .n) (omega arith)
 
 pub filter-spec : {M : Type 1} → statement M
 filter-spec =

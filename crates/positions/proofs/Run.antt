@@ -52,7 +52,7 @@ module _ {A : Type 0} {p : Reader A} (s : List ℕ) (L : Less (length s) p) wher
 
     pub passed-next : Trails p → i < length s → {v : A} {m : ℕ} → fromAt p s i ≡ got (v, m) → Passed p s at m (vs ++ (v ∷ []))
     passed-next T h {v = v} {m = m} e = record {
-      rest = P .rest ∙ rw (many-next (drop i s) (drop m s) v (rw length-drop (omega arith)) (rw length-drop (omega arith)) (got-left p s i T v m e)) (go (manyFit p (drop m s)))
+      rest = P .rest ∙ rw (many-next (drop i s) (drop m s) v (rw length-drop (omega arith)) (rw length-drop (omega arith)) (got-left p s i T v m e)) (go (manyFit p (drop m s)));
     }
       where
         go : (n : Fit (List A)) → ((n >>= λ ws. got (v ∷ ws)) >>= λ ws. got (vs ++ ws)) ≡ (n >>= λ ws. got ((vs ++ (v ∷ [])) ++ ws))
