@@ -30,7 +30,7 @@ pub enum GotPubAckBlock {
     Refused(Error),
 }
 
-// One property more.
+// One property more. By the row only one form is not that of a user property.
 fn apply(p: PubAckProperties, k: u8, v: Value) -> PubAckProperties
     requires { ⌜ lookup ackPlace k ≡ some (formOf v) ⌝ }
     ensures { λ r. ⌜ toldPubAckProperties r ≡ applied ackRow (toldPubAckProperties p) (k, toldValue v) ⌝ }
@@ -40,12 +40,12 @@ fn apply(p: PubAckProperties, k: u8, v: Value) -> PubAckProperties
             reason_string: MaybeSpan::Present(x),
             ..p
         },
-        Value::U8(_)
-        | Value::U16(_)
-        | Value::U32(_)
-        | Value::Number(_)
-        | Value::Bytes(_)
-        | Value::Pair(_, _) => p,
+        Value::U8(_) => p,
+        Value::U16(_) => p,
+        Value::U32(_) => p,
+        Value::Number(_) => p,
+        Value::Bytes(_) => p,
+        Value::Pair(_, _) => p,
     }
 }
 

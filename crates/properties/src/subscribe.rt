@@ -30,7 +30,7 @@ pub enum GotSubscribeBlock {
     Refused(Error),
 }
 
-// One property more.
+// One property more. By the row only one form is not that of a user property.
 fn apply(p: SubscribeProperties, k: u8, v: Value) -> SubscribeProperties
     requires { ⌜ lookup subscribePlace k ≡ some (formOf v) ⌝ }
     ensures { λ r. ⌜ toldSubscribeProperties r ≡ applied subscribeRow (toldSubscribeProperties p) (k, toldValue v) ⌝ }
@@ -40,12 +40,12 @@ fn apply(p: SubscribeProperties, k: u8, v: Value) -> SubscribeProperties
             id: MaybeU32::Present(x),
             ..p
         },
-        Value::U8(_)
-        | Value::U16(_)
-        | Value::U32(_)
-        | Value::Text(_)
-        | Value::Bytes(_)
-        | Value::Pair(_, _) => p,
+        Value::U8(_) => p,
+        Value::U16(_) => p,
+        Value::U32(_) => p,
+        Value::Text(_) => p,
+        Value::Bytes(_) => p,
+        Value::Pair(_, _) => p,
     }
 }
 

@@ -3,23 +3,23 @@ use mathlib.Core.Path.{_≡_, refl, sym, ap, _∙_}
 use mathlib.Core.Bool.{Bool, true, false}
 use mathlib.Core.Option.{Option, none, some}
 use mathlib.Core.List.{List, [], _∷_}
-use Prim.Native.Nat.{ℕ, suc, _+_, _-_, _≤_, _<_}
+use Prim.Native.Nat.{ℕ, _+_, _-_, _≤_, _<_}
 use native.Mathlib.Omega.{arith}
 use lib.Dec.{leb}
-use lib.ListN.{length, take, drop, getD, length-drop, drop-of-length-le}
-use lib.Seq.{drop-cons, length-take-le}
+use lib.ListN.{length, take, drop, length-drop}
+use lib.Seq.{length-take-le}
 use borrow.Author.Tests.{leb-true, leb-false}
 use Rattle.reading.specs.Refusal.{Refusal, nr, cut, crossed}
-use Rattle.reading.specs.Reader.{Fit, got, bad, Reader, Filler, _>>=_, sizedOf, isFit, handFit, foldFit}
-use Rattle.reading.specs.Read.{numOf, anyBytes, stringFit, propertyOf, propertiesFit, blockOf}
-use Rattle.reading.specs.Place.{Span, spanOf, asPlaces, onGot}
-use Rattle.reading.proofs.Reading.{from-got, bad-got}
+use Rattle.reading.specs.Reader.{Fit, got, bad, Filler, _>>=_, sizedOf, isFit, handFit}
+use Rattle.reading.specs.Read.{numOf, anyBytes, stringFit, propertiesFit, blockOf}
+use Rattle.reading.specs.Place.{Span, asPlaces, onGot}
+use Rattle.reading.proofs.Reading.{bad-got, from-got}
 use Rattle.positions.specs.Position.{fromAt}
 use Rattle.positions.proofs.At.{sized-bad, sized-crossed, sized-at, span-at, part-slice}
-use Rattle.positions.proofs.Position.{got-left, got-within, bad-left, left-at, left-bad}
 use Rattle.positions.proofs.Trails.{trails-num}
+use Rattle.positions.proofs.Position.{got-left, got-within, bad-left, left-bad}
 use Rattle.properties.specs.Block.{roomOf, Row, loopFrom, filledAt}
-use Rattle.properties.proofs.Laws.Fold.{Lawful, blockAs, block-none, block-some}
+use Rattle.properties.proofs.Laws.Fold.{Lawful, blockAs, loopOn, block-none, block-some}
 
 bad-inj : {A : Type 0} {k k′ : Refusal} → _≡_ {A = Fit A} (bad k) (bad k′) → k ≡ k′
 bad-inj e = cc
@@ -140,8 +140,8 @@ module _ (s : List ℕ) (at : ℕ) where
       block-absent z h e =
           let i : z .0 .start + 0 ≡ z .1 = omega (arith, h .ends) in
           sym (
-            sized-within (handFit (blockAs w) (propertiesFit asPlaces (w .place))) s at (z .0 .len) (z .0 .start) (h .size) (omega (arith, h .ends, h .inside))
-            ∙ rw (e, block-none w W (z .0 .start + 0), i)
+          sized-within (handFit (blockAs w) (propertiesFit asPlaces (w .place))) s at (z .0 .len) (z .0 .start) (h .size) (omega (arith, h .ends, h .inside))
+          ∙ rw (e, block-none w W (z .0 .start + 0), i)
           )
 
       -- else properties fill the slice that ends where the block does
@@ -152,7 +152,7 @@ module _ (s : List ℕ) (at : ℕ) where
           let n : length (take (z .0 .start + z .0 .len) s) ≡ z .0 .start + z .0 .len = length-take-le (z .0 .start + z .0 .len) s o in
           let i : 0 < length (take (z .0 .len) (drop (z .0 .start) s)) = rw (length-take-le (z .0 .len) (drop (z .0 .start) s) (rw length-drop (omega arith))) pos in
           sym (
-            sized-within (handFit (blockAs w) (propertiesFit asPlaces (w .place))) s at (z .0 .len) (z .0 .start) (h .size) o
-            ∙ rw (block-some w W (z .0 .start + z .0 .len) (take (z .0 .len) (drop (z .0 .start) s)) i, span-at s (z .0 .len) (z .0 .start) o, part-slice s (z .0 .len) (z .0 .start) o, h .ends, n)
-                (then-end _ _)
+          sized-within (handFit (blockAs w) (propertiesFit asPlaces (w .place))) s at (z .0 .len) (z .0 .start) (h .size) o
+          ∙ rw (block-some w W (z .0 .start + z .0 .len) (take (z .0 .len) (drop (z .0 .start) s)) i, span-at s (z .0 .len) (z .0 .start) o, part-slice s (z .0 .len) (z .0 .start) o, h .ends, n)
+          (then-end (z .0 .start + z .0 .len) (loopOn w (z .0 .start + z .0 .len) (w .made (z .0) []) (drop (z .0 .start) (take (z .0 .start + z .0 .len) s))))
           )

@@ -1,51 +1,62 @@
+-- `properties::puback::fill` meets its contract. The loop's invariant: the rest of the loop decides the whole. Each property takes a byte at
+-- least, and what is left of the slice is the measure. Assumes nothing.
+use mathlib.Core.Path.{refl, sym, ap, _∙_}
+use Prim.Native.Nat.{_-_}
+use native.Mathlib.Omega.{arith}
+use lib.ListN.{length}
+use borrow.Author.Needs.{needs}
+use Rattle.grammar.specs.Record.{lastOf, ackProps}
+use Rattle.records.specs.Told.{toldSpan}
+use Rattle.records.specs.Said.{toldPubAckProperties}
+use Rattle.properties.specs.Told.{toldProperty}
+use Rattle.properties.specs.Block.{ackRow, loopFrom}
+use Rattle.properties.proofs.Laws.Fold.{Filling, filling-start, filling-next, filling-ahead, filled-bad, filled-end}
 use Rattle.properties.proofs.puback.fill.Statement.{statement}
 use Rattle.properties.proofs.puback.fill.Tie as tie
-use Rattle.properties.proofs.puback.fill.Reads as reads
-use Rattle.properties.proofs.puback.fill.Lts as lts
-use Rattle.properties.proofs.puback.apply.Reads as apply-reads
-use Rattle.properties.proofs.value.read_property.Reads as read-property-reads
 
 abbrev Inv-loop : tie.InvT-loop
-Inv-loop s p₀ at₀ p at = ?
+Inv-loop s p₀ at₀ p at = Filling ackRow s (loopFrom ackRow (toldPubAckProperties p₀) s at₀) (toldPubAckProperties p) at
 
 abbrev μ-loop : tie.MeasureT-loop
-μ-loop s p₀ at₀ p at = ?
+μ-loop s p₀ at₀ p at = length s - at
 
--- src/puback.rt:61:5
 loop-holds : tie.Need-loop-holds Inv-loop μ-loop
-loop-holds c = ?
+loop-holds c = filling-start _ _ _ _
 
--- src/puback.rt:62:15
 read-property-requires : tie.Need-read-property-requires Inv-loop μ-loop
-read-property-requires c κs = ?
+read-property-requires c κs = search needs
 
--- src/puback.rt:63:32
 enum-known-k : tie.Need-enum-known-k Inv-loop μ-loop
-enum-known-k c = ?
+enum-known-k c = search needs
 
--- src/puback.rt:64:17
 apply-requires : tie.Need-apply-requires Inv-loop μ-loop
-apply-requires c κs = ?
+apply-requires c κs = rw (c .before .k .given .1) at (c .before .before .before .read-property .ensures .typed)
 
--- src/puback.rt:61:5
 loop-less : tie.Need-loop-less Inv-loop μ-loop
-loop-less c = ?
+loop-less c =
+    let b = c .before .before .before .before in
+    let e = sym (ap toldProperty (c .before .before .k .given .1)) ∙ b .read-property .ensures .says in
+    omega (arith, b .before .loop-test .taken, filling-ahead (b .before .before .loop .inv) (b .before .loop-test .taken) _ _ e)
 
--- src/puback.rt:61:5
 loop-again : tie.Need-loop-again Inv-loop μ-loop
-loop-again c = ?
+loop-again c =
+    let b = c .before .before .before .before in
+    let e = sym (ap toldProperty (c .before .before .k .given .1)) ∙ b .read-property .ensures .says in
+    filling-next (b .before .before .loop .inv) (b .before .loop-test .taken) _ _ e _ (c .apply .ensures)
 
--- src/puback.rt:67:34
 enum-known-e : tie.Need-enum-known-e Inv-loop μ-loop
-enum-known-e c = ?
+enum-known-e c = search needs
 
--- src/puback.rt:68:17
 returns : tie.Need-returns Inv-loop μ-loop
-returns c = ?
+unfolding ackProps lastOf
+returns c =
+    let b = c .before .before .before in
+    let e = sym (ap toldProperty (c .before .e .given .1)) ∙ b .read-property .ensures .says in
+    filled-bad (toldSpan (c .before .before .before .before .before .before .before .args .block)) refl (b .before .before .loop .inv) (b .before .loop-test .taken) _ e
 
--- src/puback.rt:53:1
 returns-2 : tie.Need-returns-2 Inv-loop μ-loop
-returns-2 c = ?
+unfolding ackProps lastOf
+returns-2 c = filled-end (toldSpan (c .before .before .before .args .block)) refl (c .before .loop .inv) (c .loop-test .left)
 
 pub fill-spec : {M : Type 1} → statement M
 fill-spec =

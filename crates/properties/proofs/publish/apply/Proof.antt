@@ -1,68 +1,75 @@
+-- `properties::publish::apply` meets its contract: by the row, the form of a value tells which field it is of; the identifier is asked
+-- for text alone. Assumes nothing.
+use mathlib.Core.Path.{_≡_}
+use mathlib.Core.Logic.{_⊎_, ⊎-elim}
+use Prim.Native.Nat.{ℕ}
 use borrow.Author.Needs.{needs}
+use Rattle.properties.proofs.Laws.Fold.{publish-is}
 use Rattle.properties.proofs.publish.apply.Statement.{statement}
 use Rattle.properties.proofs.publish.apply.Tie as tie
-use Rattle.properties.proofs.publish.apply.Reads as reads
-use Rattle.properties.proofs.publish.apply.Lts as lts
 
--- src/publish.rt:43:19
+not-eight : (k : ℕ) → (k ≡ 8 → ⊥) → (k ≡ 8) ⊎ (k ≡ 3) → k ≡ 3
+not-eight k n = ⊎-elim (λ e. absurd (n e)) (λ e. e)
+
 enum-known-v : tie.Need-enum-known-v
 enum-known-v c = search needs
 
--- src/publish.rt:47:20
 enum-known-v-2 : tie.Need-enum-known-v-2
 enum-known-v-2 c = search needs
 
--- src/publish.rt:51:20
 enum-known-v-3 : tie.Need-enum-known-v-3
 enum-known-v-3 c = search needs
 
--- src/publish.rt:55:29
 enum-told : tie.Need-enum-told
 enum-told c = search needs
 
--- src/publish.rt:56:21
 enum-known-v-4 : tie.Need-enum-known-v-4
 enum-known-v-4 c = search needs
 
--- src/publish.rt:58:17
 returns : tie.Need-returns
-returns c = ?
+returns c = rw (c .before .before .before .v4 .given .1, c .before .if1 .taken)
 
--- src/publish.rt:68:22
 enum-known-v-5 : tie.Need-enum-known-v-5
 enum-known-v-5 c = search needs
 
--- src/publish.rt:72:30
 enum-told-2 : tie.Need-enum-told-2
 enum-told-2 c = search needs
 
--- src/publish.rt:38:1
 returns-2 : tie.Need-returns-2
-returns-2 c = ?
+returns-2 c =
+    let e = c .before .before .v .given .1 in
+    let b = c .before .before .before .before in
+    rw (e, publish-is (b .args .k) e (b .pre))
 
--- src/publish.rt:38:1
 returns-3 : tie.Need-returns-3
-returns-3 c = ?
+returns-3 c =
+    let e = c .before .before .v2 .given .1 in
+    let b = c .before .before .before .before in
+    rw (e, publish-is (b .args .k) e (b .pre))
 
--- src/publish.rt:38:1
 returns-4 : tie.Need-returns-4
-returns-4 c = ?
+returns-4 c =
+    let e = c .before .before .v3 .given .1 in
+    let b = c .before .before .before .before in
+    rw (e, publish-is (b .args .k) e (b .pre))
 
--- src/publish.rt:38:1
 returns-5 : tie.Need-returns-5
-returns-5 c = ?
+returns-5 c = rw (c .enum-told .given .1, publish-is (c .before .before .args .k) (c .enum-told .given .1) (c .before .before .pre))
 
--- src/publish.rt:38:1
 returns-6 : tie.Need-returns-6
-returns-6 c = ?
+returns-6 c =
+    let e = c .before .before .before .v4 .given .1 in
+    let b = c .before .before .before .before .before in
+    rw (e, not-eight (b .args .k) (c .before .if1 .left) (publish-is (b .args .k) e (b .pre)))
 
--- src/publish.rt:38:1
 returns-7 : tie.Need-returns-7
-returns-7 c = ?
+returns-7 c =
+    let e = c .before .before .v5 .given .1 in
+    let b = c .before .before .before .before in
+    rw (e, publish-is (b .args .k) e (b .pre))
 
--- src/publish.rt:38:1
 returns-8 : tie.Need-returns-8
-returns-8 c = ?
+returns-8 c = rw (c .enum-told2 .given .1, publish-is (c .before .before .args .k) (c .enum-told2 .given .1) (c .before .before .pre))
 
 pub apply-spec : {M : Type 1} → statement M
 apply-spec =

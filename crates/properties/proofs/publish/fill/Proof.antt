@@ -1,56 +1,62 @@
+-- `properties::publish::fill` meets its contract. The loop's invariant: the rest of the loop decides the whole. Each property takes a byte at
+-- least, and what is left of the slice is the measure. Assumes nothing.
+use mathlib.Core.Path.{sym, ap, _∙_}
+use Prim.Native.Nat.{_-_}
+use native.Mathlib.Omega.{arith}
+use lib.ListN.{length}
+use borrow.Author.Needs.{needs}
+use Rattle.records.specs.Told.{toldSpan}
+use Rattle.records.specs.Said.{toldPublishProperties}
+use Rattle.properties.specs.Told.{toldProperty}
+use Rattle.properties.specs.Block.{publishRow, loopFrom}
+use Rattle.properties.proofs.Laws.Fold.{Filling, filling-start, filling-next, filling-ahead, filled-bad, filled-end}
 use Rattle.properties.proofs.publish.fill.Statement.{statement}
 use Rattle.properties.proofs.publish.fill.Tie as tie
-use Rattle.properties.proofs.publish.fill.Reads as reads
-use Rattle.properties.proofs.publish.fill.Lts as lts
-use Rattle.properties.proofs.publish.apply.Reads as apply-reads
-use Rattle.properties.proofs.publish.none.Reads as none-reads
-use Rattle.properties.proofs.value.read_property.Reads as read-property-reads
 
 abbrev Inv-loop : tie.InvT-loop
-Inv-loop s p₀ at₀ p at = ?
+Inv-loop s p₀ at₀ p at = Filling publishRow s (loopFrom publishRow (toldPublishProperties p₀) s at₀) (toldPublishProperties p) at
 
 abbrev μ-loop : tie.MeasureT-loop
-μ-loop s p₀ at₀ p at = ?
+μ-loop s p₀ at₀ p at = length s - at
 
--- src/publish.rt:95:9
 none-requires : tie.Need-none-requires Inv-loop μ-loop
-none-requires c κs = ?
+none-requires c κs = search needs
 
--- src/publish.rt:97:5
 loop-holds : tie.Need-loop-holds Inv-loop μ-loop
-loop-holds c = ?
+loop-holds c = filling-start _ _ _ _
 
--- src/publish.rt:98:15
 read-property-requires : tie.Need-read-property-requires Inv-loop μ-loop
-read-property-requires c κs = ?
+read-property-requires c κs = search needs
 
--- src/publish.rt:99:32
 enum-known-k : tie.Need-enum-known-k Inv-loop μ-loop
-enum-known-k c = ?
+enum-known-k c = search needs
 
--- src/publish.rt:100:17
 apply-requires : tie.Need-apply-requires Inv-loop μ-loop
-apply-requires c κs = ?
+apply-requires c κs = rw (c .before .k .given .1) at (c .before .before .before .read-property .ensures .typed)
 
--- src/publish.rt:97:5
 loop-less : tie.Need-loop-less Inv-loop μ-loop
-loop-less c = ?
+loop-less c =
+    let b = c .before .before .before .before in
+    let e = sym (ap toldProperty (c .before .before .k .given .1)) ∙ b .read-property .ensures .says in
+    omega (arith, b .before .loop-test .taken, filling-ahead (b .before .before .loop .inv) (b .before .loop-test .taken) _ _ e)
 
--- src/publish.rt:97:5
 loop-again : tie.Need-loop-again Inv-loop μ-loop
-loop-again c = ?
+loop-again c =
+    let b = c .before .before .before .before in
+    let e = sym (ap toldProperty (c .before .before .k .given .1)) ∙ b .read-property .ensures .says in
+    filling-next (b .before .before .loop .inv) (b .before .loop-test .taken) _ _ e _ (c .apply .ensures)
 
--- src/publish.rt:103:34
 enum-known-e : tie.Need-enum-known-e Inv-loop μ-loop
-enum-known-e c = ?
+enum-known-e c = search needs
 
--- src/publish.rt:104:17
 returns : tie.Need-returns Inv-loop μ-loop
-returns c = ?
+returns c =
+    let b = c .before .before .before in
+    let e = sym (ap toldProperty (c .before .e .given .1)) ∙ b .read-property .ensures .says in
+    filled-bad (toldSpan (c .before .before .before .before .before .before .before .before .args .block)) (c .before .before .before .before .before .before .none .ensures) (b .before .before .loop .inv) (b .before .loop-test .taken) _ e
 
--- src/publish.rt:92:1
 returns-2 : tie.Need-returns-2 Inv-loop μ-loop
-returns-2 c = ?
+returns-2 c = filled-end (toldSpan (c .before .before .before .before .args .block)) (c .before .before .none .ensures) (c .before .loop .inv) (c .loop-test .left)
 
 pub fill-spec : {M : Type 1} → statement M
 fill-spec =

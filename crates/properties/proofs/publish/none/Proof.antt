@@ -1,11 +1,12 @@
+-- `properties::publish::none` meets its contract: of no properties each single value is absent. Assumes nothing.
+use mathlib.Core.Path.{refl}
+use Rattle.grammar.specs.Record.{lastOf, publishProps}
 use Rattle.properties.proofs.publish.none.Statement.{statement}
 use Rattle.properties.proofs.publish.none.Tie as tie
-use Rattle.properties.proofs.publish.none.Reads as reads
-use Rattle.properties.proofs.publish.none.Lts as lts
 
--- src/publish.rt:77:1
 returns : tie.Need-returns
-returns c = ?
+unfolding publishProps lastOf
+returns c = refl
 
 pub none-spec : {M : Type 1} → statement M
 none-spec = tie.close (tie.spec returns)
