@@ -1,21 +1,22 @@
--- What the answers on filters tell, in 01's numbers and values. Assumes nothing.
+-- What the answers on filters and on a Subscribe tell, in 01's numbers and values. Assumes nothing.
 use mathlib.Core.List.{List, [], _∷_}
 use Prim.Native.Nat.{ℕ}
 use lib.Dec.{ltb, eqb}
 use Rattle.grammar.specs.Choice.{pick}
-use Rattle.grammar.specs.Record.{mkFilter}
+use Rattle.grammar.specs.Record.{subscribe, mkFilter}
 use Rattle.grammar.specs.Record as record-of
 use Rattle.grammar.specs.Sentence.{qosFine, ruleFine}
 use Rattle.reading.specs.Refusal.{nr}
 use Rattle.reading.specs.Reader.{Fit, got, bad, Filler, _>>=_, _>>_, guard, handFit}
 use Rattle.reading.specs.Read.{filtersFit}
-use Rattle.reading.specs.Place.{asPlaces, orNoItem, nthOf}
+use Rattle.reading.specs.Place.{Placed, asPlaces, orNoItem, nthOf}
 use Rattle.reading.specs.Place as place
 use Rattle.records.specs.Told.{toldError, toldRule, toldSpan}
-use Rattle.records.specs.Said.{toldFilter}
+use Rattle.records.specs.Said.{toldFilter, toldSubscribe}
 use Rattle.records.specs.Answered.{toldFilterItem}
 use Rattle.records.specs.declared.answer.FilterItem.{FilterItem}
 use Rattle.records.specs.declared.subscribe.Filter.{Filter}
+use Rattle.subscribe.specs.declared.GotSubscribe.{GotSubscribe}
 use Rattle.subscribe.specs.declared.filter.GotRule.{GotRule}
 use Rattle.subscribe.specs.declared.filter.GotFilter.{GotFilter}
 use Rattle.subscribe.specs.declared.filter.GotFilters.{GotFilters}
@@ -64,3 +65,10 @@ abbrev pub nthFit : ℕ → ℕ → Filler (record-of.Filter place.Span)
 nthFit n end s = do
   fs ← orNoItem (filtersFit asPlaces end s)
   nthOf n fs
+
+-- ---- the packet
+
+-- 01, grammar: "Subscribe (8)"
+abbrev pub toldGotSubscribe : GotSubscribe → Fit Placed
+toldGotSubscribe (GotSubscribe.Value m) = got (subscribe (toldSubscribe m))
+toldGotSubscribe (GotSubscribe.Refused e) = bad (toldError e)
