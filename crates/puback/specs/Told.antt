@@ -1,0 +1,33 @@
+-- What the answers on a PubAck tell, and which of its places its parts are. Assumes nothing.
+use mathlib.Core.Option.{Option}
+use Rattle.grammar.specs.Record.{AckProps, ack}
+use Rattle.reading.specs.Reader.{Fit, got, bad}
+use Rattle.reading.specs.Place.{Placed}
+use Rattle.reading.specs.Place as place
+use Rattle.records.specs.Told.{toldError}
+use Rattle.records.specs.Said.{toldPubAck, toldPubAckBlock}
+use Rattle.records.specs.declared.puback.PubAckProperties.{PubAckProperties}
+use Rattle.records.specs.declared.puback.MaybePubAckProperties.{MaybePubAckProperties}
+use Rattle.records.specs.declared.span.MaybeSpan.{MaybeSpan}
+use Prim.Native.Nat.{ℕ}
+use Rattle.puback.specs.declared.GotPubAck.{GotPubAck}
+use Rattle.puback.specs.declared.GotLastBlock.{GotLastBlock}
+
+-- 01, grammar: "PubAck (4)", or the refusal
+abbrev pub toldGotPubAck : GotPubAck → Fit Placed
+toldGotPubAck (GotPubAck.Value m) = got (ack 4 (toldPubAck m))
+toldGotPubAck (GotPubAck.Refused e) = bad (toldError e)
+
+-- 01, grammar, PubAck: "no block", or "a block that ends the frame"
+abbrev pub toldLastBlock : GotLastBlock → Fit (Option (AckProps place.Span (λ A. place.Span)))
+toldLastBlock (GotLastBlock.Value p) = got (toldPubAckBlock p)
+toldLastBlock (GotLastBlock.Refused e) = bad (toldError e)
+
+-- a place of the block, if there is a block
+abbrev pub inBlock : (PubAckProperties → MaybeSpan) → MaybePubAckProperties → MaybeSpan
+inBlock f MaybePubAckProperties.Absent = MaybeSpan.Absent
+inBlock f (MaybePubAckProperties.Present p) = f p
+
+-- 01, grammar, PubAck: the identifier, then a reason and a block
+abbrev pub acked : ℕ → ℕ × Option (AckProps place.Span (λ A. place.Span)) → Fit Placed
+acked i v = got (ack 4 (record { ident = i; reason = v .0; props = v .1 }))
