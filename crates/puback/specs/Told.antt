@@ -1,15 +1,18 @@
 -- What the answers on a PubAck tell, and which of its places its parts are. Assumes nothing.
 use mathlib.Core.Option.{Option}
+use mathlib.Core.List.{List}
+use Prim.Native.Nat.{ℕ}
+use Rattle.grammar.specs.Tables.{reasons}
 use Rattle.grammar.specs.Record.{AckProps, ack}
-use Rattle.reading.specs.Reader.{Fit, got, bad}
-use Rattle.reading.specs.Place.{Placed}
+use Rattle.reading.specs.Reader.{Fit, got, bad, _>>=_}
+use Rattle.reading.specs.Read.{ackRestFit}
+use Rattle.reading.specs.Place.{asPlaces, Placed}
 use Rattle.reading.specs.Place as place
 use Rattle.records.specs.Told.{toldError}
 use Rattle.records.specs.Said.{toldPubAck, toldPubAckBlock}
 use Rattle.records.specs.declared.puback.PubAckProperties.{PubAckProperties}
 use Rattle.records.specs.declared.puback.MaybePubAckProperties.{MaybePubAckProperties}
 use Rattle.records.specs.declared.span.MaybeSpan.{MaybeSpan}
-use Prim.Native.Nat.{ℕ}
 use Rattle.puback.specs.declared.GotPubAck.{GotPubAck}
 use Rattle.puback.specs.declared.GotLastBlock.{GotLastBlock}
 
@@ -31,3 +34,7 @@ inBlock f (MaybePubAckProperties.Present p) = f p
 -- 01, grammar, PubAck: the identifier, then a reason and a block
 abbrev pub acked : ℕ → ℕ × Option (AckProps place.Span (λ A. place.Span)) → Fit Placed
 acked i v = got (ack 4 (record { ident = i; reason = v .0; props = v .1 }))
+
+-- 01, grammar, PubAck: what follows the identifier, in bytes that end at index `end`
+abbrev pub restOf : ℕ → ℕ → List ℕ → Fit Placed
+restOf i end b = ackRestFit asPlaces reasons end b >>= acked i

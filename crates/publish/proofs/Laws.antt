@@ -6,6 +6,7 @@ use mathlib.Core.List.{List, [], _∷_}
 use Prim.Native.Nat.{ℕ, zero, suc, _-_, _/_, _%_, _≤_, _<_}
 use native.Mathlib.Omega.{arith}
 use lib.ListN.{length, drop, length-drop}
+use lib.Dec.{eqb}
 use borrow.Author.Tests.{ne-eqb}
 use Rattle.grammar.specs.Tables.{publishPlace, aPublish}
 use Rattle.grammar.specs.Record.{PublishProps, publish, flagQos}
@@ -21,6 +22,7 @@ use Rattle.positions.specs.Position.{fromAt}
 use Rattle.positions.proofs.Trails.{Trails, trails-reads, trails-big, trails-bytes, trails-block}
 use Rattle.positions.proofs.Position.{got-left, got-within, bad-left, left-at, left-bad}
 use Rattle.positions.proofs.Fill.{fill-bad, fill-got}
+use Rattle.records.specs.Told.{toldBool}
 use Rattle.wire.specs.Qos.{qosOf}
 
 -- ---- a reader whose value is tested
@@ -79,11 +81,24 @@ below (suc (suc (suc (suc n)))) q h e = absurd (omega arith)
 pub qos-fine : (x q : ℕ) → got q ≡ qosOf (x / 2 % 4) → (notThree (flagQos x) ≡ true) × (q ≡ flagQos x)
 qos-fine x q e = below (x / 2 % 4) q (omega arith) e
 
+-- a flag is a bit
+pub flag-told : (n : ℕ) → n < 2 → toldBool (eqb n 1) ≡ n
+flag-told zero h = refl
+flag-told (suc zero) h = refl
+flag-told (suc (suc n)) h = absurd (omega arith)
+
 -- ---- the fields
 
 -- what a block is handed back as
 abbrev Block : Type 0
 Block = Option (PublishProps Span (λ A. Span))
+
+-- a field that was read ends within the slice
+pub topic-within : (s : List ℕ) (at : ℕ) (p : Span) (a : ℕ) → got (p, a) ≡ fromAt (bytesOf asPlaces (length s)) s at → a ≤ length s
+topic-within s at p a e = got-within (bytesOf asPlaces (length s)) s at (trails-bytes asPlaces (length s)) p a (sym e)
+
+pub block-within : (s : List ℕ) (at : ℕ) (ps : Block) (n : ℕ) → got (ps, n) ≡ fromAt (blockOf asPlaces publishPlace (publishAs asPlaces) (length s)) s at → n ≤ length s
+block-within s at ps n e = got-within (blockOf asPlaces publishPlace (publishAs asPlaces) (length s)) s at (trails-block asPlaces (length s) publishPlace (publishAs asPlaces)) ps n (sym e)
 
 -- the payload: all that is left
 abbrev payloadFit : ℕ → Block → Filler Span
@@ -137,9 +152,6 @@ module _ (s : List ℕ) (at x : ℕ) where
 
         -- the block ps ends at n, and the rest is payload
         module _ (ps : Block) (n : ℕ) (e₂ : got (ps, n) ≡ fromAt (blockOf asPlaces publishPlace (publishAs asPlaces) (length s)) s b) where
-          pub block-within : n ≤ length s
-          block-within = got-within (blockOf asPlaces publishPlace (publishAs asPlaces) (length s)) s b (trails-block asPlaces (length s) publishPlace (publishAs asPlaces)) ps n (sym e₂)
-
           block-got : blockFit (length s) i (drop b s) ≡ (payloadFit (length s) ps (drop n s) >>= λ c. got (ps, c))
           block-got = fill-got (blockOf asPlaces publishPlace (publishAs asPlaces) (length s)) s b (trails-block asPlaces (length s) publishPlace (publishAs asPlaces)) ps n (sym e₂) (payloadFit (length s))
 
@@ -147,7 +159,7 @@ module _ (s : List ℕ) (at x : ℕ) where
           unfolding stringFit handFit isFit
           payload-got =
               let l : length (drop n s) ≡ length s - n = length-drop n s in
-              let m : length s - (length s - n) ≡ n = omega (arith, block-within) in
+              let m : length s - (length s - n) ≡ n = omega (arith, block-within s b ps n e₂) in
               rw (l, m)
 
           pub fields-got :

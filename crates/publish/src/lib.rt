@@ -1,4 +1,6 @@
 // A Publish, after publish.rs: the read of its fields, and its strings as parts of the stream.
+use properties::publish;
+use properties::publish::GotPublishBlock;
 use records::error::Error;
 use records::publish::MaybePublishProperties;
 use records::publish::Publish;
@@ -11,13 +13,13 @@ use wire::qos;
 use wire::qos::GotQos;
 use wire::string;
 ghost use mathlib.Core.Path.{_≡_};
-ghost use Prim.Native.Nat.{_≤_};
+ghost use Prim.Native.Nat.{_%_, _≤_};
 ghost use lib.ListN.{length, drop};
 ghost use Rattle.grammar.specs.Tables.{aPublish};
 ghost use Rattle.reading.specs.Read.{identOf, fieldsFit};
 ghost use Rattle.reading.specs.Place.{asPlaces, heldOf};
 ghost use Rattle.positions.specs.Position.{fromAt};
-ghost use Rattle.records.specs.Told.{toldQoS, toldSpan};
+ghost use Rattle.records.specs.Told.{toldBool, toldQoS, toldSpan};
 ghost use Rattle.wire.specs.Told.{toldU16, heldIf};
 ghost use Rattle.publish.specs.Told.{toldGotPublish, inBlock};
 
@@ -50,6 +52,47 @@ fn read_pkid(s: &[u8], at: usize, qos: QoS) -> GotU16
         QoS::AtMostOnce => GotU16::Value(0, at),
         QoS::AtLeastOnce => read_some_pkid(s, at),
         QoS::ExactlyOnce => read_some_pkid(s, at),
+    }
+}
+
+// A flag, which is the lowest bit.
+fn flag(n: u8) -> bool
+    ensures { λ r. ⌜ toldBool r ≡ n % 2 ⌝ }
+{
+    n % 2 == 1
+}
+
+// The fields from index `at` to the end of the frame, whose first byte is given: QoS, then left to right.
+pub fn read(s: &[u8], at: usize, byte1: u8) -> GotPublish
+    ensures { λ r. ⌜ toldGotPublish r ≡ fieldsFit asPlaces aPublish byte1 (length (now (s .entry))) (drop at (now (s .entry))) ⌝ }
+{
+    let qos = match qos::qos(byte1 / 2 % 4) {
+        GotQos::Refused(e) => return GotPublish::Refused(e),
+        GotQos::Value(q) => q,
+    };
+    match string::read_mqtt_bytes(s, at) {
+        GotSpan::Refused(e) => GotPublish::Refused(e),
+        GotSpan::Value(topic, a) => match read_pkid(s, a, qos) {
+            GotU16::Refused(e) => GotPublish::Refused(e),
+            GotU16::Value(pkid, b) => match publish::read_publish_block(s, b) {
+                GotPublishBlock::Refused(e) => GotPublish::Refused(e),
+                GotPublishBlock::Value(properties, start) => {
+                    let payload = Span {
+                        start,
+                        len: s.len() - start,
+                    };
+                    GotPublish::Value(Publish {
+                        dup: flag(byte1 / 8),
+                        qos,
+                        retain: flag(byte1),
+                        topic,
+                        pkid,
+                        payload,
+                        properties,
+                    })
+                }
+            },
+        },
     }
 }
 
