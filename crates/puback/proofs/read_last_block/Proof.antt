@@ -8,7 +8,7 @@ use Rattle.puback.proofs.read_last_block.Statement.{statement}
 use Rattle.puback.proofs.read_last_block.Tie as tie
 
 returns : tie.Need-returns
-returns c = block-none _ _ (c .if1 .taken)
+returns c = let a = c .before .before .args in block-none (now (a .s)) (a .at) (c .if1 .taken)
 
 read-puback-block-requires : tie.Need-read-puback-block-requires
 read-puback-block-requires c κs = search needs

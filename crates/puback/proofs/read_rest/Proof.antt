@@ -9,7 +9,7 @@ use Rattle.puback.proofs.read_rest.Statement.{statement}
 use Rattle.puback.proofs.read_rest.Tie as tie
 
 returns : tie.Need-returns
-returns c = rest-none _ _ _ (c .if1 .taken)
+returns c = let a = c .before .before .args in rest-none (now (a .s)) (a .at) (a .pkid) (c .if1 .taken)
 
 shared-slice-read-reason : tie.Need-shared-slice-read-reason
 shared-slice-read-reason c = search needs

@@ -36,7 +36,9 @@ enum-known-topic : tie.Need-enum-known-topic
 enum-known-topic c = search needs
 
 read-pkid-requires : tie.Need-read-pkid-requires
-read-pkid-requires c κs = topic-within _ _ _ _ (sym (ap toldPart (c .before .topic .given .1)) ∙ c .before .before .before .read-mqtt-bytes .ensures)
+read-pkid-requires c κs =
+    let a = c .before .before .before .before .before .before .before .before .before .args in
+    topic-within (now (a .s)) (a .at) _ _ (sym (ap toldPart (c .before .topic .given .1)) ∙ c .before .before .before .read-mqtt-bytes .ensures)
 
 enum-known-e-3 : tie.Need-enum-known-e-3
 enum-known-e-3 c = search needs
@@ -54,7 +56,12 @@ enum-known-properties : tie.Need-enum-known-properties
 enum-known-properties c = search needs
 
 sub-t28 : tie.Need-sub-t28
-sub-t28 c = block-within _ _ _ _ (sym (ap toldPublishBlockAt (c .before .properties .given .1)) ∙ c .before .before .before .read-publish-block .ensures)
+sub-t28 c =
+    let blocks = c .before .before .before in
+    let pkid = blocks .before .before in
+    let topic = pkid .before .before .before .before in
+    let a = topic .before .before .before .before .before .before .before .before .args in
+    block-within (now (a .s)) (pkid .pkid .given .0 .1 .0) _ _ (sym (ap toldPublishBlockAt (c .before .properties .given .1)) ∙ blocks .read-publish-block .ensures)
 
 flag-requires : tie.Need-flag-requires
 flag-requires c κs = search needs
@@ -80,7 +87,7 @@ returns-3 c =
     let qs = q .before .before in
     let a = qs .before .before .args in
     let (f, j) = qos-fine (a .byte1) _ (sym (ap toldGotQos (q .q .given .1)) ∙ qs .qos .ensures) in
-    pkid-bad (now (a .s)) (a .at) (a .byte1) f _ _ (sym (ap toldPart (topic .topic .given .1)) ∙ topics .read-mqtt-bytes .ensures) _ (sym (ap toldU16 (c .before .e3 .given .1)) ∙ pkids .read-pkid .ensures ∙ ap (λ (n : ℕ). fromAt (identOf n) (now (a .s)) _) j)
+    pkid-bad (now (a .s)) (a .at) (a .byte1) f _ _ (sym (ap toldPart (topic .topic .given .1)) ∙ topics .read-mqtt-bytes .ensures) _ (sym (ap toldU16 (c .before .e3 .given .1)) ∙ pkids .read-pkid .ensures ∙ ap (λ (n : ℕ). fromAt (identOf n) (now (a .s)) (topic .topic .given .0 .1 .0)) j)
 
 returns-4 : tie.Need-returns-4
 returns-4 c =
@@ -93,7 +100,7 @@ returns-4 c =
     let qs = q .before .before in
     let a = qs .before .before .args in
     let (f, j) = qos-fine (a .byte1) _ (sym (ap toldGotQos (q .q .given .1)) ∙ qs .qos .ensures) in
-    block-bad (now (a .s)) (a .at) (a .byte1) f _ _ (sym (ap toldPart (topic .topic .given .1)) ∙ topics .read-mqtt-bytes .ensures) _ _ (sym (ap toldU16 (pkid .pkid .given .1)) ∙ pkids .read-pkid .ensures ∙ ap (λ (n : ℕ). fromAt (identOf n) (now (a .s)) _) j) _ (sym (ap toldPublishBlockAt (c .before .e4 .given .1)) ∙ blocks .read-publish-block .ensures)
+    block-bad (now (a .s)) (a .at) (a .byte1) f _ _ (sym (ap toldPart (topic .topic .given .1)) ∙ topics .read-mqtt-bytes .ensures) _ _ (sym (ap toldU16 (pkid .pkid .given .1)) ∙ pkids .read-pkid .ensures ∙ ap (λ (n : ℕ). fromAt (identOf n) (now (a .s)) (topic .topic .given .0 .1 .0)) j) _ (sym (ap toldPublishBlockAt (c .before .e4 .given .1)) ∙ blocks .read-publish-block .ensures)
 
 returns-5 : tie.Need-returns-5
 returns-5 c =
@@ -108,7 +115,7 @@ returns-5 c =
     let a = qs .before .before .args in
     let (f, j) = qos-fine (a .byte1) _ (sym (ap toldGotQos (q .q .given .1)) ∙ qs .qos .ensures) in
     rw (c .before .flag .ensures, c .flag2 .ensures, j)
-    (fields-got (now (a .s)) (a .at) (a .byte1) f _ _ (sym (ap toldPart (topic .topic .given .1)) ∙ topics .read-mqtt-bytes .ensures) _ _ (sym (ap toldU16 (pkid .pkid .given .1)) ∙ pkids .read-pkid .ensures ∙ ap (λ (n : ℕ). fromAt (identOf n) (now (a .s)) _) j) _ _ (sym (ap toldPublishBlockAt (block .properties .given .1)) ∙ blocks .read-publish-block .ensures))
+    (fields-got (now (a .s)) (a .at) (a .byte1) f _ _ (sym (ap toldPart (topic .topic .given .1)) ∙ topics .read-mqtt-bytes .ensures) _ _ (sym (ap toldU16 (pkid .pkid .given .1)) ∙ pkids .read-pkid .ensures ∙ ap (λ (n : ℕ). fromAt (identOf n) (now (a .s)) (topic .topic .given .0 .1 .0)) j) _ _ (sym (ap toldPublishBlockAt (block .properties .given .1)) ∙ blocks .read-publish-block .ensures))
 
 pub read-spec : {M : Type 1} → statement M
 read-spec =
