@@ -1,3 +1,4 @@
 pub mod Value
 pub mod Fold
 pub mod Block
+pub mod Nth

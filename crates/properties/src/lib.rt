@@ -4,4 +4,5 @@ mod block;
 pub mod puback;
 pub mod publish;
 pub mod subscribe;
+pub mod nth;
 pub mod value;
