@@ -88,6 +88,10 @@ module _ (limit : Option ℕ) (s : List ℕ) (x l m : ℕ) (e : got ((x, take l 
   pub frame-end : (n : ℕ) → n ≡ min (m + l) 18446744073709551615 → length s < 18446744073709551616 → n ≡ m + l
   frame-end n h f = omega (arith, checked-within limit s x l m e)
 
+  -- so that its bytes are there
+  pub frame-count : (n : ℕ) → n ≡ min (m + l) 18446744073709551615 → n ≡ length (take n s)
+  frame-count n h = sym (length-take-le n s (omega (arith, checked-within limit s x l m e)))
+
   module _ (n : ℕ) (h : n ≡ m + l) where
     answer-whole : (f : Fit Placed) → f ≡ bodyFit asPlaces x (length (take n s)) (drop m (take n s)) → bodyAnswer n f ≡ readPlacedOf limit s
     unfolding wholeAnswer

@@ -1,7 +1,6 @@
 -- `packet::read` is right since what `check` refuses takes nothing, and a whole frame is taken, whatever its body says. Assumes nothing.
 use borrow.Author.Needs.{needs}
-use Rattle.packet.proofs.Laws.{frame-end, answer-none, answer-got, answer-bad}
-use Rattle.framing.proofs.Laws.Frame.{checked-within}
+use Rattle.packet.proofs.Laws.{frame-end, frame-count, answer-none, answer-got, answer-bad}
 use Rattle.packet.specs.Told.{toldBody}
 use Rattle.framing.specs.Told.{toldChecked}
 use Rattle.records.specs.Told.{limitOf}
@@ -28,8 +27,7 @@ slice-aggregate-read-body c =
     let h = c .before .before .before in
     let a = c .before .before .before .before .before .before .before .args in
     let e = sym (ap (toldChecked (now (a .stream))) (h .h .given .1)) ∙ c .before .before .before .before .before .check .ensures in
-    let g = h .h .given .0 .0 in
-    omega (arith, checked-within (limitOf (a .limit)) (now (a .stream)) (g .byte1) (g .«remaining_len») (g .«fixed_header_len») e, c .before .frame-length .ensures)
+    frame-count (limitOf (a .limit)) (now (a .stream)) _ _ _ e _ (c .before .frame-length .ensures)
 
 read-body-requires : tie.Need-read-body-requires
 read-body-requires c κs = search needs
