@@ -18,10 +18,12 @@ use Rattle.positions.specs.Position.{fromAt}
 use Rattle.positions.proofs.Trails.{Trails, trails-map, trails-then, trails-byte, trails-big, trails-num, trails-bytes, trails-text}
 use Rattle.positions.proofs.Position.{got-left, bad-left, left-bad}
 use Rattle.positions.proofs.Fill.{then-bad, map-bad, then-got, map-got}
-use Rattle.records.specs.Told.{toldError}
+use Rattle.records.specs.Told.{toldError, toldSpan}
 use Rattle.properties.specs.Told.{toldValue, formOf, toldProperty, Typed, ValueRead, PropertyRead}
 use Rattle.records.specs.declared.error.Error.{Error}
+use Rattle.records.specs.declared.span.Span as records
 use Rattle.properties.specs.declared.value.Value.{Value}
+use Rattle.properties.specs.declared.value.Value.the-variants.{Pair}
 use Rattle.properties.specs.declared.value.GotProperty.{GotProperty}
 use Rattle.properties.specs.declared.value.GotProperty.the-variants.{Found, Refused}
 
@@ -65,47 +67,49 @@ module _ (end : ℕ) where
 abbrev tagged : {A : Type 0} → (A → Val Span) → Reader A → ℕ → Reader (Prop Span)
 tagged inj p k = mapOf (λ v. (k, v)) (mapOf inj p)
 
-module _ {f : Form} {A : Type 0} {inj : A → Val Span} {p : Reader A} (s : List ℕ) (R : Reader-of f inj p (length s)) (k at : ℕ) where
-  value-tagged : fromAt (valueAt asPlaces (some f) k (length s)) s at ≡ fromAt (tagged inj p k) s at
-  unfolding valueAt mapOf
-  value-tagged = ap (λ (q : Reader (Val Span)). fromAt (mapOf (λ v. (k, v)) q) s at) (R .same)
+value-tagged : {f : Form} {A : Type 0} {inj : A → Val Span} {p : Reader A} (s : List ℕ) → Reader-of f inj p (length s) → (k at : ℕ)
+    → fromAt (valueAt asPlaces (some f) k (length s)) s at ≡ fromAt (tagged inj p k) s at
+unfolding valueAt mapOf
+value-tagged s R k at = ap (λ (q : Reader (Val Span)). fromAt (mapOf (λ v. (k, v)) q) s at) (R .same)
 
-  pub found : (x : A) (m : ℕ) → got (x, m) ≡ fromAt p s at → (v : Value) → toldValue v ≡ inj x → formOf v ≡ f → ValueRead (some f) k s at (Found k v m)
-  found x m e v t u = record {
+module _ {f : Form} {A : Type 0} {inj : A → Val Span} {p : Reader A} {s : List ℕ} {k at : ℕ} where
+  pub found : {x : A} {m : ℕ} {v : Value} → Reader-of f inj p (length s) → got (x, m) ≡ fromAt p s at → toldValue v ≡ inj x → formOf v ≡ f → ValueRead (some f) k s at (Found k v m)
+  found {x = x} {m = m} R e t u = record {
     says =
         ap (λ (w : Val Span). got ((k, w), m)) t
         ∙ sym (map-got (mapOf inj p) s at (trails-map (R .trails) inj) (inj x) m (map-got p s at (R .trails) x m (sym e) inj) (λ w. (k, w)))
-        ∙ sym value-tagged;
+        ∙ sym (value-tagged s R k at);
     typed = ap some (sym u);
   }
 
-  pub refused : (e : Error) → bad (toldError e) ≡ fromAt p s at → ValueRead (some f) k s at (Refused e)
-  refused e h = record {
-    says = sym (map-bad (mapOf inj p) s at (λ w. (k, w)) (toldError e) (map-bad p s at inj (toldError e) (sym h))) ∙ sym value-tagged;
+  pub refused : {e : Error} → Reader-of f inj p (length s) → bad (toldError e) ≡ fromAt p s at → ValueRead (some f) k s at (Refused e)
+  refused {e = e} R h = record {
+    says = sym (map-bad (mapOf inj p) s at (λ w. (k, w)) (toldError e) (map-bad p s at inj (toldError e) (sym h))) ∙ sym (value-tagged s R k at);
     typed = tt;
   }
 
 -- ---- two texts
 
-module _ (s : List ℕ) (at : ℕ) where
-  abbrev textAt : ℕ → Fit (Span × ℕ)
-  textAt i = fromAt (textOf asPlaces (length s)) s i
+-- the text at an index
+abbrev textAt : List ℕ → ℕ → Fit (Span × ℕ)
+textAt s at = fromAt (textOf asPlaces (length s)) s at
 
-  abbrev textsAt : Fit ((Span × Span) × ℕ)
-  textsAt = fromAt (thenOf (textOf asPlaces (length s)) (λ _. textOf asPlaces (length s))) s at
+-- the two texts at an index
+abbrev textsAt : List ℕ → ℕ → Fit ((Span × Span) × ℕ)
+textsAt s at = fromAt (thenOf (textOf asPlaces (length s)) (λ _. textOf asPlaces (length s))) s at
 
-  pub texts-bad : (k : Refusal) → bad k ≡ textAt at → bad k ≡ textsAt
-  texts-bad k e = sym (then-bad (textOf asPlaces (length s)) s at (λ _. textOf asPlaces (length s)) k (sym e))
+texts-next : (s : List ℕ) (at : ℕ) (x : Span) (m : ℕ) → got (x, m) ≡ textAt s at → textsAt s at ≡ (textAt s m >>= λ z. got ((x, z .0), z .1))
+texts-next s at x m e = then-got (textOf asPlaces (length s)) s at (trails-text asPlaces (length s)) x m (sym e) (λ _. textOf asPlaces (length s))
 
-  module _ (x : Span) (m : ℕ) (e : got (x, m) ≡ textAt at) where
-    texts-next : textsAt ≡ (textAt m >>= λ z. got ((x, z .0), z .1))
-    texts-next = then-got (textOf asPlaces (length s)) s at (trails-text asPlaces (length s)) x m (sym e) (λ _. textOf asPlaces (length s))
+module _ {s : List ℕ} {k at : ℕ} where
+  pub pair-bad : {e : Error} → bad (toldError e) ≡ textAt s at → ValueRead (some pair) k s at (Refused e)
+  pair-bad {e = e} h = refused (of-pair (length s)) (sym (then-bad (textOf asPlaces (length s)) s at (λ _. textOf asPlaces (length s)) (toldError e) (sym h)))
 
-    pub texts-next-bad : (k : Refusal) → bad k ≡ textAt m → bad k ≡ textsAt
-    texts-next-bad k e′ = sym (texts-next ∙ rw (sym e′))
+  pub pair-next-bad : {x : Span} {m : ℕ} {e : Error} → got (x, m) ≡ textAt s at → bad (toldError e) ≡ textAt s m → ValueRead (some pair) k s at (Refused e)
+  pair-next-bad {x = x} {m = m} d h = refused (of-pair (length s)) (sym (texts-next s at x m d ∙ rw (sym h)))
 
-    pub texts-got : (y : Span) (n : ℕ) → got (y, n) ≡ textAt m → got ((x, y), n) ≡ textsAt
-    texts-got y n e′ = sym (texts-next ∙ rw (sym e′))
+  pub pair-got : {x y : records.Span} {m n : ℕ} → got (toldSpan x, m) ≡ textAt s at → got (toldSpan y, n) ≡ textAt s m → ValueRead (some pair) k s at (Found k (Pair x y) n)
+  pair-got {x = x} {m = m} d h = found (of-pair (length s)) (sym (texts-next s at (toldSpan x) m d ∙ rw (sym h))) refl refl
 
 -- ---- the identifier before it
 

@@ -1,11 +1,10 @@
 -- `properties::nth::seek_in` is right since each turn passes one property, and what is left decides. Assumes nothing.
 use borrow.Author.Needs.{needs}
-use denote.Ref.{now}
 use lib.ListN.{length}
 use native.Mathlib.Omega.{arith}
 use Prim.Native.Nat.{_-_}
 use Rattle.wire.specs.Property.{placeOf}
-use Rattle.properties.proofs.Laws.Nth.{property-within, property-ahead, Seeking, seeking-start, seeking-end, seeking-bad, seeking-next}
+use Rattle.properties.proofs.Laws.Nth.{property-ahead, Seeking, seeking-start, seeking-end, seeking-bad, seeking-next}
 use Rattle.properties.proofs.nth.seek_in.Statement.{statement}
 use Rattle.properties.proofs.nth.seek_in.Tie as tie
 
