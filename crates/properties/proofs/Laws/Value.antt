@@ -2,8 +2,9 @@
 use mathlib.Core.Path.{_≡_, refl, sym, ap, _∙_}
 use mathlib.Core.Option.{Option, none, some}
 use mathlib.Core.List.{List, [], _∷_}
-use Prim.Native.Nat.{ℕ, _-_}
-use lib.ListN.{length, drop}
+use Prim.Native.Nat.{ℕ, _-_, _<_}
+use native.Mathlib.Omega.{arith}
+use lib.ListN.{length, drop, length-drop}
 use Rattle.grammar.specs.Choice.{lookup}
 use Rattle.grammar.specs.Tables.{Form, u8, u16, u32, number, text, bytes, pair, Place}
 use Rattle.grammar.specs.Record.{Val, num, str, Prop}
@@ -15,7 +16,8 @@ use Rattle.reading.specs.Place.{Span, asPlaces}
 use Rattle.reading.proofs.Reading.{bad-got, from-got, from-bind}
 use Rattle.reading.proofs.Refusing.{got-bad}
 use Rattle.positions.specs.Position.{fromAt}
-use Rattle.positions.proofs.Trails.{Trails, trails-map, trails-then, trails-byte, trails-big, trails-num, trails-bytes, trails-text}
+use Rattle.positions.proofs.Less.{property-less}
+use Rattle.positions.proofs.Trails.{Trails, trails-map, trails-then, trails-byte, trails-big, trails-num, trails-bytes, trails-text, trails-property}
 use Rattle.positions.proofs.Position.{got-left, bad-left, left-bad}
 use Rattle.positions.proofs.Fill.{then-bad, map-bad, then-got, map-got}
 use Rattle.records.specs.Told.{toldError, toldSpan}
@@ -154,3 +156,14 @@ module _ (row : Place) (s : List ℕ) (at : ℕ) where
     property-read o r h v =
         let w : ValueRead (lookup row k) k s m r = rw h at v in
         record { says = w .says ∙ sym property-next; typed = retyped r (w .says) (w .typed) }
+
+-- ---- a property takes a byte at least
+
+module _ (row : Place) (s : List ℕ) (at : ℕ) (a : Prop Span) (n : ℕ) (e : got (a, n) ≡ fromAt (propertyOf asPlaces row (length s)) s at) where
+  pub property-left : propertyOf asPlaces row (length s) (drop at s) ≡ got (a, drop n s)
+  property-left = got-left (propertyOf asPlaces row (length s)) s at (trails-property asPlaces (length s) row) a n (sym e)
+
+  pub property-ahead : at < n
+  property-ahead =
+      let l : length (drop n s) < length (drop at s) = property-less row (length s) (drop at s) (a, drop n s) (rw length-drop (omega arith)) property-left in
+      omega (arith, simp length-drop at l)
