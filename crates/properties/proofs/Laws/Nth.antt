@@ -2,7 +2,7 @@
 use mathlib.Core.Path.{_≡_, refl, sym, ap, _∙_}
 use mathlib.Core.Bool.{not}
 use mathlib.Core.Option.{some}
-use mathlib.Core.List.{List, [], _∷_}
+use mathlib.Core.List.{List, _∷_}
 use Prim.Native.Nat.{ℕ, zero, suc, _+_, _-_, _≤_, _<_}
 use native.Mathlib.Omega.{arith}
 use lib.Dec.{T}
@@ -23,12 +23,12 @@ use Rattle.reading.proofs.Lists.{leb-yes, leb-no}
 use Rattle.positions.proofs.At.{part-slice}
 use Rattle.positions.proofs.Walk.{Less, chain-nil, chain-bad, chain-next}
 use Rattle.positions.proofs.Less.{property-less}
-use Rattle.positions.proofs.Trails.{trails-property}
-use Rattle.positions.proofs.Position.{got-left, got-within, bad-left}
+use Rattle.positions.proofs.Position.{bad-left}
 use Rattle.records.specs.Told.{toldError}
 use Rattle.wire.specs.Property.{placeOf}
 use Rattle.properties.specs.Told.{toldValue, formOf, PropertyRead}
 use Rattle.properties.specs.Nth.{sought, Formed, SeekOn, soughtIn, SeekIn, NthRead}
+use Rattle.properties.proofs.Laws.Value.{property-left, property-ahead}
 use Rattle.wire.specs.declared.property.PropertyPlace.{PropertyPlace}
 use Rattle.wire.specs.declared.property.PropertyPlace.the-variants.{Publish, Subscribe, PubAck}
 use Rattle.records.specs.declared.error.Error.{Error}
@@ -58,22 +58,6 @@ module _ (i k : ℕ) (v : Value) where
 
     pub seek-after : (w : Value) → SeekOn (At w) i k v (At w)
     seek-after w = record { says = λ ps. refl; formed = λ f e t. t }
-
--- ---- a property at an index leaves less
-
-module _ (row : Place) (s : List ℕ) (at : ℕ) {k : ℕ} {v : Value} {m : ℕ} (r : PropertyRead row s at (Found k v m)) where
-  pub property-within : m ≤ length s
-  property-within = got-within (propertyOf asPlaces row (length s)) s at (trails-property asPlaces (length s) row) (k, toldValue v) m (sym (r .says))
-
-  property-left : propertyOf asPlaces row (length s) (drop at s) ≡ got ((k, toldValue v), drop m s)
-  property-left = got-left (propertyOf asPlaces row (length s)) s at (trails-property asPlaces (length s) row) (k, toldValue v) m (sym (r .says))
-
-  pub property-ahead : at < m
-  property-ahead =
-      let b : length (drop at s) ≤ length s = rw length-drop (omega arith) in
-      let l = property-less row (length s) (drop at s) ((k, toldValue v), drop m s) b property-left in
-      let l′ : length s - m < length s - at = rw (length-drop m s, length-drop at s) at l in
-      omega arith
 
 -- ---- the properties of a block, one after the other
 
@@ -112,10 +96,13 @@ module _ (row : Place) (i : ℕ) (s : List ℕ) where
               formed = tt;
             }
 
+        pub seeking-ahead : {k : ℕ} {v : Value} {m : ℕ} → PropertyRead row s at (Found k v m) → at < m
+        seeking-ahead {k = k} {v = v} {m = m} r = property-ahead row s at (k, toldValue v) m (r .says)
+
         pub seeking-next : {k : ℕ} {v : Value} {m : ℕ} → PropertyRead row s at (Found k v m) → {q′ : Seek} → SeekOn q i k v q′ → Seeking q′ m
         unfolding soughtIn propertiesFit
         seeking-next {k = k} {v = v} {m = m} r {q′ = q′} o =
-            let f = rw (drop-cons s at 0 h) at (property-left row s at r) in
+            let f = rw (drop-cons s at 0 h) at (property-left row s at (k, toldValue v) m (r .says)) in
             let b : length (getD s at 0 ∷ drop (suc at) s) ≤ length s = rw length-drop (omega arith) in
             record {
               goes =

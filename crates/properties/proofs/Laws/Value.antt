@@ -2,8 +2,9 @@
 use mathlib.Core.Path.{_≡_, refl, sym, ap, _∙_}
 use mathlib.Core.Option.{Option, none, some}
 use mathlib.Core.List.{List, [], _∷_}
-use Prim.Native.Nat.{ℕ, _-_}
-use lib.ListN.{length, drop}
+use Prim.Native.Nat.{ℕ, _-_, _<_}
+use native.Mathlib.Omega.{arith}
+use lib.ListN.{length, drop, length-drop}
 use Rattle.grammar.specs.Choice.{lookup}
 use Rattle.grammar.specs.Tables.{Form, u8, u16, u32, number, text, bytes, pair, Place}
 use Rattle.grammar.specs.Record.{Val, num, str, Prop}
@@ -15,13 +16,16 @@ use Rattle.reading.specs.Place.{Span, asPlaces}
 use Rattle.reading.proofs.Reading.{bad-got, from-got, from-bind}
 use Rattle.reading.proofs.Refusing.{got-bad}
 use Rattle.positions.specs.Position.{fromAt}
-use Rattle.positions.proofs.Trails.{Trails, trails-map, trails-then, trails-byte, trails-big, trails-num, trails-bytes, trails-text}
+use Rattle.positions.proofs.Less.{property-less}
+use Rattle.positions.proofs.Trails.{Trails, trails-map, trails-then, trails-byte, trails-big, trails-num, trails-bytes, trails-text, trails-property}
 use Rattle.positions.proofs.Position.{got-left, bad-left, left-bad}
 use Rattle.positions.proofs.Fill.{then-bad, map-bad, then-got, map-got}
-use Rattle.records.specs.Told.{toldError}
+use Rattle.records.specs.Told.{toldError, toldSpan}
 use Rattle.properties.specs.Told.{toldValue, formOf, toldProperty, Typed, ValueRead, PropertyRead}
 use Rattle.records.specs.declared.error.Error.{Error}
+use Rattle.records.specs.declared.span.Span as records
 use Rattle.properties.specs.declared.value.Value.{Value}
+use Rattle.properties.specs.declared.value.Value.the-variants.{Pair}
 use Rattle.properties.specs.declared.value.GotProperty.{GotProperty}
 use Rattle.properties.specs.declared.value.GotProperty.the-variants.{Found, Refused}
 
@@ -65,47 +69,49 @@ module _ (end : ℕ) where
 abbrev tagged : {A : Type 0} → (A → Val Span) → Reader A → ℕ → Reader (Prop Span)
 tagged inj p k = mapOf (λ v. (k, v)) (mapOf inj p)
 
-module _ {f : Form} {A : Type 0} {inj : A → Val Span} {p : Reader A} (s : List ℕ) (R : Reader-of f inj p (length s)) (k at : ℕ) where
-  value-tagged : fromAt (valueAt asPlaces (some f) k (length s)) s at ≡ fromAt (tagged inj p k) s at
-  unfolding valueAt mapOf
-  value-tagged = ap (λ (q : Reader (Val Span)). fromAt (mapOf (λ v. (k, v)) q) s at) (R .same)
+value-tagged : {f : Form} {A : Type 0} {inj : A → Val Span} {p : Reader A} (s : List ℕ) → Reader-of f inj p (length s) → (k at : ℕ)
+    → fromAt (valueAt asPlaces (some f) k (length s)) s at ≡ fromAt (tagged inj p k) s at
+unfolding valueAt mapOf
+value-tagged s R k at = ap (λ (q : Reader (Val Span)). fromAt (mapOf (λ v. (k, v)) q) s at) (R .same)
 
-  pub found : (x : A) (m : ℕ) → got (x, m) ≡ fromAt p s at → (v : Value) → toldValue v ≡ inj x → formOf v ≡ f → ValueRead (some f) k s at (Found k v m)
-  found x m e v t u = record {
+module _ {f : Form} {A : Type 0} {inj : A → Val Span} {p : Reader A} {s : List ℕ} {k at : ℕ} where
+  pub found : {x : A} {m : ℕ} {v : Value} → Reader-of f inj p (length s) → got (x, m) ≡ fromAt p s at → toldValue v ≡ inj x → formOf v ≡ f → ValueRead (some f) k s at (Found k v m)
+  found {x = x} {m = m} R e t u = record {
     says =
         ap (λ (w : Val Span). got ((k, w), m)) t
         ∙ sym (map-got (mapOf inj p) s at (trails-map (R .trails) inj) (inj x) m (map-got p s at (R .trails) x m (sym e) inj) (λ w. (k, w)))
-        ∙ sym value-tagged;
+        ∙ sym (value-tagged s R k at);
     typed = ap some (sym u);
   }
 
-  pub refused : (e : Error) → bad (toldError e) ≡ fromAt p s at → ValueRead (some f) k s at (Refused e)
-  refused e h = record {
-    says = sym (map-bad (mapOf inj p) s at (λ w. (k, w)) (toldError e) (map-bad p s at inj (toldError e) (sym h))) ∙ sym value-tagged;
+  pub refused : {e : Error} → Reader-of f inj p (length s) → bad (toldError e) ≡ fromAt p s at → ValueRead (some f) k s at (Refused e)
+  refused {e = e} R h = record {
+    says = sym (map-bad (mapOf inj p) s at (λ w. (k, w)) (toldError e) (map-bad p s at inj (toldError e) (sym h))) ∙ sym (value-tagged s R k at);
     typed = tt;
   }
 
 -- ---- two texts
 
-module _ (s : List ℕ) (at : ℕ) where
-  abbrev textAt : ℕ → Fit (Span × ℕ)
-  textAt i = fromAt (textOf asPlaces (length s)) s i
+-- the text at an index
+abbrev textAt : List ℕ → ℕ → Fit (Span × ℕ)
+textAt s at = fromAt (textOf asPlaces (length s)) s at
 
-  abbrev textsAt : Fit ((Span × Span) × ℕ)
-  textsAt = fromAt (thenOf (textOf asPlaces (length s)) (λ _. textOf asPlaces (length s))) s at
+-- the two texts at an index
+abbrev textsAt : List ℕ → ℕ → Fit ((Span × Span) × ℕ)
+textsAt s at = fromAt (thenOf (textOf asPlaces (length s)) (λ _. textOf asPlaces (length s))) s at
 
-  pub texts-bad : (k : Refusal) → bad k ≡ textAt at → bad k ≡ textsAt
-  texts-bad k e = sym (then-bad (textOf asPlaces (length s)) s at (λ _. textOf asPlaces (length s)) k (sym e))
+texts-next : (s : List ℕ) (at : ℕ) (x : Span) (m : ℕ) → got (x, m) ≡ textAt s at → textsAt s at ≡ (textAt s m >>= λ z. got ((x, z .0), z .1))
+texts-next s at x m e = then-got (textOf asPlaces (length s)) s at (trails-text asPlaces (length s)) x m (sym e) (λ _. textOf asPlaces (length s))
 
-  module _ (x : Span) (m : ℕ) (e : got (x, m) ≡ textAt at) where
-    texts-next : textsAt ≡ (textAt m >>= λ z. got ((x, z .0), z .1))
-    texts-next = then-got (textOf asPlaces (length s)) s at (trails-text asPlaces (length s)) x m (sym e) (λ _. textOf asPlaces (length s))
+module _ {s : List ℕ} {k at : ℕ} where
+  pub pair-bad : {e : Error} → bad (toldError e) ≡ textAt s at → ValueRead (some pair) k s at (Refused e)
+  pair-bad {e = e} h = refused (of-pair (length s)) (sym (then-bad (textOf asPlaces (length s)) s at (λ _. textOf asPlaces (length s)) (toldError e) (sym h)))
 
-    pub texts-next-bad : (k : Refusal) → bad k ≡ textAt m → bad k ≡ textsAt
-    texts-next-bad k e′ = sym (texts-next ∙ rw (sym e′))
+  pub pair-next-bad : {x : Span} {m : ℕ} {e : Error} → got (x, m) ≡ textAt s at → bad (toldError e) ≡ textAt s m → ValueRead (some pair) k s at (Refused e)
+  pair-next-bad {x = x} {m = m} d h = refused (of-pair (length s)) (sym (texts-next s at x m d ∙ rw (sym h)))
 
-    pub texts-got : (y : Span) (n : ℕ) → got (y, n) ≡ textAt m → got ((x, y), n) ≡ textsAt
-    texts-got y n e′ = sym (texts-next ∙ rw (sym e′))
+  pub pair-got : {x y : records.Span} {m n : ℕ} → got (toldSpan x, m) ≡ textAt s at → got (toldSpan y, n) ≡ textAt s m → ValueRead (some pair) k s at (Found k (Pair x y) n)
+  pair-got {x = x} {m = m} d h = found (of-pair (length s)) (sym (texts-next s at (toldSpan x) m d ∙ rw (sym h))) refl refl
 
 -- ---- the identifier before it
 
@@ -150,3 +156,14 @@ module _ (row : Place) (s : List ℕ) (at : ℕ) where
     property-read o r h v =
         let w : ValueRead (lookup row k) k s m r = rw h at v in
         record { says = w .says ∙ sym property-next; typed = retyped r (w .says) (w .typed) }
+
+-- ---- a property takes a byte at least
+
+module _ (row : Place) (s : List ℕ) (at : ℕ) (a : Prop Span) (n : ℕ) (e : got (a, n) ≡ fromAt (propertyOf asPlaces row (length s)) s at) where
+  pub property-left : propertyOf asPlaces row (length s) (drop at s) ≡ got (a, drop n s)
+  property-left = got-left (propertyOf asPlaces row (length s)) s at (trails-property asPlaces (length s) row) a n (sym e)
+
+  pub property-ahead : at < n
+  property-ahead =
+      let l : length (drop n s) < length (drop at s) = property-less row (length s) (drop at s) (a, drop n s) (rw length-drop (omega arith)) property-left in
+      omega (arith, simp length-drop at l)

@@ -1,11 +1,10 @@
 -- `properties::nth::seek_in` is right since each turn passes one property, and what is left decides. Assumes nothing.
 use borrow.Author.Needs.{needs}
-use denote.Ref.{now}
 use lib.ListN.{length}
 use native.Mathlib.Omega.{arith}
 use Prim.Native.Nat.{_-_}
 use Rattle.wire.specs.Property.{placeOf}
-use Rattle.properties.proofs.Laws.Nth.{property-within, property-ahead, Seeking, seeking-start, seeking-end, seeking-bad, seeking-next}
+use Rattle.properties.proofs.Laws.Nth.{Seeking, seeking-start, seeking-end, seeking-bad, seeking-ahead, seeking-next}
 use Rattle.properties.proofs.nth.seek_in.Statement.{statement}
 use Rattle.properties.proofs.nth.seek_in.Tie as tie
 
@@ -40,7 +39,7 @@ loop-less : tie.Need-loop-less Inv-loop μ-loop
 loop-less c =
     let b = c .before .before .before .before in
     let r = rw (c .before .before .k .given .1) at (b .read-property .ensures) in
-    omega (arith, b .before .loop-test .taken, property-ahead _ _ _ r)
+    omega (arith, b .before .loop-test .taken, seeking-ahead _ _ _ _ _ (b .before .before .loop .inv) (b .before .loop-test .taken) r)
 
 loop-again : tie.Need-loop-again Inv-loop μ-loop
 loop-again c =

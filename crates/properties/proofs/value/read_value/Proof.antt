@@ -1,10 +1,8 @@
 -- `properties::value::read_value` is right form by form: what the leaf of the form reads is the value. Assumes nothing.
-use mathlib.Core.Path.{refl, ap, sym, _∙_}
+use mathlib.Core.Path.{refl}
 use borrow.Author.Needs.{needs}
-use denote.Ref.{now}
 use Rattle.reading.specs.Read.{valueAt}
 use Rattle.positions.specs.Position.{fromAt}
-use Rattle.wire.specs.Told.{toldU8, toldU16, toldU32, toldPart}
 use Rattle.properties.proofs.Laws.Value.{of-u8, of-u16, of-u32, of-number, of-text, of-bytes, found, refused}
 use Rattle.properties.proofs.value.read_value.Statement.{statement}
 use Rattle.properties.proofs.value.read_value.Tie as tie
@@ -91,76 +89,40 @@ enum-told-8 : tie.Need-enum-told-8
 enum-told-8 c = search needs
 
 returns : tie.Need-returns
-returns c =
-    let b = c .before .before .before in
-    let a = b .before .before .before .before .args in
-    rw (b .before .enum-told .given .1) (found (now (a .s)) (of-u8 _) (a .k) (a .at) _ _ (sym (ap toldU8 (c .before .x .given .1)) ∙ b .read-u8 .ensures) _ refl refl)
+returns c = rw (c .before .before .before .before .enum-told .given .1) (found (of-u8 _) (rw (c .before .x .given .1) at (c .before .before .before .read-u8 .ensures)) refl refl)
 
 returns-2 : tie.Need-returns-2
-returns-2 c =
-    let b = c .before .before .before in
-    let a = b .before .before .before .before .args in
-    rw (b .before .enum-told .given .1) (refused (now (a .s)) (of-u8 _) (a .k) (a .at) _ (sym (ap toldU8 (c .before .e .given .1)) ∙ b .read-u8 .ensures))
+returns-2 c = rw (c .before .before .before .before .enum-told .given .1) (refused (of-u8 _) (rw (c .before .e .given .1) at (c .before .before .before .read-u8 .ensures)))
 
 returns-3 : tie.Need-returns-3
-returns-3 c =
-    let b = c .before .before .before in
-    let a = b .before .before .before .before .args in
-    rw (b .before .enum-told2 .given .1) (found (now (a .s)) (of-u16 _) (a .k) (a .at) _ _ (sym (ap toldU16 (c .before .x2 .given .1)) ∙ b .read-u16 .ensures) _ refl refl)
+returns-3 c = rw (c .before .before .before .before .enum-told2 .given .1) (found (of-u16 _) (rw (c .before .x2 .given .1) at (c .before .before .before .read-u16 .ensures)) refl refl)
 
 returns-4 : tie.Need-returns-4
-returns-4 c =
-    let b = c .before .before .before in
-    let a = b .before .before .before .before .args in
-    rw (b .before .enum-told2 .given .1) (refused (now (a .s)) (of-u16 _) (a .k) (a .at) _ (sym (ap toldU16 (c .before .e2 .given .1)) ∙ b .read-u16 .ensures))
+returns-4 c = rw (c .before .before .before .before .enum-told2 .given .1) (refused (of-u16 _) (rw (c .before .e2 .given .1) at (c .before .before .before .read-u16 .ensures)))
 
 returns-5 : tie.Need-returns-5
-returns-5 c =
-    let b = c .before .before .before in
-    let a = b .before .before .before .before .args in
-    rw (b .before .enum-told3 .given .1) (found (now (a .s)) (of-u32 _) (a .k) (a .at) _ _ (sym (ap toldU32 (c .before .x3 .given .1)) ∙ b .read-u32 .ensures) _ refl refl)
+returns-5 c = rw (c .before .before .before .before .enum-told3 .given .1) (found (of-u32 _) (rw (c .before .x3 .given .1) at (c .before .before .before .read-u32 .ensures)) refl refl)
 
 returns-6 : tie.Need-returns-6
-returns-6 c =
-    let b = c .before .before .before in
-    let a = b .before .before .before .before .args in
-    rw (b .before .enum-told3 .given .1) (refused (now (a .s)) (of-u32 _) (a .k) (a .at) _ (sym (ap toldU32 (c .before .e3 .given .1)) ∙ b .read-u32 .ensures))
+returns-6 c = rw (c .before .before .before .before .enum-told3 .given .1) (refused (of-u32 _) (rw (c .before .e3 .given .1) at (c .before .before .before .read-u32 .ensures)))
 
 returns-7 : tie.Need-returns-7
-returns-7 c =
-    let b = c .before .before .before in
-    let a = b .before .before .before .before .args in
-    rw (b .before .enum-told4 .given .1) (found (now (a .s)) (of-number _) (a .k) (a .at) _ _ (sym (ap toldU32 (c .before .x4 .given .1)) ∙ b .read-length .ensures) _ refl refl)
+returns-7 c = rw (c .before .before .before .before .enum-told4 .given .1) (found (of-number _) (rw (c .before .x4 .given .1) at (c .before .before .before .read-length .ensures)) refl refl)
 
 returns-8 : tie.Need-returns-8
-returns-8 c =
-    let b = c .before .before .before in
-    let a = b .before .before .before .before .args in
-    rw (b .before .enum-told4 .given .1) (refused (now (a .s)) (of-number _) (a .k) (a .at) _ (sym (ap toldU32 (c .before .e4 .given .1)) ∙ b .read-length .ensures))
+returns-8 c = rw (c .before .before .before .before .enum-told4 .given .1) (refused (of-number _) (rw (c .before .e4 .given .1) at (c .before .before .before .read-length .ensures)))
 
 returns-9 : tie.Need-returns-9
-returns-9 c =
-    let b = c .before .before .before in
-    let a = b .before .before .before .before .args in
-    rw (b .before .enum-told5 .given .1) (found (now (a .s)) (of-text _) (a .k) (a .at) _ _ (sym (ap toldPart (c .before .x5 .given .1)) ∙ b .read-mqtt-string .ensures) _ refl refl)
+returns-9 c = rw (c .before .before .before .before .enum-told5 .given .1) (found (of-text _) (rw (c .before .x5 .given .1) at (c .before .before .before .read-mqtt-string .ensures)) refl refl)
 
 returns-10 : tie.Need-returns-10
-returns-10 c =
-    let b = c .before .before .before in
-    let a = b .before .before .before .before .args in
-    rw (b .before .enum-told5 .given .1) (refused (now (a .s)) (of-text _) (a .k) (a .at) _ (sym (ap toldPart (c .before .e5 .given .1)) ∙ b .read-mqtt-string .ensures))
+returns-10 c = rw (c .before .before .before .before .enum-told5 .given .1) (refused (of-text _) (rw (c .before .e5 .given .1) at (c .before .before .before .read-mqtt-string .ensures)))
 
 returns-11 : tie.Need-returns-11
-returns-11 c =
-    let b = c .before .before .before in
-    let a = b .before .before .before .before .args in
-    rw (b .before .enum-told6 .given .1) (found (now (a .s)) (of-bytes _) (a .k) (a .at) _ _ (sym (ap toldPart (c .before .x6 .given .1)) ∙ b .read-mqtt-bytes .ensures) _ refl refl)
+returns-11 c = rw (c .before .before .before .before .enum-told6 .given .1) (found (of-bytes _) (rw (c .before .x6 .given .1) at (c .before .before .before .read-mqtt-bytes .ensures)) refl refl)
 
 returns-12 : tie.Need-returns-12
-returns-12 c =
-    let b = c .before .before .before in
-    let a = b .before .before .before .before .args in
-    rw (b .before .enum-told6 .given .1) (refused (now (a .s)) (of-bytes _) (a .k) (a .at) _ (sym (ap toldPart (c .before .e6 .given .1)) ∙ b .read-mqtt-bytes .ensures))
+returns-12 c = rw (c .before .before .before .before .enum-told6 .given .1) (refused (of-bytes _) (rw (c .before .e6 .given .1) at (c .before .before .before .read-mqtt-bytes .ensures)))
 
 returns-13 : tie.Need-returns-13
 returns-13 c = rw (c .before .enum-told7 .given .1) (c .read-pair .ensures)
