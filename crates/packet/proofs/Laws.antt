@@ -3,7 +3,7 @@ use mathlib.Core.Path.{_≡_, refl, sym, ap, _∙_}
 use mathlib.Core.Bool.{Bool, true, false, not}
 use mathlib.Core.Option.{Option, none, some}
 use mathlib.Core.List.{List, [], _∷_}
-use Prim.Native.Nat.{ℕ, _+_, _≤_, _<_, min}
+use Prim.Native.Nat.{ℕ, _+_, _-_, _≤_, _<_, min}
 use native.Mathlib.Omega.{arith}
 use lib.ListN.{length, take, drop, drop-of-length-le}
 use lib.Seq.{drop-cons, length-take-le}
@@ -12,11 +12,15 @@ use Rattle.grammar.specs.Tables.{Layout, aPing, isPing}
 use Rattle.grammar.specs.Record.{ping, kindOf}
 use Rattle.reading.specs.Refusal.{Refusal, nr, accepted}
 use Rattle.reading.specs.Reader.{Fit, got, bad, _>>=_, _>>_, guard, mapFit, isFit}
-use Rattle.reading.specs.Read.{fieldsFit, layoutFit, bodyFit, bodyAnswer, wholeAnswer}
+use Rattle.reading.specs.Read.{frameOf, fieldsFit, layoutFit, bodyFit, bodyAnswer, wholeAnswer, frameAnswer, readAs}
 use Rattle.reading.specs.Place.{asPlaces, Placed, readPlacedOf}
-use Rattle.records.specs.Answered.{withTaken}
+use Rattle.records.specs.Told.{toldError, limitOf}
+use Rattle.records.specs.Answered.{withTaken, told}
+use Rattle.records.specs.declared.answer.Limit.{Limit}
+use Rattle.records.specs.declared.answer.Read.{Read}
 use Rattle.framing.specs.Told.{kindAt, frameAt}
 use Rattle.framing.proofs.Laws.Frame.{checked-within, checked-read, checked-refused}
+use Rattle.packet.specs.Told.{takenIn, takenBy}
 
 -- ---- the body of a frame whose first byte is x
 
@@ -105,3 +109,30 @@ module _ (limit : Option ℕ) (s : List ℕ) (x l m : ℕ) (e : got ((x, take l 
 
     pub answer-bad : (k : Refusal) → bad k ≡ bodyFit asPlaces x (length (take n s)) (drop m (take n s)) → withTaken k n ≡ readPlacedOf limit s
     answer-bad k i = with-taken k n ∙ answer-whole (bad k) i
+
+-- ---- no more bytes are taken than there are
+
+taken-told : (k : Refusal) (n : ℕ) → takenIn {A = Placed} (withTaken k n) ≡ n
+taken-told (nr k vs) n = refl
+
+-- what an answer takes is what it tells
+told-taken : (r : Read) → takenIn (told r) ≡ takenBy r
+told-taken (Read.Packet p n) = refl
+told-taken (Read.Refused e n) = taken-told (toldError e) n
+
+body-taken : (n : ℕ) (f : Fit Placed) → takenIn (bodyAnswer n f) ≡ n
+unfolding bodyAnswer
+body-taken n (got v) = refl
+body-taken n (bad (nr k vs)) = refl
+
+pub taken-within : (limit : Option ℕ) (s : List ℕ) (r : Read) → told r ≡ readPlacedOf limit s → takenBy r ≤ length s
+unfolding readAs frameAnswer wholeAnswer
+taken-within limit s r e = rw (told-taken r) at (rw (← e) at (go (frameOf limit (length s) s)))
+  where
+    go : (f : Fit ((ℕ × List ℕ) × List ℕ)) → takenIn (frameAnswer asPlaces s f) ≤ length s
+    go (got z) = rw (body-taken (length s - length (z .1)) (bodyFit asPlaces (z .0 .0) (length s - length (z .1)) (z .0 .1))) (omega arith)
+    go (bad (nr k vs)) = omega arith
+
+-- both of what is promised
+pub answer : (limit : Limit) (s : List ℕ) (r : Read) → told r ≡ readPlacedOf (limitOf limit) s → (told r ≡ readPlacedOf (limitOf limit) s) × (takenBy r ≤ length s)
+answer limit s r e = (e, taken-within (limitOf limit) s r e)

@@ -12,7 +12,7 @@ use records::packet::Packet;
 use subscribe::GotSubscribe;
 ghost use mathlib.Core.Path.{_≡_};
 ghost use mathlib.Core.List.{[]};
-ghost use Prim.Native.Nat.{ℕ, _<_};
+ghost use Prim.Native.Nat.{ℕ, _≤_, _<_};
 ghost use lib.ListN.{length, drop};
 ghost use Rattle.reading.specs.Read.{bodyFit};
 ghost use Rattle.reading.specs.Place.{asPlaces, readPlacedOf};
@@ -21,7 +21,7 @@ ghost use Rattle.records.specs.Answered.{told};
 ghost use Rattle.puback.specs.Told.{toldGotPubAck};
 ghost use Rattle.publish.specs.Told.{toldGotPublish};
 ghost use Rattle.subscribe.specs.Told.{toldGotSubscribe};
-ghost use Rattle.packet.specs.Told.{toldBody};
+ghost use Rattle.packet.specs.Told.{toldBody, takenBy};
 
 // What a whole frame says, or why it is refused.
 enum GotBody {
@@ -101,7 +101,8 @@ fn read_body(s: &[u8], h: FixedHeader) -> GotBody
 // The packet at the start of the stream and the bytes it takes, or the refusal with the bytes that it takes: none while there is no
 // whole frame within the limit, else the frame.
 pub fn read(stream: &[u8], limit: Limit) -> Read
-    ensures { λ r. ⌜ told r ≡ readPlacedOf (limitOf limit) (now (stream .entry)) ⌝ }
+    ensures answer { λ r. ⌜ told r ≡ readPlacedOf (limitOf limit) (now (stream .entry)) ⌝ }
+    ensures within { λ r. ⌜ takenBy r ≤ length (now (stream .entry)) ⌝ }
 {
     match check::check(stream, limit) {
         Checked::Refused(e) => Read::Refused(e, 0),

@@ -1,9 +1,11 @@
 -- `packet::read` is right since what `check` refuses takes nothing, and a whole frame is taken, whatever its body says. Assumes nothing.
 use borrow.Author.Needs.{needs}
-use Rattle.packet.proofs.Laws.{frame-end, frame-count, answer-none, answer-got, answer-bad}
+use Rattle.packet.proofs.Laws.{frame-end, frame-count, answer-none, answer-got, answer-bad, answer}
 use Rattle.packet.specs.Told.{toldBody}
 use Rattle.framing.specs.Told.{toldChecked}
-use Rattle.records.specs.Told.{limitOf}
+use Rattle.records.specs.Told.{toldError, limitOf}
+use Rattle.records.specs.Said.{toldPacket}
+use Rattle.records.specs.declared.answer.Read.{Read}
 use denote.Ref.{now}
 use native.Mathlib.Omega.{arith}
 use mathlib.Core.Path.{sym, ap, _∙_}
@@ -41,23 +43,31 @@ enum-known-e-2 c = search needs
 returns : tie.Need-returns
 returns c =
     let a = c .before .before .before .before .before .args in
-    answer-none (limitOf (a .limit)) (now (a .stream)) _ (sym (ap (toldChecked (now (a .stream))) (c .before .e .given .1)) ∙ c .before .before .before .check .ensures)
+    let k = c .before .e .given .0 .0 in
+    answer (a .limit) (now (a .stream)) (Read.Refused k 0)
+    (answer-none (limitOf (a .limit)) (now (a .stream)) (toldError k) (sym (ap (toldChecked (now (a .stream))) (c .before .e .given .1)) ∙ c .before .before .before .check .ensures))
 
 returns-2 : tie.Need-returns-2
 returns-2 c =
     let h = c .before .before .before .before .before .before .before in
     let a = c .before .before .before .before .before .before .before .before .before .before .before .args in
     let e = sym (ap (toldChecked (now (a .stream))) (h .h .given .1)) ∙ c .before .before .before .before .before .before .before .before .before .check .ensures in
-    answer-got (limitOf (a .limit)) (now (a .stream)) _ _ _ e _ (frame-end (limitOf (a .limit)) (now (a .stream)) _ _ _ e _ (c .before .before .before .before .before .frame-length .ensures) (omega arith)) _
-    (sym (ap toldBody (c .before .p .given .1)) ∙ c .before .before .before .read-body .ensures)
+    let n = c .before .before .before .before .before .frame-length in
+    let v = c .before .p .given .0 .0 in
+    answer (a .limit) (now (a .stream)) (Read.Packet v (n .result))
+    (answer-got (limitOf (a .limit)) (now (a .stream)) _ _ _ e _ (frame-end (limitOf (a .limit)) (now (a .stream)) _ _ _ e _ (n .ensures) (omega arith)) (toldPacket v)
+    (sym (ap toldBody (c .before .p .given .1)) ∙ c .before .before .before .read-body .ensures))
 
 returns-3 : tie.Need-returns-3
 returns-3 c =
     let h = c .before .before .before .before .before .before .before in
     let a = c .before .before .before .before .before .before .before .before .before .before .before .args in
     let e = sym (ap (toldChecked (now (a .stream))) (h .h .given .1)) ∙ c .before .before .before .before .before .before .before .before .before .check .ensures in
-    answer-bad (limitOf (a .limit)) (now (a .stream)) _ _ _ e _ (frame-end (limitOf (a .limit)) (now (a .stream)) _ _ _ e _ (c .before .before .before .before .before .frame-length .ensures) (omega arith)) _
-    (sym (ap toldBody (c .before .e2 .given .1)) ∙ c .before .before .before .read-body .ensures)
+    let n = c .before .before .before .before .before .frame-length in
+    let v = c .before .e2 .given .0 .0 in
+    answer (a .limit) (now (a .stream)) (Read.Refused v (n .result))
+    (answer-bad (limitOf (a .limit)) (now (a .stream)) _ _ _ e _ (frame-end (limitOf (a .limit)) (now (a .stream)) _ _ _ e _ (n .ensures) (omega arith)) (toldError v)
+    (sym (ap toldBody (c .before .e2 .given .1)) ∙ c .before .before .before .read-body .ensures))
 
 pub read-spec : {M : Type 1} → statement M
 read-spec =
