@@ -7,7 +7,7 @@ use lib.ListN.{length}
 use borrow.Author.Needs.{needs}
 use Rattle.records.specs.Told.{toldSpan}
 use Rattle.records.specs.Said.{toldPublishProperties}
-use Rattle.properties.specs.Told.{toldProperty}
+use Rattle.property_value.specs.Told.{toldProperty}
 use Rattle.properties.specs.Block.{publishRow, loopFrom}
 use Rattle.properties.proofs.Laws.Fold.{Filling, filling-start, filling-next, filling-ahead, filled-bad, filled-end}
 use Rattle.properties.proofs.publish.fill.Statement.{statement}
