@@ -17,9 +17,10 @@ use Rattle.reading.specs.Read.{readOf}
 use Rattle.reading.specs.Place.{asPlaces, Placed, onGot, say, sayAnswer, Items}
 use Rattle.reading.specs.Rows.{insufficient, malformed, exceeded, invalid, required, notCarried, Given, Breaks, Above, lacks}
 use Rattle.reading.proofs.Reading.{bad-got, got-inj}
-use Rattle.reading.proofs.Demand.{Begins, no-accept}
+use Rattle.reading.specs.Demand.{Begins, Taken}
+use Rattle.reading.proofs.Demand.{no-accept}
 use Rattle.reading.proofs.Places.{placed-says, placed-refused}
-use Rattle.reading.proofs.Rows.{row-1, row-2, row-3, row-4, row-5, row-6, row-2-inside, field-rows, Taken}
+use Rattle.reading.proofs.Rows.{row-1, row-2, row-3, row-4, row-5, row-6, row-2-inside, field-rows}
 use Rattle.reading.proofs.Theorems as reading
 use Rattle.records.specs.Told.{toldError, rowOf, valuesOf, limitOf}
 use Rattle.records.specs.Said.{toldPacket}
@@ -111,7 +112,7 @@ module _ (limit : Limit) (s : List ℕ) (r : Read) (m : Meets limit s r) where
       rw (numbered k) at (both (refused-as e t) (field-rows (limitOf limit) s (valuesOf k) (rowOf k) t h))
 
   -- no other refusal is given; 0 bytes are taken, or the frame
-  pub takes : (e : Error) (t : ℕ) → r ≡ Read.Refused e t → Taken (limitOf limit) s (valuesOf (toldError e)) (rowOf (toldError e)) t
+  pub takes : (e : Error) (t : ℕ) → r ≡ Read.Refused e t → Taken (limitOf limit) s (rowOf (toldError e)) t
   takes e t i = reading.takes (limitOf limit) s (valuesOf (toldError e)) (rowOf (toldError e)) t (refused-as e t .0 i)
 
   -- ---- an accepted record, its places looked up
