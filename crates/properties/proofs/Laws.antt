@@ -1,2 +1,4 @@
 pub mod Value
+pub mod Fold
+pub mod Block
 pub mod Nth

@@ -1,2 +1,3 @@
 pub mod Told
+pub mod Block
 pub mod Nth
