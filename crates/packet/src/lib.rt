@@ -61,7 +61,7 @@ fn read_empty(h: FixedHeader) -> GotBody
     ensures { λ r. ⌜ ((end : ℕ) → toldBody r ≡ bodyFit asPlaces (h .byte1) end []) ⌝ }
 {
     match h.packet_type() {
-        Kind::Reserved(k) => GotBody::Refused(Error::InvalidPacketType(k)),
+        Kind::Reserved(num) => GotBody::Refused(Error::InvalidPacketType(num)),
         Kind::PingReq => GotBody::Value(Packet::PingReq),
         Kind::PingResp => GotBody::Value(Packet::PingResp),
         Kind::Publish => GotBody::Refused(Error::PayloadRequired),

@@ -16,16 +16,23 @@ ghost use mathlib.Core.Path.{_≡_};
 ghost use Prim.Native.Nat.{_%_, _≤_};
 ghost use lib.ListN.{length, drop};
 ghost use Rattle.grammar.specs.Tables.{aPublish};
-ghost use Rattle.reading.specs.Read.{identOf, fieldsFit};
+ghost use Rattle.reading.specs.Read.{identOf, bytesOf, fieldsFit};
 ghost use Rattle.reading.specs.Place.{asPlaces, heldOf};
 ghost use Rattle.positions.specs.Position.{fromAt};
 ghost use Rattle.records.specs.Told.{toldBool, toldQoS, toldSpan};
-ghost use Rattle.wire.specs.Told.{toldU16, heldIf};
+ghost use Rattle.wire.specs.Told.{toldU16, toldPart, heldIf};
 ghost use Rattle.publish.specs.Told.{toldGotPublish, inBlock};
 
 pub enum GotPublish {
     Value(Publish),
     Refused(Error),
+}
+
+// The topic: as bytes, not tested as text.
+fn read_topic(s: &[u8], at: usize) -> GotSpan
+    ensures { λ r. ⌜ toldPart r ≡ fromAt (bytesOf asPlaces (length (now (s .entry)))) (now (s .entry)) at ⌝ }
+{
+    string::read_mqtt_bytes(s, at)
 }
 
 // An identifier that must not be 0: 7, then 12.
@@ -70,7 +77,7 @@ pub fn read(s: &[u8], at: usize, byte1: u8) -> GotPublish
         GotQos::Refused(e) => return GotPublish::Refused(e),
         GotQos::Value(q) => q,
     };
-    match string::read_mqtt_bytes(s, at) {
+    match read_topic(s, at) {
         GotSpan::Refused(e) => GotPublish::Refused(e),
         GotSpan::Value(topic, a) => match read_pkid(s, a, qos) {
             GotU16::Refused(e) => GotPublish::Refused(e),

@@ -11,8 +11,8 @@ use Rattle.packet.proofs.read_empty.Tie as tie
 packet-type-requires : tie.Need-packet-type-requires
 packet-type-requires c κs = search needs
 
-enum-known-k : tie.Need-enum-known-k
-enum-known-k c = search needs
+enum-known-num : tie.Need-enum-known-num
+enum-known-num c = search needs
 
 enum-told : tie.Need-enum-told
 enum-told c = search needs
@@ -33,7 +33,7 @@ enum-told-6 : tie.Need-enum-told-6
 enum-told-6 c = search needs
 
 returns : tie.Need-returns
-returns c = λ end. body-reserved (c .before .before .before .before .args .h .byte1) end [] _ none (sym (ap toldKind (c .before .k .given .1)) ∙ c .before .before .before .packet-type .ensures)
+returns c = λ end. body-reserved (c .before .before .before .before .args .h .byte1) end [] _ none (sym (ap toldKind (c .before .num .given .1)) ∙ c .before .before .before .packet-type .ensures)
 
 returns-2 : tie.Need-returns-2
 returns-2 c = λ end. body-ping (c .before .before .before .args .h .byte1) end [] _ (sym (ap toldKind (c .enum-told .given .1)) ∙ c .before .before .packet-type .ensures)
@@ -58,7 +58,7 @@ read-empty-spec =
     tie.close
     (tie.spec
     packet-type-requires
-    enum-known-k
+    enum-known-num
     enum-told
     enum-told-2
     enum-told-3

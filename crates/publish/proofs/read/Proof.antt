@@ -26,8 +26,8 @@ returns c =
 enum-known-q : tie.Need-enum-known-q
 enum-known-q c = search needs
 
-read-mqtt-bytes-requires : tie.Need-read-mqtt-bytes-requires
-read-mqtt-bytes-requires c κs = search needs
+read-topic-requires : tie.Need-read-topic-requires
+read-topic-requires c κs = search needs
 
 enum-known-e-2 : tie.Need-enum-known-e-2
 enum-known-e-2 c = search needs
@@ -38,7 +38,7 @@ enum-known-topic c = search needs
 read-pkid-requires : tie.Need-read-pkid-requires
 read-pkid-requires c κs =
     let a = c .before .before .before .before .before .before .before .before .before .args in
-    topic-within (now (a .s)) (a .at) _ _ (sym (ap toldPart (c .before .topic .given .1)) ∙ c .before .before .before .read-mqtt-bytes .ensures)
+    topic-within (now (a .s)) (a .at) _ _ (sym (ap toldPart (c .before .topic .given .1)) ∙ c .before .before .before .read-topic .ensures)
 
 enum-known-e-3 : tie.Need-enum-known-e-3
 enum-known-e-3 c = search needs
@@ -76,7 +76,7 @@ returns-2 c =
     let qs = q .before .before in
     let a = qs .before .before .args in
     let (f, j) = qos-fine (a .byte1) _ (sym (ap toldGotQos (q .q .given .1)) ∙ qs .qos .ensures) in
-    topic-bad (now (a .s)) (a .at) (a .byte1) f _ (sym (ap toldPart (c .before .e2 .given .1)) ∙ topics .read-mqtt-bytes .ensures)
+    topic-bad (now (a .s)) (a .at) (a .byte1) f _ (sym (ap toldPart (c .before .e2 .given .1)) ∙ topics .read-topic .ensures)
 
 returns-3 : tie.Need-returns-3
 returns-3 c =
@@ -87,7 +87,7 @@ returns-3 c =
     let qs = q .before .before in
     let a = qs .before .before .args in
     let (f, j) = qos-fine (a .byte1) _ (sym (ap toldGotQos (q .q .given .1)) ∙ qs .qos .ensures) in
-    pkid-bad (now (a .s)) (a .at) (a .byte1) f _ _ (sym (ap toldPart (topic .topic .given .1)) ∙ topics .read-mqtt-bytes .ensures) _ (sym (ap toldU16 (c .before .e3 .given .1)) ∙ pkids .read-pkid .ensures ∙ ap (λ (n : ℕ). fromAt (identOf n) (now (a .s)) (topic .topic .given .0 .1 .0)) j)
+    pkid-bad (now (a .s)) (a .at) (a .byte1) f _ _ (sym (ap toldPart (topic .topic .given .1)) ∙ topics .read-topic .ensures) _ (sym (ap toldU16 (c .before .e3 .given .1)) ∙ pkids .read-pkid .ensures ∙ ap (λ (n : ℕ). fromAt (identOf n) (now (a .s)) (topic .topic .given .0 .1 .0)) j)
 
 returns-4 : tie.Need-returns-4
 returns-4 c =
@@ -100,7 +100,7 @@ returns-4 c =
     let qs = q .before .before in
     let a = qs .before .before .args in
     let (f, j) = qos-fine (a .byte1) _ (sym (ap toldGotQos (q .q .given .1)) ∙ qs .qos .ensures) in
-    block-bad (now (a .s)) (a .at) (a .byte1) f _ _ (sym (ap toldPart (topic .topic .given .1)) ∙ topics .read-mqtt-bytes .ensures) _ _ (sym (ap toldU16 (pkid .pkid .given .1)) ∙ pkids .read-pkid .ensures ∙ ap (λ (n : ℕ). fromAt (identOf n) (now (a .s)) (topic .topic .given .0 .1 .0)) j) _ (sym (ap toldPublishBlockAt (c .before .e4 .given .1)) ∙ blocks .read-publish-block .ensures)
+    block-bad (now (a .s)) (a .at) (a .byte1) f _ _ (sym (ap toldPart (topic .topic .given .1)) ∙ topics .read-topic .ensures) _ _ (sym (ap toldU16 (pkid .pkid .given .1)) ∙ pkids .read-pkid .ensures ∙ ap (λ (n : ℕ). fromAt (identOf n) (now (a .s)) (topic .topic .given .0 .1 .0)) j) _ (sym (ap toldPublishBlockAt (c .before .e4 .given .1)) ∙ blocks .read-publish-block .ensures)
 
 returns-5 : tie.Need-returns-5
 returns-5 c =
@@ -115,7 +115,7 @@ returns-5 c =
     let a = qs .before .before .args in
     let (f, j) = qos-fine (a .byte1) _ (sym (ap toldGotQos (q .q .given .1)) ∙ qs .qos .ensures) in
     rw (c .before .flag .ensures, c .flag2 .ensures, j)
-    (fields-got (now (a .s)) (a .at) (a .byte1) f _ _ (sym (ap toldPart (topic .topic .given .1)) ∙ topics .read-mqtt-bytes .ensures) _ _ (sym (ap toldU16 (pkid .pkid .given .1)) ∙ pkids .read-pkid .ensures ∙ ap (λ (n : ℕ). fromAt (identOf n) (now (a .s)) (topic .topic .given .0 .1 .0)) j) _ _ (sym (ap toldPublishBlockAt (block .properties .given .1)) ∙ blocks .read-publish-block .ensures))
+    (fields-got (now (a .s)) (a .at) (a .byte1) f _ _ (sym (ap toldPart (topic .topic .given .1)) ∙ topics .read-topic .ensures) _ _ (sym (ap toldU16 (pkid .pkid .given .1)) ∙ pkids .read-pkid .ensures ∙ ap (λ (n : ℕ). fromAt (identOf n) (now (a .s)) (topic .topic .given .0 .1 .0)) j) _ _ (sym (ap toldPublishBlockAt (block .properties .given .1)) ∙ blocks .read-publish-block .ensures))
 
 pub read-spec : {M : Type 1} → statement M
 read-spec =
@@ -125,7 +125,7 @@ read-spec =
     enum-known-e
     returns
     enum-known-q
-    read-mqtt-bytes-requires
+    read-topic-requires
     enum-known-e-2
     enum-known-topic
     read-pkid-requires
