@@ -1,9 +1,8 @@
 // The properties of a Publish, after `PublishProperties::read` of publish.rs. Of a property given twice the last counts; the lists are
 // left in the block, whose place the record keeps.
 use crate::block;
-use crate::value;
-use crate::value::GotProperty;
-use crate::value::Value;
+use property_value::GotProperty;
+use property_value::Value;
 use records::error::Error;
 use records::publish::MaybePublishProperties;
 use records::publish::PublishProperties;
@@ -26,7 +25,7 @@ ghost use Rattle.reading.specs.Place.{asPlaces};
 ghost use Rattle.positions.specs.Position.{fromAt};
 ghost use Rattle.records.specs.Told.{toldSpan, toldU8, toldU16, toldU32, toldString};
 ghost use Rattle.records.specs.Said.{toldPublishProperties};
-ghost use Rattle.properties.specs.Told.{toldValue, formOf};
+ghost use Rattle.property_value.specs.Told.{toldValue, formOf};
 ghost use Rattle.properties.specs.Block.{given, toldSingles, publishRow, applied, filledAt, toldPublishBlockAt};
 
 // The properties, if there are any, and the index after the block; or the refusal.
@@ -185,7 +184,7 @@ fn fill(s: &[u8], block: Span) -> GotPublishBlock
     let mut p = none(block);
     let mut at = block.start;
     while at < s.len() {
-        match value::read_property(PropertyPlace::Publish, s, at) {
+        match property_value::read_property(PropertyPlace::Publish, s, at) {
             GotProperty::Found(k, v, next) => {
                 p = apply(p, k, v);
                 at = next;

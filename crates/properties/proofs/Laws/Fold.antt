@@ -23,9 +23,9 @@ use Rattle.positions.proofs.Walk.{fold-nil, fold-bad, fold-next}
 use Rattle.positions.proofs.Less.{property-less}
 use Rattle.positions.proofs.Trails.{trails-property}
 use Rattle.positions.proofs.Position.{got-left, bad-left}
-use Rattle.properties.specs.Told.{formOf}
+use Rattle.property_value.specs.Told.{formOf}
 use Rattle.properties.specs.Block.{Row, publishRow, subscribeRow, ackRow, applied, loopFrom, filledAt}
-use Rattle.properties.specs.declared.value.Value.{Value}
+use Rattle.property_value.specs.declared.Value.{Value}
 
 -- ---- a rule of every entry of a place's row holds of what is looked up there
 

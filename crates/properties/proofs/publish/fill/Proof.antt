@@ -8,7 +8,7 @@ use lib.ListN.{length}
 use borrow.Author.Needs.{needs}
 use Rattle.reading.specs.Reader.{got}
 use Rattle.records.specs.Told.{toldSpan}
-use Rattle.properties.specs.Told.{toldProperty}
+use Rattle.property_value.specs.Told.{toldProperty}
 use Rattle.properties.specs.Block.{toldSingles, publishRow, loopFrom}
 use Rattle.properties.proofs.Laws.Fold.{Filling, filling-start, filling-next, filling-ahead, filled-bad, filled-end}
 use Rattle.properties.proofs.publish.fill.Statement.{statement}
