@@ -1,11 +1,27 @@
-//! Rounds of short runs: each contender runs once in every round, and its time is the median over the rounds.
-use std::time::{Duration, Instant};
+//! Rounds of short runs: each contender runs once in every round, and its time is the median over the rounds. Times are the thread's own, so
+//! that what else the machine does counts less.
 
 /// What is timed: a name, and one pass over the data that gives a number on which all must agree.
 pub type Contender<'a> = (&'static str, Box<dyn FnMut() -> u64 + 'a>);
 
-/// How long one sample takes at least: short, so that most samples are not interrupted.
-const SAMPLE: Duration = Duration::from_micros(50);
+/// How many ns one sample takes at least.
+const SAMPLE: u64 = 50_000;
+
+/// The processor time of this thread, in ns.
+pub fn now() -> u64 {
+    #[repr(C)]
+    struct Timespec {
+        seconds: i64,
+        nanoseconds: i64,
+    }
+    extern "C" {
+        fn clock_gettime(clock: i32, time: *mut Timespec) -> i32;
+    }
+    const CLOCK_THREAD_CPUTIME_ID: i32 = 3;
+    let mut time = Timespec { seconds: 0, nanoseconds: 0 };
+    assert_eq!(unsafe { clock_gettime(CLOCK_THREAD_CPUTIME_ID, &mut time) }, 0);
+    (time.seconds * 1_000_000_000 + time.nanoseconds) as u64
+}
 
 /// ORACLE_ROUNDS, or 301.
 pub fn rounds() -> usize {
@@ -17,21 +33,20 @@ pub fn medians(rounds: usize, contenders: &mut [Contender]) -> Vec<f64> {
     let agreed = (contenders[0].1)();
     let mut passes = vec![];
     for (name, run) in contenders.iter_mut() {
-        let start = Instant::now();
-        assert_eq!(run(), agreed, "{name} gives another answer than {}", "the first");
-        let once = start.elapsed().max(Duration::from_nanos(20));
-        passes.push((SAMPLE.as_nanos() / once.as_nanos()).max(1) as u32);
+        let start = now();
+        assert_eq!(run(), agreed, "{name} gives another answer than the first");
+        passes.push((SAMPLE / (now() - start).max(1)).max(1));
     }
     let mut times = vec![vec![]; contenders.len()];
     for round in 0..rounds {
         for i in 0..contenders.len() {
             let at = (i + round) % contenders.len();
             let run = &mut contenders[at].1;
-            let start = Instant::now();
+            let start = now();
             for _ in 0..passes[at] {
                 std::hint::black_box(run());
             }
-            times[at].push(start.elapsed().as_nanos() as f64 / passes[at] as f64);
+            times[at].push((now() - start) as f64 / passes[at] as f64);
         }
     }
     times.into_iter().map(median).collect()

@@ -3,10 +3,9 @@
 //! (plain). Then the worst cases at n and 2n. Built without the feature `read_bench`, the port is left out.
 use bytes::BytesMut;
 use oracle::codec::Packet;
-use oracle::timing::{load, median, rounds};
+use oracle::timing::{load, median, now, rounds};
 use oracle::{limit, streams, QoS};
 use std::hint::black_box;
-use std::time::Instant;
 
 #[cfg(feature = "read_bench")]
 mod port {
@@ -75,9 +74,9 @@ fn medians(stream: &[u8], readers: &[Reader], rounds: usize, apart: bool) -> Vec
     for _ in 0..rounds {
         for (i, (name, read)) in readers.iter().enumerate() {
             let mut copy = if *name == "crate" { BytesMut::from(stream) } else { BytesMut::new() };
-            let start = Instant::now();
+            let start = now();
             let sum = read(black_box(stream), black_box(&mut copy));
-            times[i].push(start.elapsed().as_nanos() as f64);
+            times[i].push((now() - start) as f64);
             assert!(apart || sum == agreed, "{name} gives {sum}, hand {agreed}");
         }
     }
