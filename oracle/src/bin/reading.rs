@@ -11,11 +11,11 @@ use std::hint::black_box;
 mod port {
     #[link(name = "read_bench", kind = "static")]
     extern "C" {
-        fn read_bench(stream: *const u8, len: usize) -> u64;
+        fn read_bench_sum(stream: *const u8, len: usize) -> u64;
     }
     /// Of the frames up to the first refusal: the bytes taken, and the lengths of topic and payload of each Publish.
     pub fn read(stream: &[u8]) -> u64 {
-        unsafe { read_bench(stream.as_ptr(), stream.len()) }
+        unsafe { read_bench_sum(stream.as_ptr(), stream.len()) }
     }
 }
 
