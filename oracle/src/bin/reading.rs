@@ -97,10 +97,18 @@ fn stream(what: &str, count: usize, stream: &[u8]) {
 fn worst(what: &str, n: usize, make: fn(usize) -> Vec<u8>, apart: bool) {
     let readers = readers();
     let (one, two) = (make(n), make(2 * n));
-    let (a, b) = (medians(&one, &readers, rounds().min(101), apart), medians(&two, &readers, rounds().min(101), apart));
+    let (a, b) = (
+        medians(&one, &readers, rounds().min(101), apart),
+        medians(&two, &readers, rounds().min(101), apart),
+    );
     println!("{what}: {n} and {} items, frames of {} and {} bytes", 2 * n, one.len(), two.len());
     for (i, (name, _)) in readers.iter().enumerate() {
-        println!("  {name:6} {:8.2} and {:8.2} ns an item, 2n/n {:5.2}", a[i] / n as f64, b[i] / (2 * n) as f64, b[i] / a[i]);
+        println!(
+            "  {name:6} {:8.2} and {:8.2} ns an item, 2n/n {:5.2}",
+            a[i] / n as f64,
+            b[i] / (2 * n) as f64,
+            b[i] / a[i]
+        );
     }
 }
 
