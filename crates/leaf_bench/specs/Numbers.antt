@@ -1,0 +1,34 @@
+-- What the functions on numbers hand back of what is read. Assumes nothing.
+use mathlib.Core.List.{List}
+use Prim.Native.Nat.{ℕ, _+_, _%_, _^_}
+use Rattle.grammar.specs.Gram.{forget}
+use Rattle.reading.specs.Refusal.{cut}
+use Rattle.reading.specs.Reader.{Fit, got, bad, foldFit}
+use Rattle.reading.specs.Read.{numOf}
+
+-- the index after the number, or 0
+abbrev pub nextOf : Fit (ℕ × ℕ) → ℕ
+nextOf (got (n, next)) = next
+nextOf (bad k) = 0
+
+-- the number, or what stood there before
+abbrev pub valueOf : ℕ → Fit (ℕ × ℕ) → ℕ
+valueOf old (got (n, next)) = n
+valueOf old (bad k) = old
+
+-- a sum, or 0
+abbrev pub orZero : Fit ℕ → ℕ
+orZero (got n) = n
+orZero (bad k) = 0
+
+-- one number more, in 64 bits
+abbrev pub wrapped : ℕ → ℕ → ℕ
+wrapped sum n = (sum + n) % 2 ^ 64
+
+-- the sum of the numbers that fill s, beside what came before
+abbrev pub sumFrom : ℕ → List ℕ → Fit ℕ
+sumFrom sum s = foldFit forget (λ _. numOf cut 4) wrapped sum tt s
+
+-- 01, grammar: variable length numbers, one behind the other to the end
+unfoldable pub sumOf : List ℕ → ℕ
+sumOf s = orZero (sumFrom 0 s)
