@@ -66,9 +66,23 @@ fn pass_chars(s: &[u8], at: usize, end: usize) -> usize {
     i
 }
 
+fn is_ascii(s: &[u8]) -> bool {
+    s.iter().fold(0, |all, b| all | b) < 128
+}
+
 fn pass_chunk(s: &[u8], at: usize) -> usize {
-    let end = if 64 < s.len() - at { at + 64 } else { s.len() };
-    if s[at..end].iter().fold(0, |all, b| all | b) < 128 {
+    let left = s.len() - at;
+    if 64 <= left && is_ascii(&s[at..at + 64]) {
+        return at + 64;
+    }
+    if 16 <= left {
+        if is_ascii(&s[at..at + 16]) {
+            return at + 16;
+        }
+        return pass_chars(s, at, at + 16);
+    }
+    let end = s.len();
+    if is_ascii(&s[at..end]) {
         return end;
     }
     pass_chars(s, at, end)

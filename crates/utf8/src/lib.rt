@@ -106,15 +106,25 @@ fn is_ascii(s: &[u8], at: usize, end: usize) -> bool
     all < 128
 }
 
-// The index after the next chunk, and after the character that crosses its end; `at` if it is no text.
+// The index after the next chunk, and after the character that crosses its end; `at` if it is no text. A chunk has 64 bytes if they are
+// ASCII, else 16, else what is left: where the count is a constant, the compiler makes one straight line of it.
 fn pass_chunk(s: &[u8], at: usize) -> usize
     requires { ⌜ at < length (now s) ⌝ }
     ensures { λ r. ⌜ Passed (now (s .entry)) at r ⌝ }
 {
-    let mut end = s.len();
-    if 64 < end - at {
-        end = at + 64;
+    let left = s.len() - at;
+    if 64 <= left {
+        if is_ascii(s, at, at + 64) {
+            return at + 64;
+        }
     }
+    if 16 <= left {
+        if is_ascii(s, at, at + 16) {
+            return at + 16;
+        }
+        return pass_chars(s, at, at + 16);
+    }
+    let end = s.len();
     if is_ascii(s, at, end) {
         return end;
     }
