@@ -1,5 +1,5 @@
-//! 'Limit' reference: a zero-copy, allocation-free, safe-Rust reader of document 01 (the port's rules, D1-D3 applied),
-//! written from 01. Returns parts of the caller's stream. `FAST` picks the text validator (std with an ASCII run test, or a byte at a time).
+//! A reader of 01's rules (D1 to D3 as in the port) in safe Rust, written by hand from 01: it gives parts of the caller's stream, copies
+//! nothing and allocates nothing. It is the mark for speed. `FAST` picks the text validator: std's behind a test for ASCII, or byte by byte.
 #[derive(Clone, Copy, Debug, PartialEq, Eq)]
 pub struct No {
     pub no: u8,
@@ -297,12 +297,7 @@ fn subscribe<'a, const FAST: bool>(mut s: &'a [u8]) -> Result<Sub<'a>, No> {
             return Err(no1(11, 3));
         }
     }
-    Ok(Sub {
-        id,
-        block,
-        sid,
-        filters,
-    })
+    Ok(Sub { id, block, sid, filters })
 }
 fn puback<'a, const FAST: bool>(mut s: &'a [u8]) -> Result<Ack<'a>, No> {
     let id = u16_(&mut s)?;
@@ -344,12 +339,7 @@ fn puback<'a, const FAST: bool>(mut s: &'a [u8]) -> Result<Ack<'a>, No> {
     if !s.is_empty() {
         return Err(no(7));
     }
-    Ok(Ack {
-        id,
-        reason,
-        block,
-        rstr,
-    })
+    Ok(Ack { id, reason, block, rstr })
 }
 /// (answer, taken)
 #[inline(always)]

@@ -45,7 +45,11 @@ pub fn text(len: usize, every: u64) -> Vec<u8> {
     let mut dice = Dice::new(5);
     let mut out = String::new();
     while out.len() < len {
-        let c = if every > 0 && dice.below(every) == 0 { other[dice.below(other.len() as u64) as usize] } else { (b' ' + dice.below(95) as u8) as char };
+        let c = if every > 0 && dice.below(every) == 0 {
+            other[dice.below(other.len() as u64) as usize]
+        } else {
+            (b' ' + dice.below(95) as u8) as char
+        };
         out.push(if out.len() + c.len_utf8() <= len { c } else { '.' });
     }
     out.into_bytes()

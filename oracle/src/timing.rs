@@ -59,7 +59,7 @@ pub fn median(mut v: Vec<f64>) -> f64 {
 
 /// One line: what each contender comes to, and how often the others' time goes into the first's.
 pub fn report(what: &str, contenders: &[Contender], ns: &[f64], shown: impl Fn(f64) -> f64) {
-    let mut line = format!("{what:38}");
+    let mut line = format!("{what:46}");
     for ((name, _), t) in contenders.iter().zip(ns) {
         line += &format!(" {name} {:8.2}", shown(*t));
     }

@@ -57,10 +57,7 @@ fn d3() {
 fn writers() {
     let mut b = BytesMut::new();
     let mut p = Publish::new("a", oracle::QoS::AtLeastOnce, vec![1u8], None);
-    assert!(matches!(
-        Packet::Publish(p.clone()).write(&mut b, None),
-        Err(Error::PacketIdZero)
-    ));
+    assert!(matches!(Packet::Publish(p.clone()).write(&mut b, None), Err(Error::PacketIdZero)));
     assert_eq!(&b[..], &[0x32, 5, 0, 1, 0x61]); // D4; R leaves the identifier out
     p.pkid = 1;
     p.properties = Some(PublishProperties {
@@ -68,18 +65,10 @@ fn writers() {
         ..Default::default()
     });
     b.clear();
-    assert!(matches!(
-        Packet::Publish(p.clone()).write(&mut b, None),
-        Err(Error::PayloadTooLong)
-    ));
+    assert!(matches!(Packet::Publish(p.clone()).write(&mut b, None), Err(Error::PayloadTooLong)));
     assert!(!b.is_empty());
     assert_eq!(p.size(), 2 + 3 + 2 + 1 + 5 + 1);
-    let p = Publish::new(
-        "x".repeat(65_537),
-        oracle::QoS::AtMostOnce,
-        vec![],
-        None,
-    );
+    let p = Publish::new("x".repeat(65_537), oracle::QoS::AtMostOnce, vec![], None);
     b.clear();
     assert_eq!(p.write(&mut b).unwrap(), p.size());
     assert_eq!(&b[4..6], &[0, 1]); // D5
@@ -105,10 +94,7 @@ fn writers() {
             max: 5
         })
     )); // D7
-    assert!(matches!(
-        Packet::Publish(big).write(&mut b, None),
-        Err(Error::PayloadTooLong)
-    ));
+    assert!(matches!(Packet::Publish(big).write(&mut b, None), Err(Error::PayloadTooLong)));
     assert_eq!(&b[..], &[0x30]);
     let ok = Publish {
         payload: bytes::Bytes::from(vec![0u8; 268_435_452]),

@@ -11,11 +11,11 @@ use std::hint::black_box;
 mod port {
     #[link(name = "read_bench", kind = "static")]
     extern "C" {
-        fn read_bench(stream: *const u8, len: usize) -> u64;
+        fn read_bench_sum(stream: *const u8, len: usize) -> u64;
     }
     /// Of the frames up to the first refusal: the bytes taken, and the lengths of topic and payload of each Publish.
     pub fn read(stream: &[u8]) -> u64 {
-        unsafe { read_bench(stream.as_ptr(), stream.len()) }
+        unsafe { read_bench_sum(stream.as_ptr(), stream.len()) }
     }
 }
 
@@ -97,10 +97,18 @@ fn stream(what: &str, count: usize, stream: &[u8]) {
 fn worst(what: &str, n: usize, make: fn(usize) -> Vec<u8>, apart: bool) {
     let readers = readers();
     let (one, two) = (make(n), make(2 * n));
-    let (a, b) = (medians(&one, &readers, rounds().min(101), apart), medians(&two, &readers, rounds().min(101), apart));
+    let (a, b) = (
+        medians(&one, &readers, rounds().min(101), apart),
+        medians(&two, &readers, rounds().min(101), apart),
+    );
     println!("{what}: {n} and {} items, frames of {} and {} bytes", 2 * n, one.len(), two.len());
     for (i, (name, _)) in readers.iter().enumerate() {
-        println!("  {name:6} {:8.2} and {:8.2} ns an item, 2n/n {:5.2}", a[i] / n as f64, b[i] / (2 * n) as f64, b[i] / a[i]);
+        println!(
+            "  {name:6} {:8.2} and {:8.2} ns an item, 2n/n {:5.2}",
+            a[i] / n as f64,
+            b[i] / (2 * n) as f64,
+            b[i] / a[i]
+        );
     }
 }
 
