@@ -4,3 +4,4 @@ pub mod Less
 pub mod Trails
 pub mod Position
 pub mod Fill
+pub mod Run

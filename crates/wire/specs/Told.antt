@@ -1,8 +1,11 @@
 -- What each answer of a leaf tells: the value and the index after it, or 01's number and values of the refusal. Assumes nothing.
+use mathlib.Core.List.{List, []}
 use Prim.Native.Nat.{ℕ}
 use Rattle.reading.specs.Reader.{Fit, got, bad}
+use Rattle.reading.specs.Place.{heldOf}
 use Rattle.reading.specs.Place as place
 use Rattle.records.specs.Told.{toldError, toldSpan}
+use Rattle.records.specs.declared.span.MaybeSpan.{MaybeSpan}
 use Rattle.wire.specs.declared.got.GotU8.{GotU8}
 use Rattle.wire.specs.declared.got.GotU8.the-variants as g8
 use Rattle.wire.specs.declared.got.GotU16.{GotU16}
@@ -27,3 +30,8 @@ toldU32 (g32.Refused e) = bad (toldError e)
 abbrev pub toldPart : GotSpan → Fit (place.Span × ℕ)
 toldPart (gs.Value p next) = got (toldSpan p, next)
 toldPart (gs.Refused e) = bad (toldError e)
+
+-- demand 1: what is held at a place that may be absent; the empty part if it is, or if the place lies outside
+abbrev pub heldIf : List ℕ → MaybeSpan → List ℕ
+heldIf s MaybeSpan.Absent = []
+heldIf s (MaybeSpan.Present p) = heldOf s (toldSpan p)

@@ -5,6 +5,7 @@ use crate::got::GotSpan;
 use crate::got::GotU16;
 use crate::text;
 use records::error::Error;
+use records::span::MaybeSpan;
 use records::span::Span;
 ghost use mathlib.Core.Path.{_≡_};
 ghost use Prim.Native.Nat.{_-_, min};
@@ -15,7 +16,7 @@ ghost use Rattle.reading.specs.Place.{asPlaces, heldOf};
 ghost use Rattle.positions.specs.Position.{fromAt};
 ghost use Rattle.writing.specs.Spell.{string};
 ghost use Rattle.records.specs.Told.{toldSpan};
-ghost use Rattle.wire.specs.Told.{toldPart};
+ghost use Rattle.wire.specs.Told.{toldPart, heldIf};
 
 pub fn read_mqtt_bytes(s: &[u8], at: usize) -> GotSpan
     ensures { λ r. ⌜ toldPart r ≡ fromAt (bytesOf asPlaces (length (now (s .entry)))) (now (s .entry)) at ⌝ }
@@ -61,6 +62,16 @@ pub fn part<'a>(s: &'a [u8], p: Span) -> &'a [u8]
     }
     let end = start + len;
     &s[start..end]
+}
+
+// The same of a place that may be absent, which gives the empty part.
+pub fn part_if<'a>(s: &'a [u8], p: MaybeSpan) -> &'a [u8]
+    ensures { λ r. ⌜ now r ≡ heldIf (now (s .entry)) p ⌝ }
+{
+    match p {
+        MaybeSpan::Absent => &s[..0],
+        MaybeSpan::Present(q) => part(s, q),
+    }
 }
 
 // How many of n bytes fit from index `at` on, where there is room for `room` in all.

@@ -1,0 +1,138 @@
+-- What the tables say of a kind decides what becomes of a frame: 4, 5 and 6 in order, then the fields; and the bytes taken. Assumes nothing.
+use mathlib.Core.Path.{_≡_, refl, sym, ap, _∙_}
+use mathlib.Core.Bool.{Bool, true, false, not}
+use mathlib.Core.Option.{Option, none, some}
+use mathlib.Core.List.{List, [], _∷_}
+use Prim.Native.Nat.{ℕ, _+_, _-_, _≤_, _<_, min}
+use native.Mathlib.Omega.{arith}
+use lib.ListN.{length, take, drop, drop-of-length-le}
+use lib.Seq.{drop-cons, length-take-le}
+use Rattle.grammar.specs.Choice.{or, isEmpty}
+use Rattle.grammar.specs.Tables.{Layout, aPing, isPing}
+use Rattle.grammar.specs.Record.{ping, kindOf}
+use Rattle.reading.specs.Refusal.{Refusal, nr, accepted}
+use Rattle.reading.specs.Reader.{Fit, got, bad, _>>=_, _>>_, guard, mapFit, isFit}
+use Rattle.reading.specs.Read.{frameOf, fieldsFit, layoutFit, bodyFit, bodyAnswer, wholeAnswer, frameAnswer, readAs}
+use Rattle.reading.specs.Place.{asPlaces, Placed, readPlacedOf}
+use Rattle.records.specs.Told.{toldError, limitOf}
+use Rattle.records.specs.Answered.{withTaken, told}
+use Rattle.records.specs.declared.answer.Limit.{Limit}
+use Rattle.records.specs.declared.answer.Read.{Read}
+use Rattle.framing.specs.Told.{kindAt, frameAt}
+use Rattle.framing.proofs.Laws.Frame.{checked-within, checked-read, checked-refused}
+use Rattle.packet.specs.Told.{takenIn, takenBy}
+
+-- ---- the body of a frame whose first byte is x
+
+-- what 01's tables say of a kind: its number, whether it is reserved, and its layout
+abbrev Known : Type 0
+Known = ℕ × Bool × Option Layout
+
+or-true : (b : Bool) → or b true ≡ true
+or-true true = refl
+or-true false = refl
+
+module _ (x end : ℕ) (b : List ℕ) where
+  -- the body, of which the tables say z
+  abbrev bodyWith : Known → Fit Placed
+  bodyWith z = do
+    guard (not (z .1)) (nr 4 (z .0 ∷ []))
+    guard (or (isPing (z .2)) (not (isEmpty b))) (nr 5 [])
+    layoutFit asPlaces (z .2) x end b
+
+  body-with : (z : Known) → z ≡ kindAt x → bodyWith z ≡ bodyFit asPlaces x end b
+  unfolding bodyFit
+  body-with z e = ap bodyWith e
+
+  -- 01, row 4
+  pub body-reserved : (k : ℕ) (o : Option Layout) → (k, true, o) ≡ kindAt x → bad (nr 4 (k ∷ [])) ≡ bodyFit asPlaces x end b
+  body-reserved k o e = body-with (k, true, o) e
+
+  -- a ping, whatever its bytes
+  pub body-ping : (k : ℕ) → (k, false, some aPing) ≡ kindAt x → got (ping k) ≡ bodyFit asPlaces x end b
+  unfolding layoutFit fieldsFit mapFit isFit
+  body-ping k e = let h : k ≡ kindOf x = ap (λ (z : Known). z .0) e in rw h (body-with (k, false, some aPing) e)
+
+  module _ (h : isEmpty b ≡ false) where
+    -- 01, row 6
+    pub body-foreign : (k : ℕ) → (k, false, none) ≡ kindAt x → bad (nr 6 (k ∷ [])) ≡ bodyFit asPlaces x end b
+    unfolding layoutFit
+    body-foreign k e =
+        let j : k ≡ kindOf x = ap (λ (z : Known). z .0) e in
+        rw j (rw h at (body-with (k, false, none) e))
+
+    pub body-fields : (k : ℕ) (l : Layout) → (k, false, some l) ≡ kindAt x → fieldsFit asPlaces l x end b ≡ bodyFit asPlaces x end b
+    unfolding layoutFit
+    body-fields k l e = rw (h, or-true (isPing (some l))) at (body-with (k, false, some l) e)
+
+-- 01, row 5
+pub body-required : (x end k : ℕ) (o : Option Layout) → isPing o ≡ false → (k, false, o) ≡ kindAt x → bad (nr 5 []) ≡ bodyFit asPlaces x end []
+body-required x end k o h e = rw h at (body-with x end [] (k, false, o) e)
+
+-- bytes are left at an index
+pub left-some : (s : List ℕ) (at : ℕ) → at < length s → isEmpty (drop at s) ≡ false
+left-some s at h = rw (drop-cons s at 0 h)
+
+-- ---- the answer
+
+-- a refusal with the bytes taken
+with-taken : (k : Refusal) (n : ℕ) → withTaken {A = Placed} k n ≡ bodyAnswer n (bad k)
+unfolding bodyAnswer
+with-taken (nr k vs) n = refl
+
+pub answer-none : (limit : Option ℕ) (s : List ℕ) (k : Refusal) → bad k ≡ frameAt limit s → withTaken k 0 ≡ readPlacedOf limit s
+answer-none limit s (nr k vs) e = sym (checked-refused limit s asPlaces k vs e)
+
+-- a frame of l bytes from index m on
+module _ (limit : Option ℕ) (s : List ℕ) (x l m : ℕ) (e : got ((x, take l (drop m s)), m + l) ≡ frameAt limit s) where
+  frame-taken : length (take (m + l) s) ≡ m + l
+  frame-taken = length-take-le (m + l) s (checked-within limit s x l m e)
+
+  -- the sum of the header is no larger than the stream, which a usize counts
+  pub frame-end : (n : ℕ) → n ≡ min (m + l) 18446744073709551615 → length s < 18446744073709551616 → n ≡ m + l
+  frame-end n h f = omega (arith, checked-within limit s x l m e)
+
+  -- so that its bytes are there
+  pub frame-count : (n : ℕ) → n ≡ min (m + l) 18446744073709551615 → n ≡ length (take n s)
+  frame-count n h = sym (length-take-le n s (omega (arith, checked-within limit s x l m e)))
+
+  module _ (n : ℕ) (h : n ≡ m + l) where
+    answer-whole : (f : Fit Placed) → f ≡ bodyFit asPlaces x (length (take n s)) (drop m (take n s)) → bodyAnswer n f ≡ readPlacedOf limit s
+    unfolding wholeAnswer
+    answer-whole f i =
+        sym (checked-read limit s x l m e asPlaces
+        ∙ rw (← h) (ap (bodyAnswer n) (let j : length (take n s) ≡ n = rw h frame-taken in rw j at (sym i))))
+
+    pub answer-got : (v : Placed) → got v ≡ bodyFit asPlaces x (length (take n s)) (drop m (take n s)) → accepted v n ≡ readPlacedOf limit s
+    unfolding bodyAnswer
+    answer-got v i = answer-whole (got v) i
+
+    pub answer-bad : (k : Refusal) → bad k ≡ bodyFit asPlaces x (length (take n s)) (drop m (take n s)) → withTaken k n ≡ readPlacedOf limit s
+    answer-bad k i = with-taken k n ∙ answer-whole (bad k) i
+
+-- ---- no more bytes are taken than there are
+
+taken-told : (k : Refusal) (n : ℕ) → takenIn {A = Placed} (withTaken k n) ≡ n
+taken-told (nr k vs) n = refl
+
+-- what an answer takes is what it tells
+told-taken : (r : Read) → takenIn (told r) ≡ takenBy r
+told-taken (Read.Packet p n) = refl
+told-taken (Read.Refused e n) = taken-told (toldError e) n
+
+body-taken : (n : ℕ) (f : Fit Placed) → takenIn (bodyAnswer n f) ≡ n
+unfolding bodyAnswer
+body-taken n (got v) = refl
+body-taken n (bad (nr k vs)) = refl
+
+pub taken-within : (limit : Option ℕ) (s : List ℕ) (r : Read) → told r ≡ readPlacedOf limit s → takenBy r ≤ length s
+unfolding readAs frameAnswer wholeAnswer
+taken-within limit s r e = rw (told-taken r) at (rw (← e) at (go (frameOf limit (length s) s)))
+  where
+    go : (f : Fit ((ℕ × List ℕ) × List ℕ)) → takenIn (frameAnswer asPlaces s f) ≤ length s
+    go (got z) = rw (body-taken (length s - length (z .1)) (bodyFit asPlaces (z .0 .0) (length s - length (z .1)) (z .0 .1))) (omega arith)
+    go (bad (nr k vs)) = omega arith
+
+-- both of what is promised
+pub answer : (limit : Limit) (s : List ℕ) (r : Read) → told r ≡ readPlacedOf (limitOf limit) s → (told r ≡ readPlacedOf (limitOf limit) s) × (takenBy r ≤ length s)
+answer limit s r e = (e, taken-within (limitOf limit) s r e)

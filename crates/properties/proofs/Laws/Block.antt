@@ -1,0 +1,158 @@
+-- A block at an index of a slice: its length, then what fills it; one law over the row. Assumes nothing.
+use mathlib.Core.Path.{_≡_, refl, sym, ap, _∙_}
+use mathlib.Core.Bool.{Bool, true, false}
+use mathlib.Core.Option.{Option, none, some}
+use mathlib.Core.List.{List, [], _∷_}
+use Prim.Native.Nat.{ℕ, _+_, _-_, _≤_, _<_}
+use native.Mathlib.Omega.{arith}
+use lib.Dec.{leb}
+use lib.ListN.{length, take, drop, length-drop}
+use lib.Seq.{length-take-le}
+use borrow.Author.Tests.{leb-true, leb-false}
+use Rattle.reading.specs.Refusal.{Refusal, nr, cut, crossed}
+use Rattle.reading.specs.Reader.{Fit, got, bad, Filler, _>>=_, sizedOf, isFit, handFit}
+use Rattle.reading.specs.Read.{numOf, anyBytes, stringFit, propertiesFit, blockOf}
+use Rattle.reading.specs.Place.{Span, asPlaces, onGot}
+use Rattle.reading.proofs.Reading.{bad-got, from-got}
+use Rattle.positions.specs.Position.{fromAt}
+use Rattle.positions.proofs.At.{sized-bad, sized-crossed, sized-at, span-at, part-slice}
+use Rattle.positions.proofs.Trails.{trails-num}
+use Rattle.positions.proofs.Position.{got-left, got-within, bad-left, left-bad}
+use Rattle.properties.specs.Block.{roomOf, Row, loopFrom, filledAt}
+use Rattle.properties.proofs.Laws.Fold.{Lawful, blockAs, loopOn, block-none, block-some}
+
+bad-inj : {A : Type 0} {k k′ : Refusal} → _≡_ {A = Fit A} (bad k) (bad k′) → k ≡ k′
+bad-inj e = cc
+
+-- the record of a block, and the index after it
+then-end : {B : Type 0} (n : ℕ) (m : Fit B) → _≡_ {A = Fit (Option B × ℕ)} (onGot (λ a. (a, n)) (onGot some m)) (onGot (λ o. (some o, n)) m)
+then-end n (got o) = refl
+then-end n (bad k) = refl
+
+-- ---- a length L, and what fills L bytes
+
+-- the length at an index
+abbrev lengthAt : List ℕ → ℕ → Fit (ℕ × ℕ)
+lengthAt s at = fromAt (numOf cut 4) s at
+
+-- a length that was read ends within the slice
+pub length-within : (s : List ℕ) (at l m : ℕ) → got (l, m) ≡ lengthAt s at → m ≤ length s
+length-within s at l m e = got-within (numOf cut 4) s at (trails-num cut 4) l m (sym e)
+
+-- a length and what q makes of as many bytes
+abbrev sizedAt : {A : Type 0} → (ℕ → Filler A) → List ℕ → ℕ → Fit (A × ℕ)
+sizedAt q s at = fromAt (sizedOf (numOf cut 4) crossed q (length s)) s at
+
+module _ {A : Type 0} (q : ℕ → Filler A) (s : List ℕ) (at : ℕ) where
+  sized-short : (k : Refusal) → bad k ≡ lengthAt s at → bad k ≡ sizedAt q s at
+  sized-short k e = sym (left-bad (sizedOf (numOf cut 4) crossed q (length s)) s at k (sized-bad (numOf cut 4) crossed q (length s) s at k (bad-left (numOf cut 4) s at k (sym e))))
+
+  module _ (l m : ℕ) (e : got (l, m) ≡ lengthAt s at) where
+    length-left : numOf cut 4 (drop at s) ≡ got (l, drop m s)
+    length-left = got-left (numOf cut 4) s at (trails-num cut 4) l m (sym e)
+
+    sized-over : length s < m + l → bad (nr 8 (l ∷ [])) ≡ sizedAt q s at
+    sized-over o =
+        sym (left-bad (sizedOf (numOf cut 4) crossed q (length s)) s at (nr 8 (l ∷ [])) (sized-crossed (numOf cut 4) crossed q (length s) s at l m length-left (length-within s at l m e) o))
+
+    sized-within : m + l ≤ length s → sizedAt q s at ≡ onGot (λ a. (a, m + l)) (q (m + l) (take l (drop m s)))
+    unfolding fromAt
+    sized-within o =
+        rw (sized-at (numOf cut 4) crossed q (length s) s at l m length-left (length-within s at l m e) o refl) (last (q (m + l) (take l (drop m s))))
+      where
+        n : length s - length (drop (m + l) s) ≡ m + l
+        n = rw length-drop (omega arith)
+
+        left : Fit A → Fit (A × List ℕ)
+        left f = f >>= λ a. got (a, drop (m + l) s)
+
+        last : (f : Fit A) → _≡_ {A = Fit (A × ℕ)} (left f >>= λ z. got (z .0, length s - length (z .1))) (onGot (λ a. (a, m + l)) f)
+        last (got a) = rw n
+        last (bad k) = refl
+
+-- ---- the place of a block
+
+module _ (s : List ℕ) (at : ℕ) where
+  pub room-short : (k : Refusal) → bad k ≡ lengthAt s at → bad k ≡ fromAt (roomOf (length s)) s at
+  unfolding roomOf
+  room-short = sized-short (stringFit asPlaces anyBytes cut) s at
+
+  pub room-over : (l m : ℕ) → got (l, m) ≡ lengthAt s at → length s < m + l → bad (nr 8 (l ∷ [])) ≡ fromAt (roomOf (length s)) s at
+  unfolding roomOf
+  room-over = sized-over (stringFit asPlaces anyBytes cut) s at
+
+  pub room-within : (l m : ℕ) → got (l, m) ≡ lengthAt s at → m + l ≤ length s → got (record { start = m; len = l }, m + l) ≡ fromAt (roomOf (length s)) s at
+  unfolding roomOf stringFit handFit isFit
+  room-within l m e o = sym (sized-within (stringFit asPlaces anyBytes cut) s at l m e o ∙ rw (span-at s l m o))
+
+  -- the three ways that a length and its bytes go
+  data Way : Type 0 where
+    short : (k : Refusal) → bad k ≡ lengthAt s at → Way
+    over : (l m : ℕ) → got (l, m) ≡ lengthAt s at → length s < m + l → Way
+    within : (l m : ℕ) → got (l, m) ≡ lengthAt s at → m + l ≤ length s → Way
+
+  way : Way
+  way = go (lengthAt s at) refl
+    where
+      room : (l m : ℕ) → got (l, m) ≡ lengthAt s at → (b : Bool) → leb (m + l) (length s) ≡ b → Way
+      room l m e true h = within l m e (leb-true (m + l) (length s) h)
+      room l m e false h = over l m e (leb-false (m + l) (length s) h)
+
+      go : (f : Fit (ℕ × ℕ)) → lengthAt s at ≡ f → Way
+      go (bad k) e = short k (sym e)
+      go (got (l, m)) e = room l m (sym e) (leb (m + l) (length s)) refl
+
+  -- a block that has room: its length before it, its end within the slice
+  pub record Stands (z : Span × ℕ) : Type 0 where
+    pub size : got (z .0 .len, z .0 .start) ≡ lengthAt s at
+    pub ends : z .1 ≡ z .0 .start + z .0 .len
+    pub inside : z .1 ≤ length s
+
+  pub room-stands : (z : Span × ℕ) → got z ≡ fromAt (roomOf (length s)) s at → Stands z
+  room-stands z e = go way
+    where
+      go : Way → Stands z
+      go (short k w) = absurd (bad-got (room-short k w ∙ sym e))
+      go (over l m w o) = absurd (bad-got (room-over l m w o ∙ sym e))
+      go (within l m w o) =
+          from-got Stands (record { start = m; len = l }, m + l) (record { size = w; ends = refl; inside = o }) z (room-within l m w o ∙ sym e)
+
+  -- ---- the block there, of a row
+
+  module _ (w : Row) where
+    abbrev pub blockAt : Fit (Option (w .Props) × ℕ)
+    blockAt = fromAt (blockOf asPlaces (w .place) (blockAs w) (length s)) s at
+
+    -- what has no room is no block
+    pub block-bad : (k : Refusal) → bad k ≡ fromAt (roomOf (length s)) s at → bad k ≡ blockAt
+    unfolding blockOf
+    block-bad k e = go way
+      where
+        go : Way → bad k ≡ sizedAt (handFit (blockAs w) (propertiesFit asPlaces (w .place))) s at
+        go (short k′ v) = ap bad (bad-inj (e ∙ sym (room-short k′ v))) ∙ sized-short (handFit (blockAs w) (propertiesFit asPlaces (w .place))) s at k′ v
+        go (over l m v o) = ap bad (bad-inj (e ∙ sym (room-over l m v o))) ∙ sized-over (handFit (blockAs w) (propertiesFit asPlaces (w .place))) s at l m v o
+        go (within l m v o) = absurd (bad-got (e ∙ sym (room-within l m v o)))
+
+    module _ (W : Lawful w) where
+      -- 01: "L = 0 means absent"
+      pub block-absent : (z : Span × ℕ) → Stands z → z .0 .len ≡ 0 → got (none, z .1) ≡ blockAt
+      unfolding blockOf
+      block-absent z h e =
+          let i : z .0 .start + 0 ≡ z .1 = omega (arith, h .ends) in
+          sym (
+          sized-within (handFit (blockAs w) (propertiesFit asPlaces (w .place))) s at (z .0 .len) (z .0 .start) (h .size) (omega (arith, h .ends, h .inside))
+          ∙ rw (e, block-none w W (z .0 .start + 0), i)
+          )
+
+      -- else properties fill the slice that ends where the block does
+      pub block-present : (z : Span × ℕ) → Stands z → 0 < z .0 .len → filledAt w (take (z .1) s) (z .0) ≡ blockAt
+      unfolding blockOf filledAt loopFrom
+      block-present z h pos =
+          let o : z .0 .start + z .0 .len ≤ length s = omega (arith, h .ends, h .inside) in
+          let n : length (take (z .0 .start + z .0 .len) s) ≡ z .0 .start + z .0 .len = length-take-le (z .0 .start + z .0 .len) s o in
+          let i : 0 < length (take (z .0 .len) (drop (z .0 .start) s)) = rw (length-take-le (z .0 .len) (drop (z .0 .start) s) (rw length-drop (omega arith))) pos in
+          sym (
+          sized-within (handFit (blockAs w) (propertiesFit asPlaces (w .place))) s at (z .0 .len) (z .0 .start) (h .size) o
+          ∙ rw (block-some w W (z .0 .start + z .0 .len) (take (z .0 .len) (drop (z .0 .start) s)) i, span-at s (z .0 .len) (z .0 .start) o, part-slice s (z .0 .len) (z .0 .start) o, h .ends, n)
+          (then-end (z .0 .start + z .0 .len) (loopOn w (z .0 .start + z .0 .len) (w .made (z .0) []) (drop (z .0 .start) (take (z .0 .start + z .0 .len) s))))
+          )

@@ -1,0 +1,223 @@
+-- A loop over the properties of a block, one law over the row: how it goes on, and what it comes to. Assumes nothing.
+use mathlib.Core.Path.{_≡_, refl, sym, ap, _∙_}
+use mathlib.Core.Logic.{_⊎_, inl, inr}
+use mathlib.Core.Bool.{Bool, true, false}
+use mathlib.Core.Option.{Option, none, some}
+use mathlib.Core.List.{List, [], _∷_}
+use Prim.Native.Nat.{ℕ, suc, _≤_, _<_}
+use native.Mathlib.Omega.{arith}
+use lib.Dec.{eqb}
+use lib.ListN.{length, drop, getD, length-drop, drop-of-length-le}
+use lib.Seq.{drop-cons}
+use Rattle.grammar.specs.Choice.{pick, lookup}
+use Rattle.grammar.specs.Gram.{forget}
+use Rattle.grammar.specs.Tables.{Form, u8, u16, u32, number, text, bytes, pair, Place, publishPlace, subscribePlace, ackPlace}
+use Rattle.grammar.specs.Record.{Prop, lastOf, unlessEmpty, publishProps, subscribeProps, ackProps}
+use Rattle.reading.specs.Refusal.{Refusal}
+use Rattle.reading.specs.Reader.{Fit, got, bad, _>>=_, handFit, runFit, chainFit, foldFrom, foldFit}
+use Rattle.reading.specs.Read.{propertyOf, propertiesFit}
+use Rattle.reading.specs.Place.{Span, spanOf, asPlaces, onGot}
+use Rattle.reading.proofs.Lists.{eq-of}
+use Rattle.positions.specs.Position.{fromAt}
+use Rattle.positions.proofs.Walk.{fold-nil, fold-bad, fold-next}
+use Rattle.positions.proofs.Less.{property-less}
+use Rattle.positions.proofs.Trails.{trails-property}
+use Rattle.positions.proofs.Position.{got-left, bad-left}
+use Rattle.properties.specs.Told.{formOf}
+use Rattle.properties.specs.Block.{Row, publishRow, subscribeRow, ackRow, applied, loopFrom, filledAt}
+use Rattle.properties.specs.declared.value.Value.{Value}
+
+-- ---- a rule of every entry of a place's row holds of what is looked up there
+
+abbrev Every : (ℕ → Form → Type 0) → Place → Type 0
+Every Q [] = Unit {0}
+Every Q (r ∷ rs) = Q (r .0) (r .1) × Every Q rs
+
+looked-up : (Q : ℕ → Form → Type 0) (place : Place) → Every Q place → (k : ℕ) (f : Form) → lookup place k ≡ some f → Q k f
+looked-up Q [] a k f e = absurd (let z : _≡_ {A = ℕ} 0 1 = cc in omega arith)
+looked-up Q (r ∷ rs) a k f e = go (eqb (r .0) k) refl (λ e′. looked-up Q rs (a .1) k f e′) e
+  where
+    go : (b : Bool) → eqb (r .0) k ≡ b → (lookup rs k ≡ some f → Q k f) → pick b (some (r .1)) (lookup rs k) ≡ some f → Q k f
+    go true t ih e′ = let i : r .1 ≡ f = cc in rw (sym (eq-of (r .0) k t), sym i) (a .0)
+    go false t ih e′ = ih e′
+
+-- 01, table of properties: the identifiers of each form
+abbrev pub publishIs : ℕ → Form → Type 0
+publishIs k u8 = k ≡ 1
+publishIs k u16 = k ≡ 35
+publishIs k u32 = k ≡ 2
+publishIs k number = k ≡ 11
+publishIs k text = (k ≡ 8) ⊎ (k ≡ 3)
+publishIs k bytes = k ≡ 9
+publishIs k pair = k ≡ 38
+
+abbrev pub subscribeIs : ℕ → Form → Type 0
+subscribeIs k u8 = ⊥
+subscribeIs k u16 = ⊥
+subscribeIs k u32 = ⊥
+subscribeIs k number = k ≡ 11
+subscribeIs k text = ⊥
+subscribeIs k bytes = ⊥
+subscribeIs k pair = k ≡ 38
+
+abbrev pub ackIs : ℕ → Form → Type 0
+ackIs k u8 = ⊥
+ackIs k u16 = ⊥
+ackIs k u32 = ⊥
+ackIs k number = ⊥
+ackIs k text = k ≡ 31
+ackIs k bytes = ⊥
+ackIs k pair = k ≡ 38
+
+publish-every : Every publishIs publishPlace
+unfolding publishPlace
+publish-every = (refl, (refl, (refl, (inl refl, (refl, (refl, (refl, (inr refl, tt))))))))
+
+subscribe-every : Every subscribeIs subscribePlace
+unfolding subscribePlace
+subscribe-every = (refl, (refl, tt))
+
+ack-every : Every ackIs ackPlace
+unfolding ackPlace
+ack-every = (refl, (refl, tt))
+
+module _ (k : ℕ) {v v′ : Value} (e : v ≡ v′) where
+  is : (Q : ℕ → Form → Type 0) (place : Place) → Every Q place → lookup place k ≡ some (formOf v) → Q k (formOf v′)
+  is Q place a h = rw e at (looked-up Q place a k (formOf v) h)
+
+  pub publish-is : lookup publishPlace k ≡ some (formOf v) → publishIs k (formOf v′)
+  publish-is = is publishIs publishPlace publish-every
+
+  pub subscribe-is : lookup subscribePlace k ≡ some (formOf v) → subscribeIs k (formOf v′)
+  subscribe-is = is subscribeIs subscribePlace subscribe-every
+
+  pub ack-is : lookup ackPlace k ≡ some (formOf v) → ackIs k (formOf v′)
+  ack-is = is ackIs ackPlace ack-every
+
+-- ---- the properties one by one are the properties at once
+
+-- `more` goes property by property, and `made` is it from none on
+pub record Lawful (w : Row) : Type 0 where
+  pub nil : (o : w .Props) → w .more o [] ≡ o
+  pub cons : (o : w .Props) (a : Prop Span) (ps : List (Prop Span)) → w .more (applied w o a) ps ≡ w .more o (a ∷ ps)
+  pub whole : (p : Span) (ps : List (Prop Span)) → w .more (w .made p []) ps ≡ w .made p ps
+
+pub publish-lawful : Lawful publishRow
+unfolding publishProps lastOf
+publish-lawful = record { nil = λ o. refl; cons = λ o a ps. refl; whole = λ p ps. refl }
+
+pub subscribe-lawful : Lawful subscribeRow
+unfolding subscribeProps lastOf
+subscribe-lawful = record { nil = λ o. refl; cons = λ o a ps. refl; whole = λ p ps. refl }
+
+pub ack-lawful : Lawful ackRow
+unfolding ackProps lastOf
+ack-lawful = record { nil = λ o. refl; cons = λ o a ps. refl; whole = λ p ps. refl }
+
+-- 01: "L = 0 means absent"
+abbrev pub blockAs : (w : Row) → List (Prop Span) → List ℕ → ℕ → Option (w .Props)
+blockAs w ps b end = unlessEmpty (w .made (spanOf b end)) ps
+
+-- a loop of w on what is left; the end of its room is `end`
+abbrev pub loopOn : (w : Row) → ℕ → w .Props → List ℕ → Fit (w .Props)
+loopOn w end o l = foldFit forget (λ _. propertyOf asPlaces (w .place) end) (applied w) o tt l
+
+module _ (w : Row) (W : Lawful w) where
+  fold-more : (o : w .Props) (ps : List (Prop Span)) → foldFrom (applied w) o ps ≡ w .more o ps
+  fold-more o [] = sym (W .nil o)
+  fold-more o (a ∷ ps) = fold-more (applied w o a) ps ∙ W .cons o a ps
+
+  fold-made : (p : Span) (ps : List (Prop Span)) → foldFrom (applied w) (w .made p []) ps ≡ w .made p ps
+  fold-made p ps = fold-more (w .made p []) ps ∙ W .whole p ps
+
+  pub block-none : (end : ℕ) → handFit (blockAs w) (propertiesFit asPlaces (w .place)) end [] ≡ got none
+  unfolding handFit propertiesFit chainFit runFit
+  block-none end = refl
+
+  -- a block of at least one byte has a property
+  pub block-some : (end : ℕ) (b : List ℕ) → 0 < length b → handFit (blockAs w) (propertiesFit asPlaces (w .place)) end b ≡ onGot some (loopOn w end (w .made (spanOf b end) []) b)
+  unfolding handFit propertiesFit foldFit chainFit runFit
+  block-some end [] h = absurd (omega arith)
+  block-some end (x ∷ b) h = first (propertyOf asPlaces (w .place) end (x ∷ b))
+    where
+      p : Span
+      p = spanOf (x ∷ b) end
+
+      more : Fit (Prop Span × List ℕ) → Fit (List (Prop Span))
+      more m = m >>= λ z. runFit forget (λ _. propertyOf asPlaces (w .place) end) tt b (z .1) >>= λ vs. got (z .0 ∷ vs)
+
+      rest : (a : Prop Span) (m : Fit (List (Prop Span)))
+          → ((m >>= λ vs. got (a ∷ vs)) >>= λ vs. got (unlessEmpty (w .made p) vs)) ≡ onGot some ((m >>= λ vs. got (a ∷ vs)) >>= λ vs. got (foldFrom (applied w) (w .made p []) vs))
+      rest a (got vs) = ap (λ (o : w .Props). got (some o)) (sym (fold-made p (a ∷ vs)))
+      rest a (bad k) = refl
+
+      first : (m : Fit (Prop Span × List ℕ)) → (more m >>= λ vs. got (unlessEmpty (w .made p) vs)) ≡ onGot some (more m >>= λ vs. got (foldFrom (applied w) (w .made p []) vs))
+      first (got z) = rest (z .0) (runFit forget (λ _. propertyOf asPlaces (w .place) end) tt b (z .1))
+      first (bad k) = refl
+
+-- ---- how the loop goes on
+
+-- the property at an index
+abbrev pub propertyAt : Row → List ℕ → ℕ → Fit (Prop Span × ℕ)
+propertyAt w s at = fromAt (propertyOf asPlaces (w .place) (length s)) s at
+
+module _ (w : Row) (s : List ℕ) (at : ℕ) (h : at < length s) where
+  module _ (a : Prop Span) (n : ℕ) (e : got (a, n) ≡ propertyAt w s at) where
+    left : propertyOf asPlaces (w .place) (length s) (drop at s) ≡ got (a, drop n s)
+    left = got-left (propertyOf asPlaces (w .place) (length s)) s at (trails-property asPlaces (length s) (w .place)) a n (sym e)
+
+    -- a property takes a byte at least
+    ahead : at < n
+    ahead =
+        let l : length (drop n s) < length (drop at s) = property-less (w .place) (length s) (drop at s) (a, drop n s) (rw length-drop (omega arith)) left in
+        omega (arith, simp length-drop at l)
+
+    pub loop-next : (o : w .Props) → loopFrom w o s at ≡ loopFrom w (applied w o a) s n
+    unfolding loopFrom
+    loop-next o =
+        ap (loopOn w (length s) o) (drop-cons s at 0 h)
+        ∙ (fold-next forget (λ _. propertyOf asPlaces (w .place) (length s)) (length s) (λ σ. property-less (w .place) (length s)) (applied w) o tt (getD s at 0) (drop (suc at) s) (a, drop n s)
+        (rw length-drop (omega arith))
+        (rw (drop-cons s at 0 h) at left))
+
+  pub loop-bad : (o : w .Props) (k : Refusal) → bad k ≡ propertyAt w s at → loopFrom w o s at ≡ bad k
+  unfolding loopFrom
+  loop-bad o k e =
+      ap (loopOn w (length s) o) (drop-cons s at 0 h)
+      ∙ (fold-bad forget (λ _. propertyOf asPlaces (w .place) (length s)) (length s) (λ σ. property-less (w .place) (length s)) (applied w) o tt (getD s at 0) (drop (suc at) s) k
+      (rw (drop-cons s at 0 h) at (bad-left (propertyOf asPlaces (w .place) (length s)) s at k (sym e))))
+
+pub loop-end : (w : Row) (o : w .Props) (s : List ℕ) (at : ℕ) → length s ≤ at → loopFrom w o s at ≡ got o
+unfolding loopFrom
+loop-end w o s at h =
+    ap (loopOn w (length s) o) (drop-of-length-le s h)
+    ∙ (fold-nil forget (λ _. propertyOf asPlaces (w .place) (length s)) (length s) (λ σ. property-less (w .place) (length s)) (applied w) o tt)
+
+-- what a loop keeps: the rest of it decides the whole
+pub record Filling (w : Row) (s : List ℕ) (whole : Fit (w .Props)) (o : w .Props) (at : ℕ) : Type 0 where
+  pub rest : whole ≡ loopFrom w o s at
+
+pub filling-start : (w : Row) (s : List ℕ) (o : w .Props) (at : ℕ) → Filling w s (loopFrom w o s at) o at
+filling-start w s o at = record { rest = refl }
+
+module _ {w : Row} {s : List ℕ} {whole : Fit (w .Props)} {o : w .Props} {at : ℕ} (f : Filling w s whole o at) where
+  pub filling-next : at < length s → (a : Prop Span) (n : ℕ) → got (a, n) ≡ propertyAt w s at → (o′ : w .Props) → o′ ≡ applied w o a → Filling w s whole o′ n
+  filling-next h a n e o′ i = record { rest = f .rest ∙ loop-next w s at h a n e o ∙ ap (λ (u : w .Props). loopFrom w u s n) (sym i) }
+
+  pub filling-ahead : at < length s → (a : Prop Span) (n : ℕ) → got (a, n) ≡ propertyAt w s at → at < n
+  filling-ahead h a n e = ahead w s at h a n e
+
+  filling-bad : at < length s → (k : Refusal) → bad k ≡ propertyAt w s at → whole ≡ bad k
+  filling-bad h k e = f .rest ∙ loop-bad w s at h o k e
+
+  filling-end : length s ≤ at → whole ≡ got o
+  filling-end h = f .rest ∙ loop-end w o s at h
+
+module _ {w : Row} {s : List ℕ} {o₀ o : w .Props} {at : ℕ} (p : Span) (i : o₀ ≡ w .made p []) (f : Filling w s (loopFrom w o₀ s (p .start)) o at) where
+  pub filled-bad : at < length s → (k : Refusal) → bad k ≡ propertyAt w s at → bad k ≡ filledAt w s p
+  unfolding filledAt
+  filled-bad h k e = rw (sym i, filling-bad f h k e)
+
+  pub filled-end : length s ≤ at → got (some o, length s) ≡ filledAt w s p
+  unfolding filledAt
+  filled-end h = rw (sym i, filling-end f h)

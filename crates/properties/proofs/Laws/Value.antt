@@ -1,0 +1,152 @@
+-- How a property is read at an index: its identifier, then its value by the form that the row gives it. Assumes nothing.
+use mathlib.Core.Path.{_≡_, refl, sym, ap, _∙_}
+use mathlib.Core.Option.{Option, none, some}
+use mathlib.Core.List.{List, [], _∷_}
+use Prim.Native.Nat.{ℕ, _-_}
+use lib.ListN.{length, drop}
+use Rattle.grammar.specs.Choice.{lookup}
+use Rattle.grammar.specs.Tables.{Form, u8, u16, u32, number, text, bytes, pair, Place}
+use Rattle.grammar.specs.Record.{Val, num, str, Prop}
+use Rattle.grammar.specs.Sentence.{duoOf}
+use Rattle.reading.specs.Refusal.{Refusal, cut}
+use Rattle.reading.specs.Reader.{Fit, got, bad, Reader, _>>=_, mapOf, thenOf}
+use Rattle.reading.specs.Read.{bigOf, byteOf, numOf, bytesOf, textOf, valueOf, valueAt, propertyOf}
+use Rattle.reading.specs.Place.{Span, asPlaces}
+use Rattle.reading.proofs.Reading.{bad-got, from-got, from-bind}
+use Rattle.reading.proofs.Refusing.{got-bad}
+use Rattle.positions.specs.Position.{fromAt}
+use Rattle.positions.proofs.Trails.{Trails, trails-map, trails-then, trails-byte, trails-big, trails-num, trails-bytes, trails-text}
+use Rattle.positions.proofs.Position.{got-left, bad-left, left-bad}
+use Rattle.positions.proofs.Fill.{then-bad, map-bad, then-got, map-got}
+use Rattle.records.specs.Told.{toldError}
+use Rattle.properties.specs.Told.{toldValue, formOf, toldProperty, Typed, ValueRead, PropertyRead}
+use Rattle.records.specs.declared.error.Error.{Error}
+use Rattle.properties.specs.declared.value.Value.{Value}
+use Rattle.properties.specs.declared.value.GotProperty.{GotProperty}
+use Rattle.properties.specs.declared.value.GotProperty.the-variants.{Found, Refused}
+
+-- ---- the value, by its form
+
+-- values of the form f are what p reads, seen through inj
+pub record Reader-of (f : Form) {A : Type 0} (inj : A → Val Span) (p : Reader A) (end : ℕ) : Type 0 where
+  pub same : valueOf asPlaces f end ≡ mapOf inj p
+  pub trails : Trails p
+
+module _ (end : ℕ) where
+  pub of-u8 : Reader-of u8 num (byteOf cut) end
+  unfolding valueOf
+  of-u8 = record { same = refl; trails = trails-byte cut }
+
+  pub of-u16 : Reader-of u16 num (bigOf cut 2) end
+  unfolding valueOf
+  of-u16 = record { same = refl; trails = trails-big cut 2 }
+
+  pub of-u32 : Reader-of u32 num (bigOf cut 4) end
+  unfolding valueOf
+  of-u32 = record { same = refl; trails = trails-big cut 4 }
+
+  pub of-number : Reader-of number num (numOf cut 4) end
+  unfolding valueOf
+  of-number = record { same = refl; trails = trails-num cut 4 }
+
+  pub of-text : Reader-of text str (textOf asPlaces end) end
+  unfolding valueOf
+  of-text = record { same = refl; trails = trails-text asPlaces end }
+
+  pub of-bytes : Reader-of bytes str (bytesOf asPlaces end) end
+  unfolding valueOf
+  of-bytes = record { same = refl; trails = trails-bytes asPlaces end }
+
+  pub of-pair : Reader-of pair duoOf (thenOf (textOf asPlaces end) (λ _. textOf asPlaces end)) end
+  unfolding valueOf
+  of-pair = record { same = refl; trails = trails-then (trails-text asPlaces end) (λ _. trails-text asPlaces end) }
+
+-- the value with its identifier
+abbrev tagged : {A : Type 0} → (A → Val Span) → Reader A → ℕ → Reader (Prop Span)
+tagged inj p k = mapOf (λ v. (k, v)) (mapOf inj p)
+
+module _ {f : Form} {A : Type 0} {inj : A → Val Span} {p : Reader A} (s : List ℕ) (R : Reader-of f inj p (length s)) (k at : ℕ) where
+  value-tagged : fromAt (valueAt asPlaces (some f) k (length s)) s at ≡ fromAt (tagged inj p k) s at
+  unfolding valueAt mapOf
+  value-tagged = ap (λ (q : Reader (Val Span)). fromAt (mapOf (λ v. (k, v)) q) s at) (R .same)
+
+  pub found : (x : A) (m : ℕ) → got (x, m) ≡ fromAt p s at → (v : Value) → toldValue v ≡ inj x → formOf v ≡ f → ValueRead (some f) k s at (Found k v m)
+  found x m e v t u = record {
+    says =
+        ap (λ (w : Val Span). got ((k, w), m)) t
+        ∙ sym (map-got (mapOf inj p) s at (trails-map (R .trails) inj) (inj x) m (map-got p s at (R .trails) x m (sym e) inj) (λ w. (k, w)))
+        ∙ sym value-tagged;
+    typed = ap some (sym u);
+  }
+
+  pub refused : (e : Error) → bad (toldError e) ≡ fromAt p s at → ValueRead (some f) k s at (Refused e)
+  refused e h = record {
+    says = sym (map-bad (mapOf inj p) s at (λ w. (k, w)) (toldError e) (map-bad p s at inj (toldError e) (sym h))) ∙ sym value-tagged;
+    typed = tt;
+  }
+
+-- ---- two texts
+
+module _ (s : List ℕ) (at : ℕ) where
+  abbrev textAt : ℕ → Fit (Span × ℕ)
+  textAt i = fromAt (textOf asPlaces (length s)) s i
+
+  abbrev textsAt : Fit ((Span × Span) × ℕ)
+  textsAt = fromAt (thenOf (textOf asPlaces (length s)) (λ _. textOf asPlaces (length s))) s at
+
+  pub texts-bad : (k : Refusal) → bad k ≡ textAt at → bad k ≡ textsAt
+  texts-bad k e = sym (then-bad (textOf asPlaces (length s)) s at (λ _. textOf asPlaces (length s)) k (sym e))
+
+  module _ (x : Span) (m : ℕ) (e : got (x, m) ≡ textAt at) where
+    texts-next : textsAt ≡ (textAt m >>= λ z. got ((x, z .0), z .1))
+    texts-next = then-got (textOf asPlaces (length s)) s at (trails-text asPlaces (length s)) x m (sym e) (λ _. textOf asPlaces (length s))
+
+    pub texts-next-bad : (k : Refusal) → bad k ≡ textAt m → bad k ≡ textsAt
+    texts-next-bad k e′ = sym (texts-next ∙ rw (sym e′))
+
+    pub texts-got : (y : Span) (n : ℕ) → got (y, n) ≡ textAt m → got ((x, y), n) ≡ textsAt
+    texts-got y n e′ = sym (texts-next ∙ rw (sym e′))
+
+-- ---- the identifier before it
+
+-- what is read has the identifier that was asked for
+value-tag : (o : Option Form) (k end : ℕ) (l : List ℕ) (y : Prop Span × List ℕ) → valueAt asPlaces o k end l ≡ got y → y .0 .0 ≡ k
+unfolding valueAt
+value-tag none k end l = λ y e. absurd (bad-got e)
+value-tag (some f) k end l = from-bind (valueOf asPlaces f end l) _ λ x e. from-got (λ (y : Prop Span × List ℕ). y .0 .0 ≡ k) ((k, x .0), x .1) refl
+
+value-id : (o : Option Form) (k end : ℕ) (s : List ℕ) (at : ℕ) (z : Prop Span × ℕ) → fromAt (valueAt asPlaces o k end) s at ≡ got z → z .0 .0 ≡ k
+unfolding fromAt
+value-id o k end s at = from-bind (valueAt asPlaces o k end (drop at s)) _ λ y e.
+    from-got (λ (z : Prop Span × ℕ). z .0 .0 ≡ k) (y .0, length s - length (y .1)) (value-tag o k end (drop at s) y e)
+
+byte-cons : (l : List ℕ) (k : ℕ) (r : List ℕ) → byteOf cut l ≡ got (k, r) → l ≡ k ∷ r
+unfolding byteOf
+byte-cons [] k r e = absurd (bad-got e)
+byte-cons (x ∷ l) k r e = from-got (λ (z : ℕ × List ℕ). x ∷ l ≡ z .0 ∷ z .1) (x, l) refl (k, r) e
+
+module _ (row : Place) (s : List ℕ) (at : ℕ) where
+  no-byte : (l : List ℕ) (k : Refusal) → byteOf cut l ≡ bad k → propertyOf asPlaces row (length s) l ≡ bad k
+  unfolding byteOf propertyOf
+  no-byte [] k e = let h : cut ≡ k = cc in ap bad h
+  no-byte (x ∷ l) k e = absurd (got-bad e)
+
+  pub property-refused : (e : Error) → bad (toldError e) ≡ fromAt (byteOf cut) s at → PropertyRead row s at (Refused e)
+  property-refused e h = record {
+    says = sym (left-bad (propertyOf asPlaces row (length s)) s at (toldError e) (no-byte (drop at s) (toldError e) (bad-left (byteOf cut) s at (toldError e) (sym h))));
+    typed = tt;
+  }
+
+  module _ (k m : ℕ) (e : got (k, m) ≡ fromAt (byteOf cut) s at) where
+    property-next : fromAt (propertyOf asPlaces row (length s)) s at ≡ fromAt (valueAt asPlaces (lookup row k) k (length s)) s m
+    unfolding fromAt propertyOf
+    property-next = rw (byte-cons (drop at s) k (drop m s) (got-left (byteOf cut) s at (trails-byte cut) k m (sym e)))
+
+    retyped : (r : GotProperty) → toldProperty r ≡ fromAt (valueAt asPlaces (lookup row k) k (length s)) s m → Typed (λ _. lookup row k) r → Typed (lookup row) r
+    retyped (Found j v n) h t = rw (value-id (lookup row k) k (length s) s m ((j, toldValue v), n) (sym h)) t
+    retyped (Refused c) h t = tt
+
+    pub property-read : (o : Option Form) (r : GotProperty) → o ≡ lookup row k → ValueRead o k s m r → PropertyRead row s at r
+    property-read o r h v =
+        let w : ValueRead (lookup row k) k s m r = rw h at v in
+        record { says = w .says ∙ sym property-next; typed = retyped r (w .says) (w .typed) }

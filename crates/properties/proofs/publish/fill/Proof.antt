@@ -1,0 +1,76 @@
+-- `properties::publish::fill` meets its contract. The loop's invariant: the rest of the loop decides the whole. Each property takes a byte at
+-- least, and what is left of the slice is the measure. Assumes nothing.
+use mathlib.Core.Path.{sym, ap, _∙_}
+use Prim.Native.Nat.{_-_}
+use native.Mathlib.Omega.{arith}
+use lib.ListN.{length}
+use borrow.Author.Needs.{needs}
+use Rattle.records.specs.Told.{toldSpan}
+use Rattle.records.specs.Said.{toldPublishProperties}
+use Rattle.properties.specs.Told.{toldProperty}
+use Rattle.properties.specs.Block.{publishRow, loopFrom}
+use Rattle.properties.proofs.Laws.Fold.{Filling, filling-start, filling-next, filling-ahead, filled-bad, filled-end}
+use Rattle.properties.proofs.publish.fill.Statement.{statement}
+use Rattle.properties.proofs.publish.fill.Tie as tie
+
+abbrev Inv-loop : tie.InvT-loop
+Inv-loop s p₀ at₀ p at = Filling publishRow s (loopFrom publishRow (toldPublishProperties p₀) s at₀) (toldPublishProperties p) at
+
+abbrev μ-loop : tie.MeasureT-loop
+μ-loop s p₀ at₀ p at = length s - at
+
+none-requires : tie.Need-none-requires Inv-loop μ-loop
+none-requires c κs = search needs
+
+loop-holds : tie.Need-loop-holds Inv-loop μ-loop
+loop-holds c = filling-start _ _ _ _
+
+read-property-requires : tie.Need-read-property-requires Inv-loop μ-loop
+read-property-requires c κs = search needs
+
+enum-known-k : tie.Need-enum-known-k Inv-loop μ-loop
+enum-known-k c = search needs
+
+apply-requires : tie.Need-apply-requires Inv-loop μ-loop
+apply-requires c κs = rw (c .before .k .given .1) at (c .before .before .before .read-property .ensures .typed)
+
+loop-less : tie.Need-loop-less Inv-loop μ-loop
+loop-less c =
+    let b = c .before .before .before .before in
+    let e = sym (ap toldProperty (c .before .before .k .given .1)) ∙ b .read-property .ensures .says in
+    omega (arith, b .before .loop-test .taken, filling-ahead (b .before .before .loop .inv) (b .before .loop-test .taken) _ _ e)
+
+loop-again : tie.Need-loop-again Inv-loop μ-loop
+loop-again c =
+    let b = c .before .before .before .before in
+    let e = sym (ap toldProperty (c .before .before .k .given .1)) ∙ b .read-property .ensures .says in
+    filling-next (b .before .before .loop .inv) (b .before .loop-test .taken) _ _ e _ (c .apply .ensures)
+
+enum-known-e : tie.Need-enum-known-e Inv-loop μ-loop
+enum-known-e c = search needs
+
+returns : tie.Need-returns Inv-loop μ-loop
+returns c =
+    let b = c .before .before .before in
+    let e = sym (ap toldProperty (c .before .e .given .1)) ∙ b .read-property .ensures .says in
+    filled-bad (toldSpan (c .before .before .before .before .before .before .before .before .args .block)) (c .before .before .before .before .before .before .none .ensures) (b .before .before .loop .inv) (b .before .loop-test .taken) _ e
+
+returns-2 : tie.Need-returns-2 Inv-loop μ-loop
+returns-2 c = filled-end (toldSpan (c .before .before .before .before .args .block)) (c .before .before .none .ensures) (c .before .loop .inv) (c .loop-test .left)
+
+pub fill-spec : {M : Type 1} → statement M
+fill-spec =
+    tie.close
+    (tie.spec
+    Inv-loop
+    μ-loop
+    none-requires
+    loop-holds
+    read-property-requires
+    enum-known-k
+    apply-requires
+    loop-less
+    loop-again
+    enum-known-e
+    returns
+    returns-2)

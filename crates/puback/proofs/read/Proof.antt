@@ -1,0 +1,30 @@
+-- `puback::read` is right since the identifier is what `read_u16` read, and the rest goes on where it ends. Assumes nothing.
+use borrow.Author.Needs.{needs}
+use Rattle.puback.proofs.Laws.{ident-bad, ident-got}
+use Rattle.wire.specs.Told.{toldU16}
+use mathlib.Core.Path.{sym, ap, _∙_}
+use Rattle.puback.proofs.read.Statement.{statement}
+use Rattle.puback.proofs.read.Tie as tie
+
+read-u16-requires : tie.Need-read-u16-requires
+read-u16-requires c κs = search needs
+
+enum-known-e : tie.Need-enum-known-e
+enum-known-e c = search needs
+
+enum-known-pkid : tie.Need-enum-known-pkid
+enum-known-pkid c = search needs
+
+read-rest-requires : tie.Need-read-rest-requires
+read-rest-requires c κs = search needs
+
+returns : tie.Need-returns
+returns c = λ x h. ident-bad _ _ x h _ (sym (ap toldU16 (c .before .e .given .1)) ∙ c .before .before .before .read-u16 .ensures)
+
+returns-2 : tie.Need-returns-2
+returns-2 c = λ x h. c .read-rest .ensures ∙ ident-got _ _ x h _ _ (sym (ap toldU16 (c .before .before .pkid .given .1)) ∙ c .before .before .before .before .read-u16 .ensures)
+
+pub read-spec : {M : Type 1} → statement M
+read-spec =
+    tie.close
+    (tie.spec read-u16-requires enum-known-e enum-known-pkid read-rest-requires returns returns-2)

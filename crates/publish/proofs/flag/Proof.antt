@@ -1,0 +1,11 @@
+-- `publish::flag` is right since a bit is 0 or 1. Assumes nothing.
+use Rattle.publish.proofs.Laws.{flag-told}
+use native.Mathlib.Omega.{arith}
+use Rattle.publish.proofs.flag.Statement.{statement}
+use Rattle.publish.proofs.flag.Tie as tie
+
+returns : tie.Need-returns
+returns c = flag-told _ (omega arith)
+
+pub flag-spec : {M : Type 1} → statement M
+flag-spec = tie.close (tie.spec returns)

@@ -1,0 +1,66 @@
+-- `subscribe::filter::with_options` is right since a filter is made of a rule, then of a quality of service. Assumes nothing.
+use borrow.Author.Needs.{needs}
+use Rattle.records.specs.Told.{toldSpan}
+use Rattle.subscribe.proofs.Laws.Filters.{options-rule, options-qos, options-fine}
+use Rattle.subscribe.proofs.filter.with_options.Statement.{statement}
+use Rattle.subscribe.proofs.filter.with_options.Tie as tie
+
+retain-forward-rule-requires : tie.Need-retain-forward-rule-requires
+retain-forward-rule-requires c κs = search needs
+
+enum-known-e : tie.Need-enum-known-e
+enum-known-e c = search needs
+
+enum-known-retain-forward-rule : tie.Need-enum-known-retain-forward-rule
+enum-known-retain-forward-rule c = search needs
+
+qos-requires : tie.Need-qos-requires
+qos-requires c κs = search needs
+
+enum-known-e-2 : tie.Need-enum-known-e-2
+enum-known-e-2 c = search needs
+
+enum-known-qos : tie.Need-enum-known-qos
+enum-known-qos c = search needs
+
+odd-requires : tie.Need-odd-requires
+odd-requires c κs = search needs
+
+odd-requires-2 : tie.Need-odd-requires-2
+odd-requires-2 c κs = search needs
+
+returns : tie.Need-returns
+returns c =
+    let a = c .before .before .before .before .args in
+    options-rule (toldSpan (a .path)) (a .options) (a .next) (rw (c .before .e .given .1) at (c .before .before .before .retain-forward-rule .ensures))
+
+returns-2 : tie.Need-returns-2
+returns-2 c =
+    let a = c .before .before .before .before .before .before .before .before .args in
+    options-qos (toldSpan (a .path)) (a .options) (a .next)
+    (rw (c .before .before .before .before .before .retain-forward-rule2 .given .1) at (c .before .before .before .before .before .before .before .retain-forward-rule .ensures))
+    (rw (c .before .e2 .given .1) at (c .before .before .before .qos .ensures))
+
+returns-3 : tie.Need-returns-3
+returns-3 c =
+    let a = c .before .before .before .before .before .before .before .before .before .before .args in
+    rw (c .before .odd .ensures, c .odd2 .ensures)
+    (options-fine (toldSpan (a .path)) (a .options) (a .next)
+    (rw (c .before .before .before .before .before .before .before .retain-forward-rule2 .given .1) at (c .before .before .before .before .before .before .before .before .before .retain-forward-rule .ensures))
+    (rw (c .before .before .before .qos2 .given .1) at (c .before .before .before .before .before .qos .ensures)))
+
+pub with-options-spec : {M : Type 1} → statement M
+with-options-spec =
+    tie.close
+    (tie.spec
+    retain-forward-rule-requires
+    enum-known-e
+    enum-known-retain-forward-rule
+    qos-requires
+    enum-known-e-2
+    enum-known-qos
+    odd-requires
+    odd-requires-2
+    returns
+    returns-2
+    returns-3)

@@ -1,0 +1,161 @@
+// Filters, after `Filter::read` of subscribe.rs: one filter, a run of them to the end of the slice, and the n-th of a run.
+// The end of the slice is the end of their room.
+use records::answer::FilterItem;
+use records::error::Error;
+use records::span::Span;
+use records::subscribe::Filter;
+use records::subscribe::RetainForwardRule;
+use wire::fixed;
+use wire::got::GotSpan;
+use wire::got::GotU8;
+use wire::qos;
+use wire::qos::GotQos;
+use wire::string;
+ghost use mathlib.Core.Path.{_≡_};
+ghost use Prim.Native.Nat.{_%_};
+ghost use lib.ListN.{length, drop};
+ghost use Rattle.reading.specs.Read.{filterOf};
+ghost use Rattle.reading.specs.Place.{asPlaces, filterAt};
+ghost use Rattle.positions.specs.Position.{fromAt};
+ghost use Rattle.records.specs.Told.{toldBool, toldSpan};
+ghost use Rattle.records.specs.Answered.{toldFilterItem};
+ghost use Rattle.subscribe.specs.Told.{toldGotRule, ruleOf, toldGotFilter, optionsOf, toldGotFilters, placeFit, chosen, nthFit};
+
+// A filter and the index after it.
+pub enum GotFilter {
+    Value(Filter, usize),
+    Refused(Error),
+}
+
+// Where a run of filters stands.
+pub enum GotFilters {
+    Place(Span),
+    Refused(Error),
+}
+
+enum GotRule {
+    Value(RetainForwardRule),
+    Refused(Error),
+}
+
+// The lowest bit.
+fn odd(n: u8) -> bool
+    ensures { λ r. ⌜ toldBool r ≡ n % 2 ⌝ }
+{
+    n % 2 == 1
+}
+
+// A number as a forward rule, or refusal 14.
+fn retain_forward_rule(num: u8) -> GotRule
+    ensures { λ r. ⌜ toldGotRule r ≡ ruleOf num ⌝ }
+{
+    match num {
+        0 => GotRule::Value(RetainForwardRule::OnEverySubscribe),
+        1 => GotRule::Value(RetainForwardRule::OnNewSubscribe),
+        2 => GotRule::Value(RetainForwardRule::Never),
+        3..=255 => GotRule::Refused(Error::InvalidRetainForwardRule(num)),
+    }
+}
+
+// The filter of a text and its options byte, which ends at `next`: the forward rule before QoS; bits 6 and 7 are ignored.
+fn with_options(path: Span, options: u8, next: usize) -> GotFilter
+    ensures { λ r. ⌜ toldGotFilter r ≡ optionsOf (toldSpan path) options next ⌝ }
+{
+    match retain_forward_rule(options / 16 % 4) {
+        GotRule::Refused(e) => GotFilter::Refused(e),
+        GotRule::Value(retain_forward_rule) => match qos::qos(options % 4) {
+            GotQos::Refused(e) => GotFilter::Refused(e),
+            GotQos::Value(qos) => GotFilter::Value(
+                Filter {
+                    path,
+                    qos,
+                    nolocal: odd(options / 4),
+                    preserve_retain: odd(options / 8),
+                    retain_forward_rule,
+                },
+                next,
+            ),
+        },
+    }
+}
+
+pub fn read_filter(s: &[u8], at: usize) -> GotFilter
+    ensures { λ r. ⌜ toldGotFilter r ≡ fromAt (filterOf asPlaces (length (now (s .entry)))) (now (s .entry)) at ⌝ }
+{
+    match string::read_mqtt_string(s, at) {
+        GotSpan::Refused(e) => GotFilter::Refused(e),
+        GotSpan::Value(path, end) => match fixed::read_u8(s, end) {
+            GotU8::Refused(e) => GotFilter::Refused(e),
+            GotU8::Value(options, next) => with_options(path, options, next),
+        },
+    }
+}
+
+// One filter or more, to the end.
+pub fn read_filters(s: &[u8], at: usize) -> GotFilters
+    ensures { λ r. ⌜ toldGotFilters r ≡ placeFit (length (now (s .entry))) (drop at (now (s .entry))) ⌝ }
+{
+    if s.len() <= at {
+        return GotFilters::Refused(Error::EmptySubscription);
+    }
+    let mut i = at;
+    while i < s.len() {
+        match read_filter(s, i) {
+            GotFilter::Refused(e) => return GotFilters::Refused(e),
+            GotFilter::Value(_, next) => {
+                i = next;
+            }
+        }
+    }
+    GotFilters::Place(Span {
+        start: at,
+        len: s.len() - at,
+    })
+}
+
+// The filter f if its turn is n, else what was there.
+fn choose(item: FilterItem, f: Filter, turn: usize, n: usize) -> FilterItem
+    ensures { λ r. ⌜ toldFilterItem r ≡ chosen item f turn n ⌝ }
+{
+    if turn == n {
+        FilterItem::Filter(f)
+    } else {
+        item
+    }
+}
+
+// The n-th filter of the run from `at` to the end; a fault after it refuses too.
+fn nth(s: &[u8], at: usize, n: usize) -> FilterItem
+    ensures { λ r. ⌜ toldFilterItem r ≡ nthFit n (length (now (s .entry))) (drop at (now (s .entry))) ⌝ }
+{
+    let mut item = FilterItem::NoItem;
+    let mut turn: usize = 0;
+    let mut i = at;
+    while i < s.len() {
+        match read_filter(s, i) {
+            GotFilter::Refused(_) => return FilterItem::NoItem,
+            GotFilter::Value(f, next) => {
+                item = choose(item, f, turn, n);
+                turn = turn + 1;
+                i = next;
+            }
+        }
+    }
+    item
+}
+
+// The n-th filter of the run at a place, n from 0; any bytes, any place.
+pub fn filter(s: &[u8], p: Span, n: usize) -> FilterItem
+    ensures { λ r. ⌜ toldFilterItem r ≡ filterAt asPlaces (now (s .entry)) (toldSpan p) n ⌝ }
+{
+    let start = p.start;
+    let len = p.len;
+    if s.len() < start {
+        return FilterItem::NoItem;
+    }
+    if s.len() - start < len {
+        return FilterItem::NoItem;
+    }
+    let end = start + len;
+    nth(&s[..end], start, n)
+}

@@ -1,0 +1,42 @@
+// Subscribe, after `Subscribe::read` of subscribe.rs: the fields of a frame from an index to the end of the slice.
+use crate::filter::GotFilters;
+use properties::subscribe;
+use properties::subscribe::GotSubscribeBlock;
+use records::error::Error;
+use records::subscribe::Subscribe;
+use wire::fixed;
+use wire::got::GotU16;
+ghost use mathlib.Core.Path.{_≡_};
+ghost use Prim.Native.Nat.{ℕ};
+ghost use lib.ListN.{length, drop};
+ghost use Rattle.grammar.specs.Tables.{aSubscribe};
+ghost use Rattle.reading.specs.Read.{fieldsFit};
+ghost use Rattle.reading.specs.Place.{asPlaces};
+ghost use Rattle.subscribe.specs.Told.{toldGotSubscribe};
+
+pub mod filter;
+
+pub enum GotSubscribe {
+    Value(Subscribe),
+    Refused(Error),
+}
+
+// Whatever the first byte x of the frame: its flags are ignored.
+pub fn read(s: &[u8], at: usize) -> GotSubscribe
+    ensures { λ r. ⌜ ((x : ℕ) → toldGotSubscribe r ≡ fieldsFit asPlaces aSubscribe x (length (now (s .entry))) (drop at (now (s .entry)))) ⌝ }
+{
+    match fixed::read_u16(s, at) {
+        GotU16::Refused(e) => GotSubscribe::Refused(e),
+        GotU16::Value(pkid, next) => match subscribe::read_subscribe_block(s, next) {
+            GotSubscribeBlock::Refused(e) => GotSubscribe::Refused(e),
+            GotSubscribeBlock::Value(properties, start) => match filter::read_filters(s, start) {
+                GotFilters::Refused(e) => GotSubscribe::Refused(e),
+                GotFilters::Place(filters) => GotSubscribe::Value(Subscribe {
+                    pkid,
+                    filters,
+                    properties,
+                }),
+            },
+        },
+    }
+}
