@@ -1,0 +1,37 @@
+-- What is added up of a stream that is read frame after frame. Assumes nothing.
+use mathlib.Core.Option.{none}
+use mathlib.Core.List.{List, [], _∷_}
+use Prim.Native.Nat.{ℕ, _+_, _%_, _^_}
+use lib.ListN.{drop}
+use Rattle.grammar.specs.Record.{publish, ack, subscribe, ping}
+use Rattle.reading.specs.Refusal.{Answer, accepted, refused}
+use Rattle.reading.specs.Place.{Placed, readPlacedOf}
+
+-- in 64 bits
+abbrev pub wrapped : ℕ → ℕ → ℕ
+wrapped a b = (a + b) % 2 ^ 64
+
+-- the lengths of topic and payload of a Publish
+abbrev pub weightOf : Placed → ℕ
+weightOf (publish m) = wrapped (m .topic .len) (m .payload .len)
+weightOf (ack k m) = 0
+weightOf (subscribe m) = 0
+weightOf (ping k) = 0
+
+-- what is added for a packet of n bytes
+abbrev pub counted : ℕ → Placed → ℕ → ℕ
+counted sum p n = wrapped (wrapped sum (weightOf p)) n
+
+-- the first refusal ends the sum
+abbrev pub afterAnswer : Answer Placed → ℕ → (Placed → ℕ → ℕ) → ℕ
+afterAnswer (accepted p n) sum more = more p n
+afterAnswer (refused k vs n) sum more = sum
+
+-- the frames of s, beside what came before; the first list bounds their number
+unfoldable pub sumFrom : List ℕ → ℕ → List ℕ → ℕ
+sumFrom [] sum s = sum
+sumFrom (y ∷ f) sum s = afterAnswer (readPlacedOf none s) sum (λ p n. sumFrom f (counted sum p n) (drop n s))
+
+-- a stream has no more frames than bytes
+unfoldable pub sumOf : List ℕ → ℕ
+sumOf s = sumFrom s 0 s
