@@ -7,8 +7,8 @@ use records::answer::Limit;
 use records::error;
 use records::error::Error;
 use records::packet::Packet;
-use records::puback;
 use records::puback::PubAck;
+use records::puback::reason_code;
 use records::publish::MaybePublishProperties;
 use records::publish::Publish;
 use records::qos;
@@ -150,7 +150,7 @@ fn subscribe_of(s: &[u8], m: Subscribe) {
 
 fn puback_of(m: PubAck) {
     let reason = m.reason;
-    let code = byte(puback::reason_code(reason));
+    let code = byte(reason_code(reason));
     if code == 0 {
         io::write_all(1, b"success");
     } else {
