@@ -2,7 +2,6 @@
 use std::num;
 use wire::got::GotU32;
 use wire::length;
-use wire::text;
 ghost use mathlib.Core.Path.{_≡_};
 ghost use Rattle.reading.specs.Refusal.{cut};
 ghost use Rattle.reading.specs.Read.{isText, numOf};
@@ -14,7 +13,7 @@ ghost use Rattle.leaf_bench.specs.Numbers.{valueOf, nextOf, sumOf};
 pub extern "C" fn leaf_bench_is_utf8(s: &[u8]) -> bool
     ensures { λ r. ⌜ r ≡ isText (now (s .entry)) ⌝ }
 {
-    text::is_utf8(s)
+    utf8::is_utf8(s)
 }
 
 // The index after the variable length number at `at`, whose value is stored; 0, and nothing is stored, if there is none.
