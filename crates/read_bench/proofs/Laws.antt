@@ -6,11 +6,10 @@ use Prim.Native.Nat.{ℕ, _+_, _-_, _≤_, _<_}
 use native.Mathlib.Omega.{arith}
 use lib.ListN.{length, take, drop, length-drop, drop-of-length-le}
 use lib.Seq.{take-all, drop-drop}
-use Rattle.reading.specs.Refusal.{Refusal, nr, accepted, refused}
+use Rattle.reading.specs.Refusal.{Refusal, nr, accepted, refused, refusedAs}
 use Rattle.reading.specs.Reader.{Fit, got, bad, thenOf}
 use Rattle.reading.specs.Read.{byteOf, frameOf, bodyAnswer, bodyFit, wholeAnswer, frameAnswer, readAs}
 use Rattle.reading.specs.Place.{asPlaces, Placed, readPlacedOf}
-use Rattle.records.specs.Answered.{withTaken}
 use Rattle.reading.proofs.Reading.{less, solid-then}
 use Rattle.reading.proofs.Fields.{byte-solid}
 use Rattle.reading.proofs.Demand.{no-accept, reads-length, reads-frame}
@@ -71,7 +70,7 @@ module _ {s : List ℕ} {sum at : ℕ} (q : Summed s sum at) where
   pub all-summed : length s ≤ at → sum ≡ sumOf s
   all-summed h = sym (q .rest ∙ rw (drop-of-length-le s h, none-taken (q .bound) sum))
 
-  pub last-summed : (k : Refusal) (n : ℕ) → withTaken k n ≡ readPlacedOf none (partFrom s at) → sum ≡ sumOf s
+  pub last-summed : (k : Refusal) (n : ℕ) → refusedAs k n ≡ readPlacedOf none (partFrom s at) → sum ≡ sumOf s
   unfolding sumFrom
   last-summed (nr k vs) n e = sym (q .rest ∙ go (q .bound))
     where
