@@ -1,14 +1,12 @@
--- What is promised of an answer of `packet::read`: the contract that it meets, what it says, and what its parts hold. Assumes nothing.
+-- The contract that an answer of `packet::read` meets, and what the parts of its record are to hold. Assumes nothing.
 use mathlib.Core.Path.{_≡_}
 use mathlib.Core.Option.{Option, none, some}
 use mathlib.Core.List.{List, []}
 use Prim.Native.Nat.{ℕ}
-use Rattle.grammar.specs.Record.{Val, num, str, duo}
+use Rattle.grammar.specs.Record.{num, str, duo}
 use Rattle.grammar.specs.Record as record-of
-use Rattle.grammar.specs.Sentence.{Value, Packet}
-use Rattle.reading.specs.Refusal.{Answer}
-use Rattle.reading.specs.Reader.{got}
-use Rattle.reading.specs.Place.{heldOf, readPlacedOf, sayAnswer}
+use Rattle.grammar.specs.Sentence.{Value}
+use Rattle.reading.specs.Place.{heldOf, readPlacedOf}
 use Rattle.records.specs.Told.{limitOf, toldSpan}
 use Rattle.records.specs.Answered.{told}
 use Rattle.records.specs.declared.answer.Limit.{Limit}
@@ -22,10 +20,6 @@ use Rattle.publish.specs.Told as publish
 -- the contract of `packet::read`, of the answer r to the stream s
 abbrev pub Meets : Limit → List ℕ → Read → Type 0
 Meets limit s r = told r ≡ readPlacedOf (limitOf limit) s
-
--- the answer r says a, once each of its places is looked up in s
-abbrev pub Says : List ℕ → Read → Answer Packet → Type 0
-Says s r a = sayAnswer s (told r) ≡ got a
 
 -- ---- parts
 
