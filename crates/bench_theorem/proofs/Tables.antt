@@ -1,9 +1,8 @@
 -- The length spellings of 01, and each bound of each row of the Unicode table, by computation. Assumes nothing.
 use mathlib.Core.Path.{_≡_, refl}
-use mathlib.Core.Bool.{Bool, true, false}
-use mathlib.Core.Option.{Option, none, some}
+use mathlib.Core.Bool.{true, false}
 use mathlib.Core.List.{List, [], _∷_, map}
-use Prim.Native.Nat.{ℕ, zero, suc}
+use Prim.Native.Nat.{ℕ}
 use Rattle.grammar.specs.Text.{rows}
 use Rattle.reading.specs.Refusal.{cut}
 use Rattle.reading.specs.Reader.{got, noneOf, neverOf, mapOf, onlyOf, thenOf, runFit, chainFit}

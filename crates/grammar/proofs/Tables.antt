@@ -8,7 +8,7 @@ use Rattle.grammar.specs.Choice.{pick, or, isIn, lookup}
 use Rattle.grammar.specs.Tables.{u8, u16, u32, number, text, bytes, pair, publishPlace, subscribePlace, ackPlace, reasons, Layout, aPublish, anAck, aSubscribe, aPing, kinds, reserved, isPing}
 
 -- k numbers from n on
-abbrev count : ℕ → ℕ → List ℕ
+abbrev pub count : ℕ → ℕ → List ℕ
 count zero n = []
 count (suc k) n = n ∷ count k (suc n)
 
@@ -22,7 +22,7 @@ known f [] = []
 known f (i ∷ l) = entry i (f i) (known f l)
 
 -- those of the numbers that pass the test
-abbrev chosen : (ℕ → Bool) → List ℕ → List ℕ
+abbrev pub chosen : (ℕ → Bool) → List ℕ → List ℕ
 chosen t [] = []
 chosen t (i ∷ l) = pick (t i) (i ∷ chosen t l) (chosen t l)
 

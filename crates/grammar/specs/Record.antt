@@ -124,21 +124,45 @@ pub data PacketOf (S : Type 0) (L : Type 0 → Type 0) : Type 0 where
 abbrev pub kindOf : ℕ → ℕ
 kindOf x = x / 16
 
--- 01, grammar, Publish: "QoS (6)"
+-- 01, grammar, Publish: "flags are dup (8), QoS (6), retain (1)"
+abbrev pub flagDup : ℕ → ℕ
+flagDup x = x / 8 % 2
+
+-- the same: bits 1 and 2
 abbrev pub flagQos : ℕ → ℕ
 flagQos x = x / 2 % 4
 
--- 01, grammar, Publish: "flags are dup (8), QoS (6), retain (1)"; topic, identifier, block, payload
+-- the same: bit 0
+abbrev pub flagRetain : ℕ → ℕ
+flagRetain x = x % 2
+
+-- 01, grammar, Subscribe: "QoS bits 0-1, no-local 2, preserve-retain 3, forward rule 4-5, 6-7 ignored"; o is the options byte
+abbrev pub optionQos : ℕ → ℕ
+optionQos o = o % 4
+
+-- the same: bit 2
+abbrev pub optionNoLocal : ℕ → ℕ
+optionNoLocal o = o / 4 % 2
+
+-- the same: bit 3
+abbrev pub optionPreserve : ℕ → ℕ
+optionPreserve o = o / 8 % 2
+
+-- the same: bits 4 and 5
+abbrev pub optionRule : ℕ → ℕ
+optionRule o = o / 16 % 4
+
+-- 01, grammar, Publish: topic, identifier, block, payload
 abbrev pub mkPublish : {S : Type 0} {L : Type 0 → Type 0} → ℕ → S × (ℕ × (Option (PublishProps S L) × S)) → PacketOf S L
-mkPublish x v = publish (record { dup = x / 8 % 2; qos = flagQos x; retain = x % 2; topic = v .0; ident = v .1 .0; props = v .1 .1 .0; payload = v .1 .1 .1 })
+mkPublish x v = publish (record { dup = flagDup x; qos = flagQos x; retain = flagRetain x; topic = v .0; ident = v .1 .0; props = v .1 .1 .0; payload = v .1 .1 .1 })
 
 -- 01, grammar, PubAck: identifier, reason, block
 abbrev pub mkAck : {S : Type 0} {L : Type 0 → Type 0} → ℕ → ℕ × (ℕ × Option (AckProps S L)) → PacketOf S L
 mkAck x v = ack (kindOf x) (record { ident = v .0; reason = v .1 .0; props = v .1 .1 })
 
--- 01, grammar, Subscribe: "QoS bits 0-1, no-local 2, preserve-retain 3, forward rule 4-5, 6-7 ignored"
+-- 01, grammar, Subscribe: "text, then an options byte"
 abbrev pub mkFilter : {S : Type 0} → S × ℕ → Filter S
-mkFilter v = record { path = v .0; qos = v .1 % 4; noLocal = v .1 / 4 % 2; preserve = v .1 / 8 % 2; rule = v .1 / 16 % 4 }
+mkFilter v = record { path = v .0; qos = optionQos (v .1); noLocal = optionNoLocal (v .1); preserve = optionPreserve (v .1); rule = optionRule (v .1) }
 
 -- 01, grammar, Subscribe: identifier, block, filters
 abbrev pub mkSubscribe : {S : Type 0} {L : Type 0 → Type 0} → ℕ × (Option (SubscribeProps S L) × L (Filter S)) → PacketOf S L

@@ -3,14 +3,14 @@ use mathlib.Core.Path.{_≡_}
 use mathlib.Core.Bool.{Bool, true, not}
 use mathlib.Core.Option.{Option, none, some}
 use mathlib.Core.List.{List, [], _∷_}
-use Prim.Native.Nat.{ℕ, zero, suc, _/_, _%_}
+use Prim.Native.Nat.{ℕ, zero, suc}
 use lib.Dec.{eqb, leb}
 use Rattle.grammar.specs.Choice.{isIn, lookup, isEmpty}
 use Rattle.grammar.specs.Number.{Byte, Big, Spells}
 use Rattle.grammar.specs.Text.{Utf8}
 use Rattle.grammar.specs.Gram.{Gram, Nothing, Map, Only, Then, Sized, Many, Is}
 use Rattle.grammar.specs.Tables.{Form, u8, u16, u32, number, text, bytes, pair, Place, publishPlace, subscribePlace, ackPlace, Layout, aPublish, anAck, aSubscribe, aPing, kinds}
-use Rattle.grammar.specs.Record.{Val, num, str, duo, unlessEmpty, PublishProps, publishProps, SubscribeProps, subscribeProps, AckProps, ackProps, Filter, PacketOf, kindOf, flagQos, mkPublish, mkAck, mkFilter, mkSubscribe, mkPing}
+use Rattle.grammar.specs.Record.{Val, num, str, duo, unlessEmpty, PublishProps, publishProps, SubscribeProps, subscribeProps, AckProps, ackProps, Filter, PacketOf, kindOf, flagQos, optionQos, optionRule, mkPublish, mkAck, mkFilter, mkSubscribe, mkPing}
 
 -- ---- strings
 
@@ -95,13 +95,13 @@ publishGood x v = notThree (flagQos x)
 
 -- ---- Subscribe
 
--- 01, grammar: "QoS 3, in .. options": bits 0-1
+-- 01, grammar: "QoS 3, in .. options"
 abbrev pub qosFine : ℕ → Bool
-qosFine o = notThree (o % 4)
+qosFine o = notThree (optionQos o)
 
--- 01, grammar: "forward rule 3": bits 4-5
+-- 01, grammar: "forward rule 3 stand[s] in no sentence"
 abbrev pub ruleFine : ℕ → Bool
-ruleFine o = notThree (o / 16 % 4)
+ruleFine o = notThree (optionRule o)
 
 -- 01, grammar, Subscribe: "text, then an options byte"
 abbrev pub FilterOf : Filter (List ℕ) → List ℕ → Type 0
@@ -141,7 +141,7 @@ pub data Body (x : ℕ) : Packet → List ℕ → Type 0 where
 abbrev pub Frame : Gram ℕ → ℕ × List ℕ → List ℕ → Type 0
 Frame N = Then Byte (λ _. Sized N (Is Any))
 
--- a frame whose R bytes are the fields of its kind
+-- 01, grammar: a frame whose R bytes are the fields of its kind
 pub data Framed (N : Gram ℕ) : Packet → List ℕ → Type 0 where
   framed : {x : ℕ} {v : Packet} {b c : List ℕ} → Frame N (x, b) c → Body x v b → Framed N v c
 

@@ -29,7 +29,7 @@ ackPlace = (31, text) ∷ (38, pair) ∷ []
 unfoldable pub reasons : List ℕ
 reasons = 0x00 ∷ 0x10 ∷ 0x80 ∷ 0x83 ∷ 0x87 ∷ 0x90 ∷ 0x91 ∷ 0x97 ∷ 0x99 ∷ []
 
--- how the R bytes of a frame are laid out; an acknowledgement by the reasons that it may give
+-- 01, grammar, from Publish on: how the R bytes of a frame are laid out; an acknowledgement by the reasons that it may give
 pub data Layout : Type 0 where
   aPublish : Layout
   anAck : List ℕ → Layout

@@ -8,22 +8,23 @@ use Rattle.grammar.specs.Choice.{pick}
 use Rattle.grammar.specs.Gram.{Nothing, Never, Map, Only, Then, Many}
 use Rattle.grammar.specs.Number.{Byte}
 
--- the least and the greatest byte
+-- Unicode, table 3-7: a cell, the least and the greatest byte
 abbrev pub Range : Type 0
 Range = ℕ × ℕ
 
--- whether x is one of them
+-- x lies in the cell
 abbrev pub inRange : Range → ℕ → Bool
 inRange r x = pick (leb (r .0) x) (leb x (r .1)) false
 
--- the first byte, and the bytes after it
+-- Unicode, table 3-7: a row, the first byte and the bytes after it
 abbrev pub Row : Type 0
 Row = Range × List Range
 
+-- Unicode, table 3-7: the cell 80..BF, which most rows end with
 abbrev tail : Range
 tail = (0x80, 0xBF)
 
--- 01: "Unicode table of well-formed sequences" (Unicode, table 3-7)
+-- 01, grammar: "Unicode table of well-formed sequences" (Unicode, table 3-7), row by row
 unfoldable pub rows : List Row
 rows =
     ((0x00, 0x7F), [])
@@ -37,29 +38,29 @@ rows =
     ∷ ((0xF4, 0xF4), (0x80, 0x8F) ∷ tail ∷ tail ∷ [])
     ∷ []
 
--- the row of a first byte
+-- Unicode, table 3-7: what the row of a first byte asks for after it
 abbrev pub rowAt : List Row → ℕ → Option (List Range)
 rowAt [] x = none
 rowAt (r ∷ rs) x = pick (inRange (r .0) x) (some (r .1)) (rowAt rs x)
 
--- a byte, and those after it
+-- a byte before others
 abbrev pub cons : ℕ × List ℕ → List ℕ
 cons p = p .0 ∷ p .1
 
--- a byte in each range
+-- Unicode, table 3-7: a byte in each cell
 abbrev pub Follow : List Range → List ℕ → List ℕ → Type 0
 Follow [] = Nothing []
 Follow (r ∷ rs) = Map cons (Then (Only (inRange r) Byte) (λ _. Follow rs))
 
--- a first byte of no row begins no character
+-- Unicode, table 3-7: a first byte of no row begins no character
 abbrev pub Rest : Option (List Range) → List ℕ → List ℕ → Type 0
 Rest none = Never
 Rest (some rs) = Follow rs
 
--- a byte, and the bytes that its row asks for
+-- Unicode: a character, a first byte and the bytes that its row asks for
 abbrev pub Char : List ℕ → List ℕ → Type 0
 Char = Map cons (Then Byte (λ x. Rest (rowAt rows x)))
 
--- the bytes are characters, one after the other
+-- 01, grammar: "text must be UTF-8": the bytes are characters, one after the other
 abbrev pub Utf8 : List ℕ → Type 0
 Utf8 b = (cs : List (List ℕ)) × Many Char cs b

@@ -10,7 +10,7 @@ use lib.Seq.{drop-cons, length-take-le}
 use Rattle.grammar.specs.Choice.{or, isEmpty}
 use Rattle.grammar.specs.Tables.{Layout, aPing, isPing}
 use Rattle.grammar.specs.Record.{ping, kindOf}
-use Rattle.reading.specs.Refusal.{Refusal, nr, accepted}
+use Rattle.reading.specs.Refusal.{Refusal, nr, accepted, refusedAs}
 use Rattle.reading.specs.Reader.{Fit, got, bad, _>>_, guard, mapFit, isFit}
 use Rattle.reading.specs.Read.{frameOf, fieldsFit, layoutFit, bodyFit, bodyAnswer, wholeAnswer, frameAnswer, readAs, readOf}
 use Rattle.reading.specs.Place.{asPlaces, Placed, readPlacedOf, sayAnswer}
@@ -18,7 +18,7 @@ use Rattle.reading.proofs.Reading.{got-inj}
 use Rattle.reading.proofs.Faults.{answered}
 use Rattle.reading.proofs.Places.{placed-says}
 use Rattle.records.specs.Told.{toldError}
-use Rattle.records.specs.Answered.{withTaken, told}
+use Rattle.records.specs.Answered.{told}
 use Rattle.records.specs.declared.answer.Read.{Read}
 use Rattle.framing.specs.Told.{kindAt, frameAt}
 use Rattle.framing.proofs.Laws.Frame.{checked-within, checked-read, checked-refused}
@@ -78,11 +78,11 @@ left-some s at h = rw (drop-cons s at 0 h)
 -- ---- the answer
 
 -- a refusal with the bytes taken
-with-taken : (k : Refusal) (n : ℕ) → withTaken {A = Placed} k n ≡ bodyAnswer n (bad k)
+with-taken : (k : Refusal) (n : ℕ) → refusedAs {A = Placed} k n ≡ bodyAnswer n (bad k)
 unfolding bodyAnswer
 with-taken (nr k vs) n = refl
 
-pub answer-none : (limit : Option ℕ) (s : List ℕ) (k : Refusal) → bad k ≡ frameAt limit s → withTaken k 0 ≡ readPlacedOf limit s
+pub answer-none : (limit : Option ℕ) (s : List ℕ) (k : Refusal) → bad k ≡ frameAt limit s → refusedAs k 0 ≡ readPlacedOf limit s
 answer-none limit s (nr k vs) e = sym (checked-refused limit s asPlaces k vs e)
 
 -- a frame of l bytes from index m on
@@ -109,12 +109,12 @@ module _ (limit : Option ℕ) (s : List ℕ) (x l m : ℕ) (e : got ((x, take l 
     unfolding bodyAnswer
     answer-got v i = answer-whole (got v) i
 
-    pub answer-bad : (k : Refusal) → bad k ≡ bodyFit asPlaces x (length (take n s)) (drop m (take n s)) → withTaken k n ≡ readPlacedOf limit s
+    pub answer-bad : (k : Refusal) → bad k ≡ bodyFit asPlaces x (length (take n s)) (drop m (take n s)) → refusedAs k n ≡ readPlacedOf limit s
     answer-bad k i = with-taken k n ∙ answer-whole (bad k) i
 
 -- ---- no more bytes are taken than there are
 
-taken-told : (k : Refusal) (n : ℕ) → takenIn {A = Placed} (withTaken k n) ≡ n
+taken-told : (k : Refusal) (n : ℕ) → takenIn {A = Placed} (refusedAs k n) ≡ n
 taken-told (nr k vs) n = refl
 
 -- what an answer takes is what it tells

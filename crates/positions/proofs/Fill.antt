@@ -1,12 +1,11 @@
 -- Readers one after the other at an index of a slice, and what fills the rest: how a reader in code goes on, field by field. Assumes nothing.
-use mathlib.Core.Path.{_≡_, refl, sym, ap, _∙_}
-use mathlib.Core.Bool.{Bool, true, false}
-use mathlib.Core.List.{List, [], _∷_, _++_}
-use Prim.Native.Nat.{ℕ, _+_, _-_, _≤_}
+use mathlib.Core.Path.{_≡_, refl}
+use mathlib.Core.List.{List}
+use Prim.Native.Nat.{ℕ, _-_, _≤_}
 use native.Mathlib.Omega.{arith}
-use lib.ListN.{length, take, drop, length-drop}
+use lib.ListN.{length, drop, length-drop}
 use Rattle.reading.specs.Refusal.{Refusal}
-use Rattle.reading.specs.Reader.{Fit, got, bad, Reader, Filler, _>>=_, _>>_, mapOf, thenOf, thenFit}
+use Rattle.reading.specs.Reader.{Fit, got, bad, Reader, Filler, _>>=_, mapOf, thenOf, thenFit}
 use Rattle.positions.specs.Position.{fromAt}
 use Rattle.positions.proofs.Trails.{Trails}
 use Rattle.positions.proofs.Position.{got-left, got-within, bad-left}

@@ -1,10 +1,10 @@
 -- What a reader leaves is an end of what it was given: one law for each way to build a reader, and so of every reader, whatever strings
 -- are handed back as. Assumes nothing.
-use mathlib.Core.Path.{_≡_, refl, sym, ap, _∙_}
+use mathlib.Core.Path.{_≡_, refl, sym, _∙_}
 use mathlib.Core.Bool.{Bool}
 use mathlib.Core.Option.{Option, none, some}
 use mathlib.Core.List.{List, [], _∷_, _++_, append-assoc}
-use Prim.Native.Nat.{ℕ, zero, suc, _-_}
+use Prim.Native.Nat.{ℕ, _-_}
 use lib.Dec.{leb}
 use lib.ListN.{length, take, drop, take-append-drop}
 use Rattle.grammar.specs.Choice.{lookup}

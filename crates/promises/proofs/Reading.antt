@@ -9,24 +9,25 @@ use lib.ListN.{length}
 use Rattle.grammar.specs.Choice.{isIn}
 use Rattle.grammar.specs.Number.{Spells}
 use Rattle.grammar.specs.Sentence.{Packet, Frame, Sentence, ShortSentence}
-use Rattle.reading.specs.Refusal.{Refusal, nr, Answer, accepted, refused}
+use Rattle.reading.specs.Refusal.{Refusal, nr, Answer, accepted, refused, refusedAs}
 use Rattle.reading.specs.Reader.{Fit, got, bad}
 use Rattle.reading.specs.Read.{readOf}
 use Rattle.reading.specs.Place.{asPlaces, Placed, onGot, say, sayAnswer, Items}
-use Rattle.reading.specs.Rows.{insufficient, malformed, exceeded, invalid, required, notCarried, Given, Breaks, Above, lacks}
+use Rattle.reading.specs.Rows.{Above, insufficient, malformed, exceeded, invalid, required, notCarried, Given, Breaks, lacks}
+use Rattle.reading.specs.Demand.{Begins, Taken}
 use Rattle.reading.proofs.Reading.{bad-got, got-inj}
-use Rattle.reading.proofs.Demand.{Begins, no-accept}
+use Rattle.reading.proofs.Demand.{no-accept}
 use Rattle.reading.proofs.Places.{placed-refused}
-use Rattle.reading.proofs.Rows.{row-1, row-2, row-3, row-4, row-5, row-6, row-2-inside, field-rows, Taken}
+use Rattle.reading.proofs.Rows.{row-1, row-2, row-3, row-4, row-5, row-6, field-rows, row-2-inside}
 use Rattle.reading.proofs.Theorems as reading
 use Rattle.records.specs.Told.{toldError, rowOf, valuesOf, limitOf}
 use Rattle.records.specs.Said.{toldPacket}
-use Rattle.records.specs.Answered.{withTaken, told}
+use Rattle.records.specs.Answered.{told}
+use Rattle.records.proofs.Answered.{read-injective}
 use Rattle.records.specs.declared.answer.Limit.{Limit}
 use Rattle.records.specs.declared.answer.Read.{Read}
 use Rattle.records.specs.declared.error.Error.{Error}
 use Rattle.records.specs.declared.packet.Packet as code
-use Rattle.records.proofs.Answered.{read-injective}
 use Rattle.packet.specs.Told.{takenBy, Says, Judged}
 use Rattle.packet.proofs.Laws as packet
 use Rattle.promises.specs.Reading.{Meets}
@@ -36,7 +37,7 @@ both : {A B C : Type 0} → A ↔ B → B ↔ C → A ↔ C
 both f g = (λ a. g .0 (f .0 a), λ c. f .1 (g .1 c))
 
 -- a refusal and the bytes that it takes
-row-of : (k : Refusal) (t : ℕ) → withTaken {A = Placed} k t ≡ refused (rowOf k) (valuesOf k) t
+row-of : (k : Refusal) (t : ℕ) → refusedAs {A = Placed} k t ≡ refused (rowOf k) (valuesOf k) t
 row-of (nr k vs) t = refl
 
 numbered : (k : Refusal) → nr (rowOf k) (valuesOf k) ≡ k
@@ -109,7 +110,7 @@ module _ (limit : Limit) (s : List ℕ) (r : Read) (m : Meets limit s r) where
       rw (numbered k) at (both (refused-as e t) (field-rows (limitOf limit) s (valuesOf k) (rowOf k) t h))
 
   -- no other refusal is given; 0 bytes are taken, or the frame
-  pub takes : (e : Error) (t : ℕ) → r ≡ Read.Refused e t → Taken (limitOf limit) s (valuesOf (toldError e)) (rowOf (toldError e)) t
+  pub takes : (e : Error) (t : ℕ) → r ≡ Read.Refused e t → Taken (limitOf limit) s (rowOf (toldError e)) t
   takes e t i = reading.takes (limitOf limit) s (valuesOf (toldError e)) (rowOf (toldError e)) t (refused-as e t .0 i)
 
   -- ---- an accepted record, its places looked up

@@ -1,3 +1,2 @@
-pub mod Value
 pub mod Fold
 pub mod Block

@@ -1,18 +1,20 @@
 -- The block of each row of 01's table, property by property, and what the answers tell. Assumes nothing.
-use mathlib.Core.Option.{Option, some}
+use mathlib.Core.Bool.{Bool, true, false}
+use mathlib.Core.Option.{Option, none, some}
 use mathlib.Core.List.{List, [], _∷_}
 use Prim.Native.Nat.{ℕ}
 use lib.ListN.{length, drop}
 use Rattle.grammar.specs.Gram.{forget}
 use Rattle.grammar.specs.Tables.{Place, publishPlace, subscribePlace, ackPlace}
-use Rattle.grammar.specs.Record.{Prop, lastFrom, PublishProps, publishProps, SubscribeProps, subscribeProps, AckProps, ackProps}
+use Rattle.grammar.specs.Record.{Val, num, str, Prop, lastFrom, PublishProps, publishProps, SubscribeProps, subscribeProps, AckProps, ackProps}
 use Rattle.reading.specs.Refusal.{cut, crossed}
 use Rattle.reading.specs.Reader.{Fit, got, bad, Reader, sizedOf, foldFit}
 use Rattle.reading.specs.Read.{numOf, anyBytes, stringFit, propertyOf}
 use Rattle.reading.specs.Place.{Span, asPlaces, onGot}
-use Rattle.records.specs.Told.{toldError}
+use Rattle.records.specs.Told.{toldError, toldSpan}
 use Rattle.records.specs.Said.{toldPublishBlock, toldSubscribeBlock, toldPubAckBlock}
 use Rattle.properties.specs.declared.publish.GotPublishBlock.{GotPublishBlock}
+use Rattle.properties.specs.declared.publish.Singles.{Singles}
 use Rattle.properties.specs.declared.puback.GotPubAckBlock.{GotPubAckBlock}
 use Rattle.properties.specs.declared.subscribe.GotSubscribeBlock.{GotSubscribeBlock}
 
@@ -24,7 +26,8 @@ roomOf = sizedOf (numOf cut 4) crossed (stringFit asPlaces anyBytes cut)
 
 -- ---- the record, property by property
 
--- a row of 01's table, and its record: `made p ps` of the properties ps whose block is at p, `more o ps` of ps behind those of o
+-- a row of 01's table, and its record: `made p ps` of the properties ps whose block is at p, `more o ps` of ps behind those of o.
+-- That `more` is `made` property by property is proved (proofs/Laws/Fold, Lawful)
 pub record Row : Type 1 where
   pub place : Place
   pub Props : Type 0
@@ -79,6 +82,25 @@ module _ (w : Row) where
   -- the block at p, which ends where s does: the record, and the index after the block
   unfoldable pub filledAt : List ℕ → Span → Fit (Option (w .Props) × ℕ)
   filledAt s p = onGot (λ o. (some o, length s)) (loopFrom (w .made p []) s (p .start))
+
+-- ---- the single values of a Publish while its block is read
+
+-- 01, table of properties: a value, if it is given
+abbrev pub given : Bool → Val Span → Option (Val Span)
+given true v = some v
+given false v = none
+
+abbrev pub toldSingles : Singles → PublishProps Span (λ A. Span)
+toldSingles p = record {
+  format = given (p .«has_format») (num (p .format));
+  expiry = given (p .«has_expiry») (num (p .expiry));
+  alias = given (p .«has_alias») (num (p .alias));
+  response = given (p .«has_response») (str (toldSpan (p .response)));
+  correlation = given (p .«has_correlation») (str (toldSpan (p .correlation)));
+  user = toldSpan (p .block);
+  subscriptions = toldSpan (p .block);
+  content = given (p .«has_content») (str (toldSpan (p .content)));
+}
 
 -- ---- answers: the properties, if there are any, and the index after the block; or the refusal
 

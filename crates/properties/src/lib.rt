@@ -1,7 +1,5 @@
-// The properties of a packet, after the loops of `read` in publish.rs, subscribe.rs and puback.rs: one property, blocks, and the n-th
-// items of a block.
+// The properties of a packet, after the loops of `read` in publish.rs, subscribe.rs and puback.rs: their blocks.
 mod block;
 pub mod puback;
 pub mod publish;
 pub mod subscribe;
-pub mod value;

@@ -1,9 +1,8 @@
 // The properties of a Publish, after `PublishProperties::read` of publish.rs. Of a property given twice the last counts; the lists are
 // left in the block, whose place the record keeps.
 use crate::block;
-use crate::value;
-use crate::value::GotProperty;
-use crate::value::Value;
+use property_value::GotProperty;
+use property_value::Value;
 use records::error::Error;
 use records::publish::MaybePublishProperties;
 use records::publish::PublishProperties;
@@ -20,13 +19,14 @@ ghost use mathlib.Core.List.{[]};
 ghost use lib.ListN.{length};
 ghost use Rattle.grammar.specs.Choice.{lookup};
 ghost use Rattle.grammar.specs.Tables.{publishPlace};
+ghost use Rattle.grammar.specs.Record.{num, str};
 ghost use Rattle.reading.specs.Read.{blockOf, publishAs};
 ghost use Rattle.reading.specs.Place.{asPlaces};
 ghost use Rattle.positions.specs.Position.{fromAt};
-ghost use Rattle.records.specs.Told.{toldSpan};
+ghost use Rattle.records.specs.Told.{toldSpan, toldU8, toldU16, toldU32, toldString};
 ghost use Rattle.records.specs.Said.{toldPublishProperties};
-ghost use Rattle.properties.specs.Told.{toldValue, formOf};
-ghost use Rattle.properties.specs.Block.{publishRow, applied, filledAt, toldPublishBlockAt};
+ghost use Rattle.property_value.specs.Told.{toldValue, formOf};
+ghost use Rattle.properties.specs.Block.{given, toldSingles, publishRow, applied, filledAt, toldPublishBlockAt};
 
 // The properties, if there are any, and the index after the block; or the refusal.
 pub enum GotPublishBlock {
@@ -34,56 +34,145 @@ pub enum GotPublishBlock {
     Refused(Error),
 }
 
+// The single values so far. The flags stand apart from the values: an enum that holds a place has gaps, and a loop that carries such
+// enums copies the gaps at each turn, which took three times as long.
+struct Singles {
+    response: Span,
+    correlation: Span,
+    content: Span,
+    block: Span,
+    expiry: u32,
+    alias: u16,
+    format: u8,
+    has_format: bool,
+    has_expiry: bool,
+    has_alias: bool,
+    has_response: bool,
+    has_correlation: bool,
+    has_content: bool,
+}
+
+// No property yet, of the block at a place.
+fn none(block: Span) -> Singles
+    ensures { λ r. ⌜ toldSingles r ≡ publishRow .made (toldSpan block) [] ⌝ }
+{
+    Singles {
+        response: block,
+        correlation: block,
+        content: block,
+        block,
+        expiry: 0,
+        alias: 0,
+        format: 0,
+        has_format: false,
+        has_expiry: false,
+        has_alias: false,
+        has_response: false,
+        has_correlation: false,
+        has_content: false,
+    }
+}
+
 // One property more.
-fn apply(p: PublishProperties, k: u8, v: Value) -> PublishProperties
+fn apply(p: Singles, k: u8, v: Value) -> Singles
     requires { ⌜ lookup publishPlace k ≡ some (formOf v) ⌝ }
-    ensures { λ r. ⌜ toldPublishProperties r ≡ applied publishRow (toldPublishProperties p) (k, toldValue v) ⌝ }
+    ensures { λ r. ⌜ toldSingles r ≡ applied publishRow (toldSingles p) (k, toldValue v) ⌝ }
 {
     match v {
-        Value::U8(x) => PublishProperties {
-            payload_format_indicator: MaybeU8::Present(x),
+        Value::U8(x) => Singles {
+            format: x,
+            has_format: true,
             ..p
         },
-        Value::U16(x) => PublishProperties {
-            topic_alias: MaybeU16::Present(x),
+        Value::U16(x) => Singles {
+            alias: x,
+            has_alias: true,
             ..p
         },
-        Value::U32(x) => PublishProperties {
-            message_expiry_interval: MaybeU32::Present(x),
+        Value::U32(x) => Singles {
+            expiry: x,
+            has_expiry: true,
             ..p
         },
         Value::Number(_) => p,
         Value::Text(x) => {
             if k == 8 {
-                return PublishProperties {
-                    response_topic: MaybeSpan::Present(x),
+                return Singles {
+                    response: x,
+                    has_response: true,
                     ..p
                 };
             }
-            PublishProperties {
-                content_type: MaybeSpan::Present(x),
+            Singles {
+                content: x,
+                has_content: true,
                 ..p
             }
         }
-        Value::Bytes(x) => PublishProperties {
-            correlation_data: MaybeSpan::Present(x),
+        Value::Bytes(x) => Singles {
+            correlation: x,
+            has_correlation: true,
             ..p
         },
         Value::Pair(_, _) => p,
     }
 }
 
-// No property yet, of the block at a place.
-fn none(block: Span) -> PublishProperties
-    ensures { λ r. ⌜ toldPublishProperties r ≡ publishRow .made (toldSpan block) [] ⌝ }
+fn maybe_u8(on: bool, x: u8) -> MaybeU8
+    ensures { λ r. ⌜ toldU8 r ≡ given on (num x) ⌝ }
 {
+    if on {
+        MaybeU8::Present(x)
+    } else {
+        MaybeU8::Absent
+    }
+}
+
+fn maybe_u16(on: bool, x: u16) -> MaybeU16
+    ensures { λ r. ⌜ toldU16 r ≡ given on (num x) ⌝ }
+{
+    if on {
+        MaybeU16::Present(x)
+    } else {
+        MaybeU16::Absent
+    }
+}
+
+fn maybe_u32(on: bool, x: u32) -> MaybeU32
+    ensures { λ r. ⌜ toldU32 r ≡ given on (num x) ⌝ }
+{
+    if on {
+        MaybeU32::Present(x)
+    } else {
+        MaybeU32::Absent
+    }
+}
+
+fn maybe_span(on: bool, p: Span) -> MaybeSpan
+    ensures { λ r. ⌜ toldString r ≡ given on (str (toldSpan p)) ⌝ }
+{
+    if on {
+        MaybeSpan::Present(p)
+    } else {
+        MaybeSpan::Absent
+    }
+}
+
+// The record of the values so far.
+fn made(p: Singles) -> PublishProperties
+    ensures { λ r. ⌜ toldPublishProperties r ≡ toldSingles p ⌝ }
+{
+    let response = p.response;
+    let correlation = p.correlation;
+    let content = p.content;
+    let block = p.block;
     PublishProperties {
-        payload_format_indicator: MaybeU8::Absent,
-        message_expiry_interval: MaybeU32::Absent,
-        topic_alias: MaybeU16::Absent,
-        response_topic: MaybeSpan::Absent,
-        correlation_data: MaybeSpan::Absent,
-        content_type: MaybeSpan::Absent,
+        payload_format_indicator: maybe_u8(p.has_format, p.format),
+        message_expiry_interval: maybe_u32(p.has_expiry, p.expiry),
+        topic_alias: maybe_u16(p.has_alias, p.alias),
+        response_topic: maybe_span(p.has_response, response),
+        correlation_data: maybe_span(p.has_correlation, correlation),
+        content_type: maybe_span(p.has_content, content),
         block,
     }
 }
@@ -95,7 +184,7 @@ fn fill(s: &[u8], block: Span) -> GotPublishBlock
     let mut p = none(block);
     let mut at = block.start;
     while at < s.len() {
-        match value::read_property(PropertyPlace::Publish, s, at) {
+        match property_value::read_property(PropertyPlace::Publish, s, at) {
             GotProperty::Found(k, v, next) => {
                 p = apply(p, k, v);
                 at = next;
@@ -105,7 +194,8 @@ fn fill(s: &[u8], block: Span) -> GotPublishBlock
             }
         }
     }
-    GotPublishBlock::Value(MaybePublishProperties::Present(p), s.len())
+    let q = made(p);
+    GotPublishBlock::Value(MaybePublishProperties::Present(q), s.len())
 }
 
 pub fn read_publish_block(s: &[u8], at: usize) -> GotPublishBlock

@@ -1,9 +1,8 @@
 // The properties of a Subscribe, after `SubscribeProperties::read` of subscribe.rs. Of an identifier given twice the last counts; the
 // user properties are left in the block, whose place the record keeps.
 use crate::block;
-use crate::value;
-use crate::value::GotProperty;
-use crate::value::Value;
+use property_value::GotProperty;
+use property_value::Value;
 use records::error::Error;
 use records::span::MaybeU32;
 use records::span::Span;
@@ -21,7 +20,7 @@ ghost use Rattle.reading.specs.Place.{asPlaces};
 ghost use Rattle.positions.specs.Position.{fromAt};
 ghost use Rattle.records.specs.Told.{toldSpan};
 ghost use Rattle.records.specs.Said.{toldSubscribeProperties};
-ghost use Rattle.properties.specs.Told.{toldValue, formOf};
+ghost use Rattle.property_value.specs.Told.{toldValue, formOf};
 ghost use Rattle.properties.specs.Block.{subscribeRow, applied, filledAt, toldSubscribeBlockAt};
 
 // The properties, if there are any, and the index after the block; or the refusal.
@@ -59,7 +58,7 @@ fn fill(s: &[u8], block: Span) -> GotSubscribeBlock
     };
     let mut at = block.start;
     while at < s.len() {
-        match value::read_property(PropertyPlace::Subscribe, s, at) {
+        match property_value::read_property(PropertyPlace::Subscribe, s, at) {
             GotProperty::Found(k, v, next) => {
                 p = apply(p, k, v);
                 at = next;

@@ -1,29 +1,25 @@
 -- A read succeeds exactly when the stream begins with a sentence, and its record and length are the only ones. Assumes nothing.
-use mathlib.Core.Path.{_≡_, refl, sym, ap, _∙_}
+use mathlib.Core.Path.{_≡_, refl, ap, _∙_}
 use mathlib.Core.Option.{Option, none, some}
 use mathlib.Core.Logic.{_↔_}
 use mathlib.Core.List.{List, [], _∷_, _++_}
-use Prim.Native.Nat.{ℕ, _+_, _-_}
+use Prim.Native.Nat.{ℕ, _-_}
 use lib.Dec.{leb}
 use native.Mathlib.Omega.{arith}
 use lib.ListN.{length, length-append}
-use Rattle.grammar.specs.Gram.{Gram, Only, only, Sure}
+use Rattle.grammar.specs.Gram.{Gram, Only, only}
 use Rattle.grammar.specs.Number.{Spells}
 use Rattle.grammar.specs.Sentence.{Any, Packet, Frame, Framed, framed, Sentence, ShortSentence}
 use Rattle.reading.specs.Refusal.{nr, accepted, refused, cut, lacking, within, over}
 use Rattle.reading.specs.Reader.{Fit, got, bad, Reader, onlyOf}
 use Rattle.reading.specs.Read.{numOf, anyBytes, Shape, asBytes, frameOf, bodyAnswer, bodyFit, wholeAnswer, frameAnswer, readAs, readOf}
-use Rattle.reading.proofs.Lists.{same-front}
+use Rattle.reading.specs.Demand.{Begins}
 use Rattle.reading.proofs.Reading.{Cut, Reads, reads-only, reads-then, reads-sized, fills-is, reads-iff}
 use Rattle.reading.proofs.Fields.{reads-byte, reads-num, any-fine}
 use Rattle.reading.proofs.Packets.{fills-body}
 
 pub no-accept : {A : Type 0} {k n m : ℕ} {vs : List ℕ} {v : A} → refused k vs n ≡ accepted v m → ⊥
 no-accept e = let z : _≡_ {A = ℕ} 0 1 = cc in omega arith
-
--- s begins with a sentence of n bytes, which says v
-abbrev pub Begins : Gram Packet → List ℕ → Packet → ℕ → Type 0
-Begins G s v n = (b : List ℕ) × (r : List ℕ) × (s ≡ b ++ r) × G v b × (length b ≡ n)
 
 -- ---- under any limit, where N spells the lengths that it lets pass
 
@@ -100,9 +96,3 @@ reads-sentence = reads-framed none free
 -- with a limit, exactly when that sentence has at most so many bytes after its length
 pub reads-short : (m : ℕ) (s : List ℕ) (v : Packet) (n : ℕ) → (readOf (some m) s ≡ accepted v n) ↔ Begins (ShortSentence m) s v n
 reads-short m = reads-framed (some m) (bound m)
-
--- two sentences at the front of one stream are one, with one record
-pub sentence-sure : Sure Sentence
-sentence-sure v v′ b b′ r r′ g g′ e =
-    let i : accepted v (length b) ≡ accepted v′ (length b′) = sym (whole none free v b r g) ∙ ap (readOf none) e ∙ whole none free v′ b′ r′ g′ in
-    (cc, same-front b b′ r r′ (cc) e)

@@ -1,10 +1,10 @@
 -- Each reader refuses just where its bytes have the fault, and every stream has one verdict, which is the reader's answer. Assumes nothing.
 use mathlib.Core.Path.{_≡_, refl, sym, ap, _∙_, subst}
-use mathlib.Core.Bool.{Bool, true, false, not}
+use mathlib.Core.Bool.{true, false, not}
 use mathlib.Core.Option.{Option, none, some}
 use mathlib.Core.Logic.{_↔_}
 use mathlib.Core.List.{List, [], _∷_, _++_}
-use Prim.Native.Nat.{ℕ, zero, suc, _+_, _-_, _/_}
+use Prim.Native.Nat.{ℕ, zero, suc, _-_}
 use native.Mathlib.Omega.{arith}
 use lib.ListN.{length, length-append}
 use Rattle.grammar.specs.Choice.{or, isIn, lookup, isEmpty}
@@ -17,12 +17,12 @@ use Rattle.reading.specs.Refusal.{Refusal, nr, Answer, cut, crossed, lac
 use Rattle.reading.specs.Fault.{Sound, ManyFault, ExactFault, BytesFault, TextFault, ValueFault, PropertyFault, noId, unknown, value, BlockFault, AckFault, reason, block, IdentFault, FilterFault, FiltersFault, noFilters, filter, MessageFault, PublishFault, qos, fields, FieldsFault, BodyFault, kind, noBytes, foreign, content, FrameFault, Passing, Verdict, says, breaks, noFrame}
 use Rattle.reading.specs.Reader.{Fit, got, bad, isFit, onlyFit, exactFit, runFit, chainFit, manyFit}
 use Rattle.reading.specs.Read.{identOf, isText, anyBytes, asBytes, frameOf, bodyAnswer, stringFit, bytesOf, textOf, valueOf, valueAt, propertyOf, propertiesFit, blockOf, publishAs, subscribeAs, ackAs, ackBlockFit, ackRestFit, filterOf, filtersFit, messageFit, fieldsFit, layoutFit, bodyFit, wholeAnswer, frameAnswer, readAs, readOf}
-use Rattle.reading.proofs.Lists.{no-way}
+use Rattle.reading.proofs.Lists.{no-way, not-false, not-true, none-left}
 use Rattle.reading.proofs.Reading.{reads-only, fills-many}
 use Rattle.reading.proofs.Fields.{reads-byte, reads-big, reads-num, text-fine, reads-bytes, reads-text, reads-property, property-solid}
 use Rattle.reading.proofs.Packets.{reads-ack, reads-ident, reads-filter, filter-solid, reads-publish-block, reads-subscribe-block, kind-fine, fills-body}
 use Rattle.reading.proofs.Demand.{reads-length, reads-frame, whole-answer}
-use Rattle.reading.proofs.Refusing.{got-bad, of-bind, of-guard, Refuses, refuses-byte, refuses-big, refuses-num, refuses-none, refuses-map, refuses-only, refuses-then, refuses-end, refuses-exact, refuses-many, refuses-sized, refuses-fit, refuses-hand, refuses-is}
+use Rattle.reading.proofs.Refusing.{got-bad, of-bind, of-guard, Refuses, refuses-byte, refuses-big, refuses-num, refuses-none, refuses-map, refuses-fit, refuses-hand, refuses-then, refuses-end, refuses-only, refuses-exact, refuses-many, refuses-sized, refuses-is}
 
 -- ---- strings and properties
 
@@ -164,19 +164,6 @@ module _ (x end : ℕ) where
   refuses-fields aPing = refuses-fit (mkPing x) sound
 
   -- ---- rows 4, 5 and 6
-
-  not-false : (t : Bool) → not t ≡ false → t ≡ true
-  not-false true h = refl
-  not-false false h = absurd (no-way (sym h))
-
-  not-true : (t : Bool) → not t ≡ true → t ≡ false
-  not-true true h = absurd (no-way h)
-  not-true false h = refl
-
-  none-left : (t : Bool) (b : List ℕ) → or t (not (isEmpty b)) ≡ false → (t ≡ false) × (b ≡ [])
-  none-left true b h = absurd (no-way (sym h))
-  none-left false [] h = (refl, refl)
-  none-left false (y ∷ b) h = absurd (no-way (sym h))
 
   foreign-fault : (b : List ℕ) (k : Refusal) → isIn (kindOf x) reserved ≡ false → lookup kinds (kindOf x) ≡ none → or false (not (isEmpty b)) ≡ true → nr 6 (kindOf x ∷ []) ≡ k → BodyFault x b k
   foreign-fault [] k h e h′ i = absurd (no-way h′)

@@ -1,13 +1,13 @@
 -- The n-th item at a place: of a record that was read, items 0, 1, .. are the value's list in order, and then 21. Assumes nothing.
-use mathlib.Core.Path.{_≡_, refl, sym, ap, _∙_, subst}
+use mathlib.Core.Path.{_≡_, refl, ap, _∙_, subst}
 use mathlib.Core.Logic.{_↔_}
 use mathlib.Core.Option.{Option, none, some}
 use mathlib.Core.Bool.{Bool, true, false}
-use mathlib.Core.List.{List, [], _∷_, _++_, map, append-nil}
-use Prim.Native.Nat.{ℕ, zero, suc, _+_, _-_, _≤_}
+use mathlib.Core.List.{List, [], _∷_, map}
+use Prim.Native.Nat.{ℕ, zero, suc, _+_, _≤_}
 use native.Mathlib.Omega.{arith}
 use lib.Dec.{eqb, leb, leb→le}
-use lib.ListN.{length, replicate, length-replicate, take, drop, length-drop, take-append-drop}
+use lib.ListN.{length, take, drop, length-drop, take-append-drop}
 use lib.Seq.{length-take-le}
 use Rattle.grammar.specs.Choice.{pick}
 use Rattle.grammar.specs.Gram.{Only, Many}
@@ -207,7 +207,8 @@ module _ (s : List ℕ) where
   ack-items : (ps : AckProps Span (λ A. Span)) (qs : AckProps (List ℕ) List) → sayAckProps s ps ≡ got qs → AckItems s ps qs
   ack-items ps = from-bind (valuesAt asBytes s (ps .user) ackPlace 38) _ λ us e. from-got (AckItems s ps) _ (user-lists ackPlace (ps .user) us e)
 
-  say-items : (v : Placed) (w : Packet) → say s v ≡ got w → Items s v w
+  -- so of any placed record that says w
+  pub say-items : (v : Placed) (w : Packet) → say s v ≡ got w → Items s v w
   say-items (publish m) = from-bind (ifSome (sayPublishProps s) (m .props)) _ λ ps e. from-got (Items s (publish m)) _ (ofPublish (if-some (sayPublishProps s) publish-items (m .props) ps e))
   say-items (ack k m) = from-bind (ifSome (sayAckProps s) (m .props)) _ λ ps e. from-got (Items s (ack k m)) _ (ofAck (if-some (sayAckProps s) ack-items (m .props) ps e))
   say-items (subscribe m) = from-bind (ifSome (saySubscribeProps s) (m .props)) _ λ ps e. from-bind (again (filtersFit asBytes) s (m .filters)) _ λ fs e′.

@@ -8,7 +8,7 @@ use mathlib.Core.List.{List, [], _∷_, _++_, map, append-assoc}
 use Prim.Native.Nat.{ℕ, _+_, _-_, _≤_}
 use native.Mathlib.Omega.{arith}
 use lib.Dec.{eqb, leb, leb→le}
-use lib.ListN.{length, take, drop, length-append}
+use lib.ListN.{length, length-append}
 use Rattle.grammar.specs.Choice.{pick, or, isIn, lookup, isEmpty}
 use Rattle.grammar.specs.Gram.{Gram, Only, both, sized, Many, is}
 use Rattle.grammar.specs.Number.{byte}
@@ -278,3 +278,15 @@ module _ (limit : Option ℕ) (s : List ℕ) where
       go : (m : Fit Packet) → say s v ≡ m → (w : Packet) × (say s v ≡ got w) × (readOf limit s ≡ accepted w n)
       go (got w) i = (w, i, got-inj (sym placed-says ∙ ap (sayAnswer s) e ∙ ap (onGot (λ (u : Packet). accepted u n)) i))
       go (bad k) i = absurd (bad-got (sym (ap (onGot (λ (u : Packet). accepted u n)) i) ∙ sym (ap (sayAnswer s) e) ∙ placed-says))
+
+  -- and back: a record in bytes has its record with places
+  pub placed-of : (w : Packet) (n : ℕ) → readOf limit s ≡ accepted w n → (v : Placed) × (readPlacedOf limit s ≡ accepted v n) × (say s v ≡ got w)
+  placed-of w n e = go (readPlacedOf limit s) refl
+    where
+      said : (v : Placed) (m : ℕ) (u : Fit Packet) → onGot (λ (x : Packet). accepted x m) u ≡ got (accepted w n) → (m ≡ n) × (u ≡ got w)
+      said v m (got x) i = (cc, cc)
+      said v m (bad k) i = absurd (bad-got i)
+
+      go : (a : Answer Placed) → readPlacedOf limit s ≡ a → (v : Placed) × (readPlacedOf limit s ≡ accepted v n) × (say s v ≡ got w)
+      go (accepted v m) i = let (j, q) = said v m (say s v) (sym (ap (sayAnswer s) i) ∙ placed-says ∙ ap got e) in (v, i ∙ ap (accepted v) j, q)
+      go (refused k vs m) i = absurd (no-accept (got-inj (sym (ap (sayAnswer s) i) ∙ placed-says ∙ ap got e)))

@@ -4,16 +4,16 @@ use mathlib.Core.Path.{_≡_, refl, ap, _∙_, subst}
 use mathlib.Core.Bool.{Bool, true, false}
 use mathlib.Core.Logic.{_↔_}
 use mathlib.Core.List.{List, [], _∷_, _++_, append-assoc, append-nil}
-use Prim.Native.Nat.{ℕ, _+_, _-_, _≤_, _<_}
+use Prim.Native.Nat.{ℕ, _-_, _≤_, _<_}
 use native.Mathlib.Omega.{arith}
 use lib.ListN.{length, take, drop, length-append, take-append-drop}
 use lib.Seq.{take-append-seam, drop-append-seam, length-take-le}
 use lib.Dec.{leb, leb→le}
 use Rattle.grammar.specs.Choice.{isEmpty}
-use Rattle.grammar.specs.Gram.{Gram, Nothing, nothing, Map, mapped, Only, only, Then, both, Sized, sized, Chain, done, more, forget, Many, Is, is, Never, Sure, Solid}
+use Rattle.grammar.specs.Gram.{Gram, Nothing, nothing, Map, mapped, Only, only, Then, both, Sized, sized, Chain, done, more, forget, Many, Is, is, Never, Solid}
 use Rattle.reading.specs.Refusal.{Refusal}
 use Rattle.reading.specs.Reader.{Fit, got, bad, Reader, Filler, _>>=_, _>>_, guard, noneOf, neverOf, mapOf, onlyOf, thenOf, sizedOf, isFit, mapFit, handFit, onlyFit, thenFit, exactFit, runFit, chainFit, manyFit}
-use Rattle.reading.proofs.Lists.{T-of, leb-yes, same-front, left-nil}
+use Rattle.reading.proofs.Lists.{T-of, leb-yes, nil-of, left-nil}
 
 -- ---- taking an accepted answer apart
 
@@ -50,16 +50,6 @@ pub record Reads {A : Type 0} (p : Reader A) (G : Gram A) : Type 0 where
 pub record Fills {A : Type 0} (q : List ℕ → Fit A) (G : Gram A) : Type 0 where
   pub whole : (a : A) (b : List ℕ) → G a b → q b ≡ got a
   pub back : (b : List ℕ) (a : A) → q b ≡ got a → G a b
-
--- what has a reader is unambiguous
-pub reads-sure : {A : Type 0} {p : Reader A} {G : Gram A} → Reads p G → Sure G
-reads-sure {A} {p} {G} R a a′ b b′ r r′ g g′ e =
-    let w = R .whole a b r g in
-    let w′ = R .whole a′ b′ r′ g′ in
-    let u : _≡_ {A = A × List ℕ} (a, r) (a′, r′) = cc in
-    let q : r ≡ r′ = ap (λ (z : A × List ℕ). z .1) u in
-    let l : length b ≡ length b′ = omega (arith, simp length-append at (ap length e), ap length q) in
-    (ap (λ (z : A × List ℕ). z .0) u, same-front b b′ r r′ l e)
 
 -- ---- each reads its grammar
 
@@ -248,10 +238,6 @@ module _ {A : Type 0} {p : Reader A} {G : Gram A} (c : Refusal) (R : Reads p G) 
   exact-whole : (a : A) (b : List ℕ) → G a b → exactFit p c b ≡ got a
   unfolding exactFit
   exact-whole a b g = rw (rw (append-nil b) at (R .whole a b [] g))
-
-  nil-of : (r : List ℕ) → isEmpty r ≡ true → r ≡ []
-  nil-of [] h = refl
-  nil-of (x ∷ r) h = cc
 
   exact-back : (b : List ℕ) (z : A) → exactFit p c b ≡ got z → G z b
   unfolding exactFit

@@ -3,9 +3,9 @@ use mathlib.Core.Path.{_≡_, refl, sym, _∙_, subst}
 use mathlib.Core.Bool.{Bool, true, false}
 use mathlib.Core.Logic.{_↔_}
 use mathlib.Core.List.{List, [], _∷_, _++_}
-use Prim.Native.Nat.{ℕ, zero, suc, _+_, _-_, _≤_, _<_}
+use Prim.Native.Nat.{ℕ, zero, suc, _-_, _≤_, _<_}
 use native.Mathlib.Omega.{arith}
-use lib.Dec.{leb, ltb, leb→le, nleb→lt}
+use lib.Dec.{leb, ltb, leb→le}
 use lib.ListN.{length, take, drop, length-append, take-append-drop}
 use lib.Seq.{take-append-seam, drop-append-seam, length-take-le}
 use Rattle.grammar.specs.Choice.{isEmpty}
@@ -14,7 +14,7 @@ use Rattle.reading.specs.Refusal.{Refusal, nr}
 use Rattle.reading.specs.Fault.{Fault, Sound, OnlyFault, under, fails, ThenFault, first, second, SizedFault, sizes, crosses, fills, ManyFault, now, later, ExactFault, before, follows, IsFault, isnt, ByteFault, noByte, BigFault, fewer, Tops, noTops, aTop, NumFault, endless, long}
 use Rattle.reading.specs.Reader.{Fit, got, bad, Reader, Filler, _>>=_, _>>_, guard, noneOf, mapOf, onlyOf, thenOf, sizedOf, isFit, mapFit, handFit, thenFit, exactFit, runFit, chainFit, manyFit}
 use Rattle.reading.specs.Read.{bigOf, byteOf, groupOf, numOf}
-use Rattle.reading.proofs.Lists.{no-way, T-of, leb-yes, leb-no, ltb-false, ltb-no}
+use Rattle.reading.proofs.Lists.{no-way, T-of, leb-yes, leb-no, leb-false, ltb-false, ltb-no}
 use Rattle.reading.proofs.Reading.{bad-got, Reads, less}
 
 -- ---- taking a refusal apart
@@ -29,9 +29,6 @@ of-bind (bad c) f k x y e = x (cc)
 pub of-guard : {B C : Type 0} (t : Bool) (c : Refusal) (m : Fit B) (k : Refusal) → (t ≡ false → c ≡ k → C) → (t ≡ true → m ≡ bad k → C) → (guard t c >> m) ≡ bad k → C
 of-guard true c m k x y e = y refl e
 of-guard false c m k x y e = x refl (cc)
-
-leb-false : (m n : ℕ) → leb m n ≡ false → n < m
-leb-false m n e = nleb→lt m n (rw e tt)
 
 -- ---- what a reader, or a filler, that refuses has to do
 
@@ -108,18 +105,52 @@ pub refuses-none : {A : Type 0} (a : A) → Refuses (noneOf a) Sound
 unfolding noneOf
 refuses-none a = record { fault = λ s k e. got-bad e; refuse = λ s k f. elim f [ ] }
 
+-- what is made of a value that was read refuses nothing
+module _ {A B : Type 0} {p : List ℕ → Fit A} {F : Fault} (P : Refuses p F) (g : List ℕ → A → B) where
+  via-fault : (s : List ℕ) (k : Refusal) → (p s >>= λ a. got (g s a)) ≡ bad k → F s k
+  via-fault s k = of-bind (p s) _ k (P .fault s k) (λ a e e′. got-bad e′)
+
+  via-refuse : (s : List ℕ) (k : Refusal) → F s k → (p s >>= λ a. got (g s a)) ≡ bad k
+  via-refuse s k h = rw (P .refuse s k h)
+
+  refuses-via : Refuses (λ s. p s >>= λ a. got (g s a)) F
+  refuses-via = record { fault = via-fault; refuse = via-refuse }
+
+pub refuses-map : {A B : Type 0} {p : Reader A} {F : Fault} → Refuses p F → (f : A → B) → Refuses (mapOf f p) F
+unfolding mapOf
+refuses-map P f = refuses-via P (λ s y. (f (y .0), y .1))
+
+pub refuses-fit : {A B : Type 0} {q : Filler A} {F : Fault} (f : A → B) → Refuses q F → Refuses (mapFit f q) F
+unfolding mapFit
+refuses-fit f Q = refuses-via Q (λ s. f)
+
+pub refuses-hand : {A B : Type 0} {q : ℕ → Filler A} {F : Fault} (f : A → List ℕ → ℕ → B) → ((e : ℕ) → Refuses (q e) F) → (end : ℕ) → Refuses (handFit f q end) F
+unfolding handFit
+refuses-hand f Q end = refuses-via (Q end) (λ s a. f a s end)
+
+-- one after the other, whatever is made of the two values
+module _ {A B C : Type 0} {p : Reader A} {q : List ℕ → Fit B} {G : Gram A} {F H : Fault} (P : Refuses p F) (R : Reads p G) (Q : Refuses q H) (g : A → B → C) where
+  pair-fault : (s : List ℕ) (k : Refusal) → (p s >>= λ x. q (x .1) >>= λ y. got (g (x .0) y)) ≡ bad k → ThenFault G F H s k
+  pair-fault s k = of-bind (p s) _ k (λ e. first (P .fault s k e)) λ x e. of-bind (q (x .1)) _ k
+      (λ e′. let (b, e₁, r) = R .split s x e in rw e₁ (second r (Q .fault (x .1) k e′))) (λ y e′ e″. got-bad e″)
+
+  pair-refuse : (s : List ℕ) (k : Refusal) → ThenFault G F H s k → (p s >>= λ x. q (x .1) >>= λ y. got (g (x .0) y)) ≡ bad k
+  pair-refuse s k (first h) = rw (P .refuse s k h)
+  pair-refuse _ k (second {a = a} {b = b} {r = r} h f) = rw (R .whole a b r h, Q .refuse r k f)
+
+  refuses-pair : Refuses (λ s. p s >>= λ x. q (x .1) >>= λ y. got (g (x .0) y)) (ThenFault G F H)
+  refuses-pair = record { fault = pair-fault; refuse = pair-refuse }
+
+module _ {A B : Type 0} {p : Reader A} {G : Gram A} {F H : Fault} (P : Refuses p F) (R : Reads p G) where
+  pub refuses-then : {q : Reader B} → Refuses q H → Refuses (thenOf p (λ _. q)) (ThenFault G F H)
+  unfolding thenOf
+  refuses-then Q = refuses-pair P R Q (λ a y. ((a, y .0), y .1))
+
+  pub refuses-end : {q : Filler B} → Refuses q H → Refuses (thenFit p (λ _. q)) (ThenFault G F H)
+  unfolding thenFit
+  refuses-end Q = refuses-pair P R Q (λ a c. (a, c))
+
 module _ {A : Type 0} {p : Reader A} {F : Fault} (P : Refuses p F) where
-  map-fault : {B : Type 0} (f : A → B) (s : List ℕ) (k : Refusal) → mapOf f p s ≡ bad k → F s k
-  unfolding mapOf
-  map-fault f s k = of-bind (p s) _ k (P .fault s k) (λ y e e′. got-bad e′)
-
-  map-refuse : {B : Type 0} (f : A → B) (s : List ℕ) (k : Refusal) → F s k → mapOf f p s ≡ bad k
-  unfolding mapOf
-  map-refuse f s k h = rw (P .refuse s k h)
-
-  pub refuses-map : {B : Type 0} (f : A → B) → Refuses (mapOf f p) F
-  refuses-map f = record { fault = map-fault f; refuse = map-refuse f }
-
   module _ {G : Gram A} (R : Reads p G) where
     module _ (t : A → Bool) (c : A → Refusal) where
       only-fault : (s : List ℕ) (k : Refusal) → onlyOf t c p s ≡ bad k → OnlyFault t c G F s k
@@ -134,34 +165,6 @@ module _ {A : Type 0} {p : Reader A} {F : Fault} (P : Refuses p F) where
 
       pub refuses-only : Refuses (onlyOf t c p) (OnlyFault t c G F)
       refuses-only = record { fault = only-fault; refuse = only-refuse }
-
-    module _ {B : Type 0} {q : Reader B} {H : Fault} (Q : Refuses q H) where
-      then-fault : (s : List ℕ) (k : Refusal) → thenOf p (λ _. q) s ≡ bad k → ThenFault G F H s k
-      unfolding thenOf
-      then-fault s k = of-bind (p s) _ k (λ e. first (P .fault s k e)) λ x e. of-bind (q (x .1)) _ k
-          (λ e′. let (b, e₁, g) = R .split s x e in rw e₁ (second g (Q .fault (x .1) k e′))) (λ y e′ e″. got-bad e″)
-
-      then-refuse : (s : List ℕ) (k : Refusal) → ThenFault G F H s k → thenOf p (λ _. q) s ≡ bad k
-      unfolding thenOf
-      then-refuse s k (first h) = rw (P .refuse s k h)
-      then-refuse _ k (second {a = a} {b = b} {r = r} g h) = rw (R .whole a b r g, Q .refuse r k h)
-
-      pub refuses-then : Refuses (thenOf p (λ _. q)) (ThenFault G F H)
-      refuses-then = record { fault = then-fault; refuse = then-refuse }
-
-    module _ {B : Type 0} {q : Filler B} {H : Fault} (Q : Refuses q H) where
-      end-fault : (s : List ℕ) (k : Refusal) → thenFit p (λ _. q) s ≡ bad k → ThenFault G F H s k
-      unfolding thenFit
-      end-fault s k = of-bind (p s) _ k (λ e. first (P .fault s k e)) λ x e. of-bind (q (x .1)) _ k
-          (λ e′. let (b, e₁, g) = R .split s x e in rw e₁ (second g (Q .fault (x .1) k e′))) (λ y e′ e″. got-bad e″)
-
-      end-refuse : (s : List ℕ) (k : Refusal) → ThenFault G F H s k → thenFit p (λ _. q) s ≡ bad k
-      unfolding thenFit
-      end-refuse s k (first h) = rw (P .refuse s k h)
-      end-refuse _ k (second {a = a} {b = b} {r = r} g h) = rw (R .whole a b r g, Q .refuse r k h)
-
-      pub refuses-end : Refuses (thenFit p (λ _. q)) (ThenFault G F H)
-      refuses-end = record { fault = end-fault; refuse = end-refuse }
 
     module _ (c : Refusal) where
       after : (b r : List ℕ) (k : Refusal) (a : A) → G a b → isEmpty r ≡ false → c ≡ k → ExactFault G F c (b ++ r) k
@@ -256,30 +259,7 @@ module _ {A : Type 0} {n : Reader ℕ} {q : ℕ → Filler A} {N : Gram ℕ} {F 
   pub refuses-sized : Refuses (sizedOf n c q end) (SizedFault N F c H)
   refuses-sized = record { fault = sized-fault; refuse = sized-refuse }
 
--- ---- fillers
-
-module _ {A B : Type 0} {F : Fault} where
-  fit-fault : (q : Filler A) (f : A → B) → Refuses q F → (s : List ℕ) (k : Refusal) → mapFit f q s ≡ bad k → F s k
-  unfolding mapFit
-  fit-fault q f Q s k = of-bind (q s) _ k (Q .fault s k) (λ a e e′. got-bad e′)
-
-  fit-refuse : (q : Filler A) (f : A → B) → Refuses q F → (s : List ℕ) (k : Refusal) → F s k → mapFit f q s ≡ bad k
-  unfolding mapFit
-  fit-refuse q f Q s k h = rw (Q .refuse s k h)
-
-  pub refuses-fit : {q : Filler A} (f : A → B) → Refuses q F → Refuses (mapFit f q) F
-  refuses-fit {q = q} f Q = record { fault = fit-fault q f Q; refuse = fit-refuse q f Q }
-
-  hand-fault : (q : ℕ → Filler A) (f : A → List ℕ → ℕ → B) (end : ℕ) → Refuses (q end) F → (s : List ℕ) (k : Refusal) → handFit f q end s ≡ bad k → F s k
-  unfolding handFit
-  hand-fault q f end Q s k = of-bind (q end s) _ k (Q .fault s k) (λ a e e′. got-bad e′)
-
-  hand-refuse : (q : ℕ → Filler A) (f : A → List ℕ → ℕ → B) (end : ℕ) → Refuses (q end) F → (s : List ℕ) (k : Refusal) → F s k → handFit f q end s ≡ bad k
-  unfolding handFit
-  hand-refuse q f end Q s k h = rw (Q .refuse s k h)
-
-  pub refuses-hand : {q : ℕ → Filler A} (f : A → List ℕ → ℕ → B) → ((e : ℕ) → Refuses (q e) F) → (end : ℕ) → Refuses (handFit f q end) F
-  refuses-hand {q = q} f Q end = record { fault = hand-fault q f end (Q end); refuse = hand-refuse q f end (Q end) }
+-- ---- bytes as they stand
 
 module _ (t : List ℕ → Bool) (P : List ℕ → Type 0) (c : Refusal) (D : (b : List ℕ) → (t b ≡ true) ↔ P b) where
   is-fault : (s : List ℕ) (k : Refusal) → isFit t c s ≡ bad k → IsFault P c s k

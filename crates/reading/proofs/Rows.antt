@@ -5,21 +5,22 @@ use mathlib.Core.Bool.{Bool, true, false}
 use mathlib.Core.Option.{Option, none, some}
 use mathlib.Core.Logic.{_↔_, _⊎_, inl, inr}
 use mathlib.Core.List.{List, [], _∷_, _++_}
-use Prim.Native.Nat.{ℕ, zero, suc, _+_, _-_, _<_}
+use Prim.Native.Nat.{ℕ, _+_, _-_, _<_}
 use native.Mathlib.Omega.{arith}
-use lib.Dec.{eqb, nleb→lt}
+use lib.Dec.{eqb}
 use lib.ListN.{length, length-append}
 use Rattle.grammar.specs.Choice.{pick, or, isIn}
 use Rattle.grammar.specs.Gram.{Only, only, both}
 use Rattle.grammar.specs.Number.{Byte, byte, Spells}
 use Rattle.grammar.specs.Sentence.{Packet}
-use Rattle.reading.specs.Refusal.{Refusal, nr, Answer, accepted, refused, lacking, within, over}
+use Rattle.reading.specs.Refusal.{Refusal, nr, Answer, accepted, refused, refusedAs, lacking, within, over}
 use Rattle.reading.specs.Fault.{Sound, OnlyFault, under, fails, first, second, SizedFault, sizes, crosses, fills, ByteFault, noByte, noTops, NumFault, endless, long, BodyFault, kind, noBytes, foreign, content, FrameFault, Passing, Verdict, says, breaks, noFrame}
 use Rattle.reading.specs.Read.{readOf}
 use Rattle.reading.specs.Rows.{Incomplete, underTwo, noEnd, partly, Overlong, overlong, Above, above, Holds, holds, Framing, insufficient, malformed, exceeded, invalid, required, notCarried, rowNumber, Given, Breaks}
-use Rattle.reading.proofs.Lists.{no-way, leb-no}
+use Rattle.reading.specs.Demand.{ofFields, Taken, nothing-yet, own-length, whole-frame}
+use Rattle.reading.proofs.Lists.{no-way, leb-no, leb-false}
 use Rattle.reading.proofs.Faults.{answered}
-use Rattle.reading.proofs.Numbers.{ofFields, field-numbers}
+use Rattle.reading.proofs.Numbers.{field-numbers}
 
 -- ---- rows 1 to 3, from the fault of a frame
 
@@ -41,7 +42,7 @@ module _ (limit : Option ℕ) where
 over-row : (limit : Option ℕ) (x l : ℕ) (b r : List ℕ) → Spells l b → within limit l ≡ false → Shown limit (x ∷ (b ++ r)) (over limit l) 0
 unfolding within over
 over-row none x l b r g h = absurd (no-way (sym h))
-over-row (some m) x l b r g h = (exceeded, refl, (l, m, refl, above r g (nleb→lt l m (rw h tt)), refl, refl))
+over-row (some m) x l b r g h = (exceeded, refl, (l, m, refl, above r g (leb-false l m h), refl, refl))
 
 module _ (limit : Option ℕ) where
   limit-row : (x : ℕ) (s : List ℕ) (k : Refusal) → OnlyFault (within limit) (over limit) Spells (NumFault (nr 1 (1 ∷ [])) 4) s k → Shown limit (x ∷ s) k 0
@@ -96,10 +97,6 @@ unfolding within over
 above-limit limit l m e h = (rw e (leb-no l m h), rw e)
 
 module _ (limit : Option ℕ) where
-  -- the answer that refuses with k and takes t bytes
-  abbrev refusedAs : Refusal → ℕ → Answer Packet
-  refusedAs (nr k vs) t = refused k vs t
-
   fault-verdict : (s : List ℕ) (k : Refusal) → FrameFault limit s k → Verdict limit s (refusedAs k 0)
   fault-verdict s (nr k vs) f = noFrame f
 
@@ -238,26 +235,16 @@ module _ (limit : Option ℕ) (s vs : List ℕ) where
       go (inl (r, e, g)) = absurd (h (none-taken r e g))
       go (inr w) = w
 
-  -- ---- 01, Taken
-
-  -- s begins with a frame of t bytes, which the limit lets pass
-  abbrev pub TakesFrame : ℕ → Type 0
-  TakesFrame t = (x : ℕ) × (b : List ℕ) × Holds limit s x b t
-
-  -- 0 for rows 1, 2 of the frame's own length, and 3; else F
-  abbrev pub Taken : ℕ → ℕ → Type 0
-  Taken k t = ((isIn k (1 ∷ 2 ∷ 3 ∷ []) ≡ true) × (t ≡ 0)) ⊎ ((isIn k (4 ∷ 5 ∷ 6 ∷ ofFields) ≡ true) × TakesFrame t)
-
-  given-taken : (r : Framing) (t : ℕ) → Given limit r s vs t → Taken (rowNumber r) t
-  given-taken insufficient t (n, i, e, e′) = inl (refl, e′)
-  given-taken malformed t (o, e, e′) = inl (refl, e′)
-  given-taken exceeded t (R, m, i, a, e, e′) = inl (refl, e′)
-  given-taken invalid t (x, b, f, h, e) = inr (refl, (x, b, f))
-  given-taken required t (x, f, h, h′, e) = inr (refl, (x, [], f))
-  given-taken notCarried t (x, y, b, f, h, h′, e) = inr (refl, (x, y ∷ b, f))
+  given-taken : (r : Framing) (t : ℕ) → Given limit r s vs t → Taken limit s (rowNumber r) t
+  given-taken insufficient t (n, i, e, e′) = rw e′ (nothing-yet refl)
+  given-taken malformed t (o, e, e′) = rw e′ (own-length o)
+  given-taken exceeded t (R, m, i, a, e, e′) = rw e′ (nothing-yet refl)
+  given-taken invalid t (x, b, f, h, e) = whole-frame refl f
+  given-taken required t (x, f, h, h′, e) = whole-frame refl f
+  given-taken notCarried t (x, y, b, f, h, h′, e) = whole-frame refl f
 
   -- every refusal takes what its row says, and has the number of a row
-  pub taken : (k t : ℕ) → readOf limit s ≡ refused k vs t → Taken k t
+  pub taken : (k t : ℕ) → readOf limit s ≡ refused k vs t → Taken limit s k t
   taken k t e = go (refused-rows k t .0 e)
     where
       up : (a b c d : Bool) → d ≡ true → or a (or b (or c d)) ≡ true
@@ -266,6 +253,6 @@ module _ (limit : Option ℕ) (s vs : List ℕ) where
       up false false true d w = refl
       up false false false d w = w
 
-      go : Some limit s k vs t ⊎ Breaks limit s (nr k vs) t → Taken k t
+      go : Some limit s k vs t ⊎ Breaks limit s (nr k vs) t → Taken limit s k t
       go (inl (r, i, g)) = rw (← i) (given-taken r t g)
-      go (inr w) = inr (up (eqb k 4) (eqb k 5) (eqb k 6) (isIn k ofFields) (field-numbers limit s k t vs w), let (x, l, b, f, i, h, g) = w in (x, b, f))
+      go (inr w) = let (x, l, b, f, i, h, g) = w in whole-frame (up (eqb k 4) (eqb k 5) (eqb k 6) (isIn k ofFields) (field-numbers limit s k t vs w)) f

@@ -2,22 +2,22 @@
 use mathlib.Core.Path.{_≡_, refl, sym, ap, _∙_}
 use mathlib.Core.Bool.{Bool, true, false}
 use mathlib.Core.Option.{Option, none, some}
-use mathlib.Core.Logic.{_⊎_, inl, inr}
+use mathlib.Core.Logic.{inl, inr}
 use mathlib.Core.List.{List, [], _∷_, _++_, append-assoc}
 use Prim.Native.Nat.{ℕ, _+_, _-_, _≤_, _<_}
 use native.Mathlib.Omega.{arith}
-use lib.Dec.{leb, leb→le, nleb→lt}
+use lib.Dec.{leb, leb→le}
 use lib.ListN.{length, length-append}
 use Rattle.grammar.specs.Gram.{Only, only, both, sized, is}
 use Rattle.grammar.specs.Number.{byte, Groups, last, next, Spells}
-use Rattle.grammar.specs.Record.{PacketOf}
 use Rattle.grammar.specs.Sentence.{Packet, Frame, framed, Sentence}
-use Rattle.reading.specs.Refusal.{Refusal, nr, Answer, refused, within, over}
+use Rattle.reading.specs.Refusal.{Refusal, nr, refused, refusedAs, within, over}
 use Rattle.reading.specs.Fault.{fails, second, sizes, Tops, noTops, aTop, FrameFault, Passing}
 use Rattle.reading.specs.Reader.{Fit, got, bad, onlyOf, thenOf, sizedOf}
 use Rattle.reading.specs.Read.{byteOf, numOf, Shape, frameOf, frameAnswer, readAs, readOf}
 use Rattle.reading.specs.Rows.{Incomplete, underTwo, noEnd, partly, Above, above, allTops, lacks}
-use Rattle.reading.proofs.Lists.{T-of, leb-yes, leb-no, ltb-no, Cuts, cut-in}
+use Rattle.reading.specs.Demand.{Limited}
+use Rattle.reading.proofs.Lists.{T-of, leb-yes, leb-no, leb-false, ltb-no, Cuts, cut-in}
 use Rattle.reading.proofs.Reading.{bad-got, got-inj}
 use Rattle.reading.proofs.Fields.{reads-num}
 use Rattle.reading.proofs.Demand.{all-within, whole-answer}
@@ -25,16 +25,13 @@ use Rattle.reading.proofs.Faults.{refuses-frame}
 use Rattle.reading.proofs.Rows.{row-1}
 
 module _ (h : Shape) where
-  abbrev refusedBy : Refusal → ℕ → Answer (PacketOf (h .Str) (h .Run))
-  refusedBy (nr k vs) t = refused k vs t
-
   -- no frame, no bytes taken, whatever strings are handed back as
-  no-frame : (limit : Option ℕ) (s : List ℕ) (k : Refusal) → FrameFault limit s k → readAs h limit s ≡ refusedBy k 0
+  no-frame : (limit : Option ℕ) (s : List ℕ) (k : Refusal) → FrameFault limit s k → readAs h limit s ≡ refusedAs k 0
   unfolding readAs frameAnswer
   no-frame limit s (nr k vs) f = rw (refuses-frame limit (length s) .refuse s (nr k vs) f)
 
   -- a length number that the limit does not let pass
-  too-large : (limit : Option ℕ) (x l : ℕ) (c r : List ℕ) → Spells l c → within limit l ≡ false → readAs h limit (x ∷ (c ++ r)) ≡ refusedBy (over limit l) 0
+  too-large : (limit : Option ℕ) (x l : ℕ) (c r : List ℕ) → Spells l c → within limit l ≡ false → readAs h limit (x ∷ (c ++ r)) ≡ refusedAs (over limit l) 0
   too-large limit x l c r g w = no-frame limit (x ∷ (c ++ r)) (over limit l) (second byte (sizes (fails r g w)))
 
   -- ---- bytes after a whole frame never alter its answer, refused frames included
@@ -75,9 +72,7 @@ pub limit-passes : (h : Shape) (m : ℕ) (s : List ℕ) → AtMost m s → readA
 unfolding readAs
 limit-passes h m s o = rw (same-frame m (length s) s o)
 
--- 01, row 3: either the header is whole and R is above the limit m, and the answer is 3 with R and m, nothing taken; or it is the answer with no limit
-abbrev pub Limited : Shape → ℕ → List ℕ → Type 0
-Limited h m s = ((R : ℕ) × Above s R m × (readAs h (some m) s ≡ refused 3 (R ∷ m ∷ []) 0)) ⊎ (((R : ℕ) → Above s R m → ⊥) × (readAs h (some m) s ≡ readAs h none s))
+-- ---- a limit changes nothing else
 
 module _ (h : Shape) (m : ℕ) where
   not-above : (s : List ℕ) → AtMost m s → (R : ℕ) → Above s R m → ⊥
@@ -96,7 +91,7 @@ module _ (h : Shape) (m : ℕ) where
       rw (← j) (leb→le (z .0) m (T-of (leb (z .0) m) o))
   measured x t z e false o =
       let (c, i, g) = reads-num (nr 1 (1 ∷ [])) 4 .split t z e in
-      let w : m < z .0 = nleb→lt (z .0) m (rw o tt) in
+      let w : m < z .0 = leb-false (z .0) m o in
       rw i (inl (z .0, above (z .1) g w, limit-refuses h m x (z .0) c (z .1) g w))
 
   -- a limit adds the size refusal alone

@@ -1,5 +1,5 @@
 -- What is proved of the reader's definition, on one page: demand 3, each refusal, the places. Each proof is cited. Assumes nothing.
-use mathlib.Core.Path.{_≡_, refl, sym, ap, _∙_}
+use mathlib.Core.Path.{_≡_, refl, sym, _∙_}
 use mathlib.Core.Option.{Option, none, some}
 use mathlib.Core.Logic.{_↔_}
 use mathlib.Core.List.{List, [], _∷_, _++_}
@@ -7,18 +7,19 @@ use Prim.Native.Nat.{ℕ}
 use lib.ListN.{length}
 use Rattle.grammar.specs.Number.{Spells}
 use Rattle.grammar.specs.Sentence.{Packet, Frame, Sentence, ShortSentence}
-use Rattle.reading.specs.Refusal.{nr, Answer, accepted, refused}
+use Rattle.reading.specs.Refusal.{Answer, accepted, refused}
 use Rattle.reading.specs.Fault.{Verdict}
 use Rattle.reading.specs.Reader.{got}
-use Rattle.reading.specs.Read.{Shape, asBytes, readAs, readOf}
+use Rattle.reading.specs.Read.{Shape, readAs, readOf}
 use Rattle.reading.specs.Place.{Placed, readPlacedOf, sayAnswer, Items}
 use Rattle.reading.specs.Rows.{lacks}
-use Rattle.reading.proofs.Demand.{Begins, reads-sentence, reads-short}
-use Rattle.reading.proofs.Faults.{answered}
-use Rattle.reading.proofs.Rows.{Taken, taken}
-use Rattle.reading.proofs.Stream.{frame-suffix, Limited, limit-alone, sentence-front}
+use Rattle.reading.specs.Demand.{Begins, Limited, Taken}
+use Rattle.reading.proofs.Demand.{reads-sentence, reads-short}
 use Rattle.reading.proofs.Places.{placed-says}
 use Rattle.reading.proofs.Items.{read-items}
+use Rattle.reading.proofs.Faults.{answered}
+use Rattle.reading.proofs.Rows.{taken}
+use Rattle.reading.proofs.Stream.{frame-suffix, limit-alone, sentence-front}
 
 -- ---- demand 3
 
@@ -67,7 +68,7 @@ pub one-verdict : (limit : Option ℕ) (s : List ℕ) (a a′ : Answer Packet) �
 one-verdict limit s a a′ w w′ = sym (answered limit s a .1 w) ∙ answered limit s a′ .1 w′
 
 -- every refusal takes what 01's column says, 0 or the frame, and has a number from 1 to 15
-pub takes : (limit : Option ℕ) (s vs : List ℕ) (k t : ℕ) → readOf limit s ≡ refused k vs t → Taken limit s vs k t
+pub takes : (limit : Option ℕ) (s vs : List ℕ) (k t : ℕ) → readOf limit s ≡ refused k vs t → Taken limit s k t
 takes = taken
 
 -- ---- places

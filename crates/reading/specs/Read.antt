@@ -3,7 +3,7 @@
 use mathlib.Core.Bool.{Bool, true, false, not}
 use mathlib.Core.Option.{Option, none, some}
 use mathlib.Core.List.{List, [], _∷_}
-use Prim.Native.Nat.{ℕ, zero, suc, _+_, _-_, _*_, _/_}
+use Prim.Native.Nat.{ℕ, zero, suc, _+_, _-_, _*_}
 use lib.Dec.{leb, ltb}
 use lib.ListN.{length, take, drop}
 use Rattle.grammar.specs.Choice.{or, isIn, lookup, isEmpty}
@@ -12,7 +12,7 @@ use Rattle.grammar.specs.Text.{Range, inRange, rows, rowAt, cons}
 use Rattle.grammar.specs.Tables.{Form, u8, u16, u32, number, text, bytes, pair, Place, publishPlace, subscribePlace, ackPlace, Layout, aPublish, anAck, aSubscribe, aPing, kinds, reserved, isPing}
 use Rattle.grammar.specs.Record.{Val, num, str, Prop, unlessEmpty, PublishProps, publishProps, SubscribeProps, subscribeProps, AckProps, ackProps, Filter, PacketOf, kindOf, flagQos, mkPublish, mkAck, mkFilter, mkSubscribe, mkPing}
 use Rattle.grammar.specs.Sentence.{duoOf, notThree, notZero, qosFine, ruleFine, someOf}
-use Rattle.reading.specs.Refusal.{Refusal, nr, cut, crossed, lacking, within, over, Answer, accepted, refused}
+use Rattle.reading.specs.Refusal.{Refusal, nr, Answer, accepted, refusedAs, cut, crossed, lacking, within, over}
 use Rattle.reading.specs.Reader.{Fit, got, bad, Reader, Filler, _>>=_, _>>_, guard, noneOf, neverOf, mapOf, onlyOf, thenOf, sizedOf, isFit, mapFit, handFit, onlyFit, thenFit, exactFit, manyFit, isGot}
 
 -- ---- numbers; c is given where the bytes end before the number does
@@ -23,7 +23,7 @@ bigOf c k s = do
   guard (leb k (length s)) c
   got (bigFrom 0 (take k s), drop k s)
 
--- one byte
+-- 01, grammar: a byte, as it stands
 unfoldable pub byteOf : Refusal → Reader ℕ
 byteOf c [] = bad c
 byteOf c (x ∷ s) = got (x, s)
@@ -48,17 +48,17 @@ identOf (suc q) = onlyOf notZero (λ _. nr 12 []) (bigOf cut 2)
 
 -- ---- text
 
--- a byte in each range
+-- Unicode, table 3-7: a byte in each cell
 unfoldable pub followOf : List Range → Reader (List ℕ)
 followOf [] = noneOf []
 followOf (r ∷ rs) = mapOf cons (thenOf (onlyOf (inRange r) (λ _. nr 9 []) (byteOf (nr 9 []))) (λ _. followOf rs))
 
--- what the row of a first byte asks for
+-- Unicode, table 3-7: what the row of a first byte asks for
 unfoldable pub restOf : Option (List Range) → Reader (List ℕ)
 restOf none = neverOf (nr 9 [])
 restOf (some rs) = followOf rs
 
--- one character
+-- Unicode, table 3-7: one character
 unfoldable pub charOf : Reader (List ℕ)
 charOf = mapOf cons (thenOf (byteOf (nr 9 [])) (λ x. restOf (rowAt rows x)))
 
@@ -93,7 +93,7 @@ frameOf limit end =
 -- 01, Taken: F for each refusal of a whole frame
 unfoldable pub bodyAnswer : {A : Type 0} → ℕ → Fit A → Answer A
 bodyAnswer n (got v) = accepted v n
-bodyAnswer n (bad (nr k vs)) = refused k vs n
+bodyAnswer n (bad k) = refusedAs k n
 
 module _ (h : Shape) where
   -- ---- strings
@@ -134,7 +134,7 @@ module _ (h : Shape) where
   propertyOf place end [] = bad cut
   propertyOf place end (i ∷ s) = valueAt (lookup place i) i end s
 
-  -- the properties that fill the bytes given
+  -- 01, grammar: "filled exactly by properties"
   unfoldable pub propertiesFit : Place → ℕ → Filler (List (Prop (h .Str)))
   propertiesFit place end = manyFit (propertyOf place end)
 
@@ -213,14 +213,14 @@ module _ (h : Shape) where
   -- 01, Taken: 0 where the frame is not whole, its own length is malformed, or it is above the limit
   unfoldable pub frameAnswer : List ℕ → Fit ((ℕ × List ℕ) × List ℕ) → Answer (PacketOf (h .Str) (h .Run))
   frameAnswer s (got z) = wholeAnswer (length s - length (z .1)) (z .0)
-  frameAnswer s (bad (nr k vs)) = refused k vs 0
+  frameAnswer s (bad k) = refusedAs k 0
 
-  -- the answer to the stream s
+  -- demand 1: the answer to any stream s, under a limit or none
   unfoldable pub readAs : Option ℕ → List ℕ → Answer (PacketOf (h .Str) (h .Run))
   readAs limit s = frameAnswer s (frameOf limit (length s) s)
 
 -- ---- demand 3 speaks of bytes
 
--- strings are bytes, and lists are lists
+-- demand 3: the answer in bytes; strings are bytes, and lists are lists
 abbrev pub readOf : Option ℕ → List ℕ → Answer (PacketOf (List ℕ) List)
 readOf = readAs asBytes

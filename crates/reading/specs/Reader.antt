@@ -29,6 +29,7 @@ abbrev pub _>>=_ : {A B : Type 0} → Fit A → (A → Fit B) → Fit B
 _>>=_ (got a) f = f a
 _>>=_ (bad k) f = bad k
 
+-- the same where the value is not asked for
 abbrev pub _>>_ : {A B : Type 0} → Fit A → Fit B → Fit B
 _>>_ (got a) m = m
 _>>_ (bad k) m = bad k
@@ -114,7 +115,8 @@ exactFit p c s = do
   guard (isEmpty r) c
   got a
 
--- p again and again, to the end, with what came before summed up in σ; the first list bounds the steps, and is as long as the second at least
+-- p again and again, to the end, with what came before summed up in σ; the first list bounds the steps, and is as long as the second at
+-- least: the 0, which is no number of 01, is never given (`takes`)
 unfoldable pub runFit : {S A : Type 0} → (S → A → S) → (S → Reader A) → S → List ℕ → Filler (List A)
 runFit step p σ [] [] = got []
 runFit step p σ [] (x ∷ s) = bad (nr 0 [])

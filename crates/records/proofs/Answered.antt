@@ -2,13 +2,16 @@
 use mathlib.Core.Path.{_≡_, refl, ap, _∙_}
 use Prim.Native.Nat.{ℕ}
 use Rattle.grammar.specs.Record.{Val, num, str, duo}
-use Rattle.grammar.specs.Record as record-of
-use Rattle.reading.specs.Refusal.{Refusal, nr, Answer, accepted, refused}
+use Rattle.reading.specs.Refusal.{Refusal, nr, Answer, accepted, refused, refusedAs}
 use Rattle.reading.specs.Reader.{Fit, got, bad}
 use Rattle.reading.specs.Place.{Placed}
-use Rattle.reading.specs.Place as place
 use Rattle.records.specs.Told.{toldError}
-use Rattle.records.specs.Answered.{withTaken, told, toldSized, toldWritten, toldUser, toldIdentifier, toldFilterItem, toldGotReason}
+use Rattle.records.specs.Answered.{told, toldSized, toldWritten, toldUser, toldIdentifier, toldFilterItem, toldGotReason}
+use Rattle.records.proofs.Laws.{injective-by}
+use Rattle.records.proofs.Told.{backError, back-error, backReason, back-reason, backSpan, back-span}
+use Rattle.records.proofs.Said.{backFilter, back-filter, backPacket, back-packet}
+use Rattle.grammar.specs.Record as record-of
+use Rattle.reading.specs.Place as place
 use Rattle.records.specs.declared.answer.Read.{Read}
 use Rattle.records.specs.declared.answer.Sized.{Sized}
 use Rattle.records.specs.declared.answer.Written.{Written}
@@ -16,9 +19,6 @@ use Rattle.records.specs.declared.answer.UserItem.{UserItem}
 use Rattle.records.specs.declared.answer.IdentifierItem.{IdentifierItem}
 use Rattle.records.specs.declared.answer.FilterItem.{FilterItem}
 use Rattle.records.specs.declared.puback.GotReason.{GotReason}
-use Rattle.records.proofs.Laws.{injective-by}
-use Rattle.records.proofs.Told.{backError, backReason, backSpan, back-error, back-reason, back-span}
-use Rattle.records.proofs.Said.{backPacket, backFilter, back-packet, back-filter}
 
 -- ---- reading
 
@@ -26,7 +26,7 @@ pub backRead : Answer Placed → Read
 backRead (accepted p n) = Read.Packet (backPacket p) n
 backRead (refused k vs n) = Read.Refused (backError (nr k vs)) n
 
-back-taken : (k : Refusal) (n : ℕ) → backRead (withTaken k n) ≡ Read.Refused (backError k) n
+back-taken : (k : Refusal) (n : ℕ) → backRead (refusedAs k n) ≡ Read.Refused (backError k) n
 unfolding backRead
 back-taken (nr k vs) n = refl
 

@@ -4,13 +4,13 @@ use Prim.Native.Nat.{ℕ}
 use Rattle.grammar.specs.Choice.{isIn}
 use Rattle.grammar.specs.Tables.{reasons}
 use Rattle.grammar.specs.Record.{Val, num, duo}
-use Rattle.grammar.specs.Record as record-of
-use Rattle.reading.specs.Refusal.{Refusal, nr, Answer, accepted, refused}
+use Rattle.reading.specs.Refusal.{nr, Answer, accepted, refusedAs}
 use Rattle.reading.specs.Reader.{Fit, got, bad, _>>_, guard}
 use Rattle.reading.specs.Place.{Placed, noItem}
-use Rattle.reading.specs.Place as place
 use Rattle.records.specs.Told.{toldError, toldReason, toldSpan}
-use Rattle.records.specs.Said.{toldPacket, toldFilter}
+use Rattle.records.specs.Said.{toldFilter, toldPacket}
+use Rattle.grammar.specs.Record as record-of
+use Rattle.reading.specs.Place as place
 use Rattle.records.specs.declared.answer.Read.{Read}
 use Rattle.records.specs.declared.answer.Sized.{Sized}
 use Rattle.records.specs.declared.answer.Written.{Written}
@@ -19,14 +19,11 @@ use Rattle.records.specs.declared.answer.IdentifierItem.{IdentifierItem}
 use Rattle.records.specs.declared.answer.FilterItem.{FilterItem}
 use Rattle.records.specs.declared.puback.GotReason.{GotReason}
 
--- 01, "When the desk says no": a refusal, and the count in its column Taken
-abbrev pub withTaken : {A : Type 0} → Refusal → ℕ → Answer A
-withTaken (nr k vs) n = refused k vs n
 
 -- 01, "When the desk says no": "Taken is the count of stream bytes used up"
 abbrev pub told : Read → Answer Placed
 told (Read.Packet p n) = accepted (toldPacket p) n
-told (Read.Refused e n) = withTaken (toldError e) n
+told (Read.Refused e n) = refusedAs (toldError e) n
 
 -- 01: "Asked alone, size refuses only with 20, then 17 for R"
 abbrev pub toldSized : Sized → Fit ℕ

@@ -1,5 +1,5 @@
 -- What the answers on filters and on a Subscribe tell, in 01's numbers and values. Assumes nothing.
-use mathlib.Core.List.{List, [], _∷_}
+use mathlib.Core.List.{[], _∷_}
 use Prim.Native.Nat.{ℕ}
 use lib.Dec.{ltb, eqb}
 use Rattle.grammar.specs.Choice.{pick}

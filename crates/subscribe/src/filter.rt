@@ -107,10 +107,8 @@ pub fn read_filters(s: &[u8], at: usize) -> GotFilters
             }
         }
     }
-    GotFilters::Place(Span {
-        start: at,
-        len: s.len() - at,
-    })
+    let len = s.len() - at;
+    GotFilters::Place(Span { start: at, len })
 }
 
 // The filter f if its turn is n, else what was there.

@@ -3,7 +3,6 @@
 use crate::fixed;
 use crate::got::GotSpan;
 use crate::got::GotU16;
-use crate::text;
 use records::error::Error;
 use records::span::MaybeSpan;
 use records::span::Span;
@@ -39,8 +38,7 @@ pub fn read_mqtt_string(s: &[u8], at: usize) -> GotSpan
     match read_mqtt_bytes(s, at) {
         GotSpan::Refused(e) => GotSpan::Refused(e),
         GotSpan::Value(p, next) => {
-            let from = p.start;
-            if text::is_utf8(&s[from..next]) {
+            if utf8::is_utf8(part(s, p)) {
                 return GotSpan::Value(p, next);
             }
             GotSpan::Refused(Error::TopicNotUtf8)

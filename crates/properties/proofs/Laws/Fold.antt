@@ -21,11 +21,11 @@ use Rattle.reading.proofs.Lists.{eq-of}
 use Rattle.positions.specs.Position.{fromAt}
 use Rattle.positions.proofs.Walk.{fold-nil, fold-bad, fold-next}
 use Rattle.positions.proofs.Less.{property-less}
-use Rattle.positions.proofs.Trails.{trails-property}
-use Rattle.positions.proofs.Position.{got-left, bad-left}
-use Rattle.properties.specs.Told.{formOf}
+use Rattle.positions.proofs.Position.{bad-left}
+use Rattle.property_value.specs.Told.{formOf}
 use Rattle.properties.specs.Block.{Row, publishRow, subscribeRow, ackRow, applied, loopFrom, filledAt}
-use Rattle.properties.specs.declared.value.Value.{Value}
+use Rattle.property_value.proofs.Laws.Value.{property-left, property-ahead}
+use Rattle.property_value.specs.declared.Value.{Value}
 
 -- ---- a rule of every entry of a place's row holds of what is looked up there
 
@@ -163,22 +163,13 @@ propertyAt w s at = fromAt (propertyOf asPlaces (w .place) (length s)) s at
 
 module _ (w : Row) (s : List ℕ) (at : ℕ) (h : at < length s) where
   module _ (a : Prop Span) (n : ℕ) (e : got (a, n) ≡ propertyAt w s at) where
-    left : propertyOf asPlaces (w .place) (length s) (drop at s) ≡ got (a, drop n s)
-    left = got-left (propertyOf asPlaces (w .place) (length s)) s at (trails-property asPlaces (length s) (w .place)) a n (sym e)
-
-    -- a property takes a byte at least
-    ahead : at < n
-    ahead =
-        let l : length (drop n s) < length (drop at s) = property-less (w .place) (length s) (drop at s) (a, drop n s) (rw length-drop (omega arith)) left in
-        omega (arith, simp length-drop at l)
-
     pub loop-next : (o : w .Props) → loopFrom w o s at ≡ loopFrom w (applied w o a) s n
     unfolding loopFrom
     loop-next o =
         ap (loopOn w (length s) o) (drop-cons s at 0 h)
         ∙ (fold-next forget (λ _. propertyOf asPlaces (w .place) (length s)) (length s) (λ σ. property-less (w .place) (length s)) (applied w) o tt (getD s at 0) (drop (suc at) s) (a, drop n s)
         (rw length-drop (omega arith))
-        (rw (drop-cons s at 0 h) at left))
+        (rw (drop-cons s at 0 h) at (property-left (w .place) s at a n e)))
 
   pub loop-bad : (o : w .Props) (k : Refusal) → bad k ≡ propertyAt w s at → loopFrom w o s at ≡ bad k
   unfolding loopFrom
@@ -205,7 +196,7 @@ module _ {w : Row} {s : List ℕ} {whole : Fit (w .Props)} {o : w .Props} {at : 
   filling-next h a n e o′ i = record { rest = f .rest ∙ loop-next w s at h a n e o ∙ ap (λ (u : w .Props). loopFrom w u s n) (sym i) }
 
   pub filling-ahead : at < length s → (a : Prop Span) (n : ℕ) → got (a, n) ≡ propertyAt w s at → at < n
-  filling-ahead h a n e = ahead w s at h a n e
+  filling-ahead h a n e = property-ahead (w .place) s at a n e
 
   filling-bad : at < length s → (k : Refusal) → bad k ≡ propertyAt w s at → whole ≡ bad k
   filling-bad h k e = f .rest ∙ loop-bad w s at h o k e

@@ -1,12 +1,12 @@
 -- A filter is its text, then its options; a run of filters is what a loop over them passes; the n-th is the one whose turn is n.
 -- Assumes nothing.
-use mathlib.Core.Path.{_≡_, refl, sym, ap, _∙_}
+use mathlib.Core.Path.{_≡_, refl, sym, _∙_}
 use mathlib.Core.Bool.{Bool, true, false}
 use mathlib.Core.List.{List, [], _∷_, _++_}
 use Prim.Native.Nat.{ℕ, zero, suc, _+_, _-_, _/_, _%_, _≤_, _<_}
 use native.Mathlib.Nat.{mod-lt}
 use native.Mathlib.Omega.{arith}
-use lib.Dec.{eqb, ltb, leb}
+use lib.Dec.{eqb, ltb}
 use lib.ListN.{length, take, drop, length-append, length-drop, drop-of-length-le}
 use lib.Seq.{length-take-le}
 use Rattle.grammar.specs.Record.{Filter, mkFilter}
@@ -14,13 +14,12 @@ use Rattle.grammar.specs.Sentence.{notThree, qosFine, ruleFine, someOf}
 use Rattle.reading.specs.Refusal.{Refusal, nr, cut}
 use Rattle.reading.specs.Reader.{Fit, got, bad, Reader, _>>=_, _>>_, guard, mapOf, onlyOf, thenOf, handFit, onlyFit, runFit, chainFit, manyFit}
 use Rattle.reading.specs.Read.{byteOf, textOf, filterOf, filtersFit}
-use Rattle.reading.specs.Place.{Span, spanOf, asPlaces, noItem, again, nthOf, filterAt}
+use Rattle.reading.specs.Place.{Span, asPlaces, noItem, again, nthOf, filterAt}
 use Rattle.reading.proofs.Lists.{leb-yes, leb-no}
-use Rattle.reading.proofs.Reading.{bad-got}
 use Rattle.positions.specs.Position.{fromAt}
 use Rattle.positions.proofs.At.{part-slice}
 use Rattle.positions.proofs.Less.{filter-less}
-use Rattle.positions.proofs.Trails.{Trails, trails-byte, trails-text, trails-filter}
+use Rattle.positions.proofs.Trails.{trails-byte, trails-text, trails-filter}
 use Rattle.positions.proofs.Position.{got-left, got-within, bad-left, left-at, left-bad}
 use Rattle.positions.proofs.Run.{Passed, none-passed, item-ahead, passed-end, passed-bad, passed-next, nth-behind}
 use Rattle.wire.specs.Qos.{qosOf}

@@ -59,6 +59,17 @@ module _ (t : List ℕ → Bool) (c : Refusal) (s : List ℕ) (at : ℕ) where
       unfolding stringFit handFit isFit
       string-broken f = sym (left-bad (strOf t c (length s)) s at c (whole ∙ rw f))
 
+-- ---- the part at a place
+
+module _ (s : List ℕ) (p : Span) where
+  pub held-within : p .start + p .len ≤ length s → partOf s p ≡ heldOf s p
+  unfolding heldOf
+  held-within h = rw (le-leb (p .start + p .len) (length s) h)
+
+  pub held-outside : length s < p .start + p .len → [] ≡ heldOf s p
+  unfolding heldOf
+  held-outside h = rw (lt-leb (p .start + p .len) (length s) h)
+
 -- ---- what a string that was read as bytes says of the same string read as text
 
 -- where it stands: its length before it, its end within the slice
@@ -105,17 +116,16 @@ module _ (s : List ℕ) (at : ℕ) where
       go (stands l m w o) = absurd (bad-got (e ∙ sym (string-fine anyBytes cut s at l m w o refl)))
 
   module _ {z : Span × ℕ} (h : Stands s at z) where
-    -- its bytes, as the part from its start to its end
-    cut-at : (b : Bool) → b ≡ isText (take (z .1 - z .0 .start) (drop (z .0 .start) s)) → isText (take (z .0 .len) (drop (z .0 .start) s)) ≡ b
-    cut-at b e = let n : z .1 - z .0 .start ≡ z .0 .len = omega (arith, h .ends) in rw n at (sym e)
+    held : (b : Bool) → b ≡ isText (heldOf s (z .0)) → isText (partOf s (z .0)) ≡ b
+    held b e = rw (held-within s (z .0) (omega (arith, h .ends, h .within))) (sym e)
 
-    pub text-fine : true ≡ isText (take (z .1 - z .0 .start) (drop (z .0 .start) s)) → got z ≡ fromAt (textOf asPlaces (length s)) s at
+    pub text-fine : true ≡ isText (heldOf s (z .0)) → got z ≡ fromAt (textOf asPlaces (length s)) s at
     unfolding textOf
-    text-fine e = ap (λ (n : ℕ). got (z .0, n)) (h .ends) ∙ string-fine isText (nr 9 []) s at (z .0 .len) (z .0 .start) (h .size) (omega (arith, h .ends, h .within)) (cut-at true e)
+    text-fine e = ap (λ (n : ℕ). got (z .0, n)) (h .ends) ∙ string-fine isText (nr 9 []) s at (z .0 .len) (z .0 .start) (h .size) (omega (arith, h .ends, h .within)) (held true e)
 
-    pub text-broken : false ≡ isText (take (z .1 - z .0 .start) (drop (z .0 .start) s)) → bad (nr 9 []) ≡ fromAt (textOf asPlaces (length s)) s at
+    pub text-broken : false ≡ isText (heldOf s (z .0)) → bad (nr 9 []) ≡ fromAt (textOf asPlaces (length s)) s at
     unfolding textOf
-    text-broken e = string-broken isText (nr 9 []) s at (z .0 .len) (z .0 .start) (h .size) (omega (arith, h .ends, h .within)) (cut-at false e)
+    text-broken e = string-broken isText (nr 9 []) s at (z .0 .len) (z .0 .start) (h .size) (omega (arith, h .ends, h .within)) (held false e)
 
 -- ---- bytes put as far as they fit
 
@@ -156,14 +166,3 @@ pub put-string : (l l₁ l₂ xs : List ℕ) (at : ℕ) → l₁ ≡ sets l at (
 unfolding string
 put-string l l₁ l₂ xs at e f =
     f ∙ rw (e, wide-cut (length xs), sets-append (wide 2 (length xs)) xs l at, length-wide 2 (length xs))
-
--- ---- the part at a place
-
-module _ (s : List ℕ) (p : Span) where
-  pub held-within : p .start + p .len ≤ length s → partOf s p ≡ heldOf s p
-  unfolding heldOf
-  held-within h = rw (le-leb (p .start + p .len) (length s) h)
-
-  pub held-outside : length s < p .start + p .len → [] ≡ heldOf s p
-  unfolding heldOf
-  held-outside h = rw (lt-leb (p .start + p .len) (length s) h)

@@ -27,7 +27,7 @@ enum-known-v-4 : tie.Need-enum-known-v-4
 enum-known-v-4 c = search needs
 
 returns : tie.Need-returns
-returns c = rw (c .before .before .before .v4 .given .1, c .before .if1 .taken)
+returns c = rw (c .before .before .before .before .before .v4 .given .1, c .before .before .before .if1 .taken)
 
 enum-known-v-5 : tie.Need-enum-known-v-5
 enum-known-v-5 c = search needs
@@ -37,36 +37,36 @@ enum-told-2 c = search needs
 
 returns-2 : tie.Need-returns-2
 returns-2 c =
-    let e = c .before .before .v .given .1 in
-    let b = c .before .before .before .before in
-    rw (e, publish-is (b .args .k) e (b .pre))
+    let b = c .before .before .before .before .before in
+    let e = b .v .given .1 in
+    rw (e, publish-is (b .before .before .args .k) e (b .before .before .pre))
 
 returns-3 : tie.Need-returns-3
 returns-3 c =
-    let e = c .before .before .v2 .given .1 in
-    let b = c .before .before .before .before in
-    rw (e, publish-is (b .args .k) e (b .pre))
+    let b = c .before .before .before .before .before in
+    let e = b .v2 .given .1 in
+    rw (e, publish-is (b .before .before .args .k) e (b .before .before .pre))
 
 returns-4 : tie.Need-returns-4
 returns-4 c =
-    let e = c .before .before .v3 .given .1 in
-    let b = c .before .before .before .before in
-    rw (e, publish-is (b .args .k) e (b .pre))
+    let b = c .before .before .before .before .before in
+    let e = b .v3 .given .1 in
+    rw (e, publish-is (b .before .before .args .k) e (b .before .before .pre))
 
 returns-5 : tie.Need-returns-5
 returns-5 c = rw (c .enum-told .given .1, publish-is (c .before .before .args .k) (c .enum-told .given .1) (c .before .before .pre))
 
 returns-6 : tie.Need-returns-6
 returns-6 c =
-    let e = c .before .before .before .v4 .given .1 in
     let b = c .before .before .before .before .before in
-    rw (e, not-eight (b .args .k) (c .before .if1 .left) (publish-is (b .args .k) e (b .pre)))
+    let e = b .v4 .given .1 in
+    rw (e, not-eight (b .before .before .args .k) (c .before .before .before .if1 .left) (publish-is (b .before .before .args .k) e (b .before .before .pre)))
 
 returns-7 : tie.Need-returns-7
 returns-7 c =
-    let e = c .before .before .v5 .given .1 in
     let b = c .before .before .before .before in
-    rw (e, publish-is (b .args .k) e (b .pre))
+    let e = b .v5 .given .1 in
+    rw (e, publish-is (b .before .before .args .k) e (b .before .before .pre))
 
 returns-8 : tie.Need-returns-8
 returns-8 c = rw (c .enum-told2 .given .1, publish-is (c .before .before .args .k) (c .enum-told2 .given .1) (c .before .before .pre))

@@ -1,20 +1,21 @@
 -- `properties::publish::fill` meets its contract. The loop's invariant: the rest of the loop decides the whole. Each property takes a byte at
 -- least, and what is left of the slice is the measure. Assumes nothing.
 use mathlib.Core.Path.{sym, ap, _∙_}
+use mathlib.Core.Option.{some}
 use Prim.Native.Nat.{_-_}
 use native.Mathlib.Omega.{arith}
 use lib.ListN.{length}
 use borrow.Author.Needs.{needs}
+use Rattle.reading.specs.Reader.{got}
 use Rattle.records.specs.Told.{toldSpan}
-use Rattle.records.specs.Said.{toldPublishProperties}
-use Rattle.properties.specs.Told.{toldProperty}
-use Rattle.properties.specs.Block.{publishRow, loopFrom}
+use Rattle.property_value.specs.Told.{toldProperty}
+use Rattle.properties.specs.Block.{toldSingles, publishRow, loopFrom}
 use Rattle.properties.proofs.Laws.Fold.{Filling, filling-start, filling-next, filling-ahead, filled-bad, filled-end}
 use Rattle.properties.proofs.publish.fill.Statement.{statement}
 use Rattle.properties.proofs.publish.fill.Tie as tie
 
 abbrev Inv-loop : tie.InvT-loop
-Inv-loop s p₀ at₀ p at = Filling publishRow s (loopFrom publishRow (toldPublishProperties p₀) s at₀) (toldPublishProperties p) at
+Inv-loop s p₀ at₀ p at = Filling publishRow s (loopFrom publishRow (toldSingles p₀) s at₀) (toldSingles p) at
 
 abbrev μ-loop : tie.MeasureT-loop
 μ-loop s p₀ at₀ p at = length s - at
@@ -55,8 +56,14 @@ returns c =
     let e = sym (ap toldProperty (c .before .e .given .1)) ∙ b .read-property .ensures .says in
     filled-bad (toldSpan (c .before .before .before .before .before .before .before .before .args .block)) (c .before .before .before .before .before .before .none .ensures) (b .before .before .loop .inv) (b .before .loop-test .taken) _ e
 
+made-requires : tie.Need-made-requires Inv-loop μ-loop
+made-requires c κs = search needs
+
 returns-2 : tie.Need-returns-2 Inv-loop μ-loop
-returns-2 c = filled-end (toldSpan (c .before .before .before .before .args .block)) (c .before .before .none .ensures) (c .before .loop .inv) (c .loop-test .left)
+returns-2 c =
+    let a = c .before .before .before .before .before .args in
+    ap (λ (o : publishRow .Props). got (some o, length (a .s .now))) (c .made .ensures)
+    ∙ filled-end (toldSpan (a .block)) (c .before .before .before .none .ensures) (c .before .before .loop .inv) (c .before .loop-test .left)
 
 pub fill-spec : {M : Type 1} → statement M
 fill-spec =
@@ -73,4 +80,5 @@ fill-spec =
     loop-again
     enum-known-e
     returns
+    made-requires
     returns-2)

@@ -8,7 +8,7 @@ use borrow.Author.Needs.{needs}
 use Rattle.grammar.specs.Record.{lastOf, subscribeProps}
 use Rattle.records.specs.Told.{toldSpan}
 use Rattle.records.specs.Said.{toldSubscribeProperties}
-use Rattle.properties.specs.Told.{toldProperty}
+use Rattle.property_value.specs.Told.{toldProperty}
 use Rattle.properties.specs.Block.{subscribeRow, loopFrom}
 use Rattle.properties.proofs.Laws.Fold.{Filling, filling-start, filling-next, filling-ahead, filled-bad, filled-end}
 use Rattle.properties.proofs.subscribe.fill.Statement.{statement}

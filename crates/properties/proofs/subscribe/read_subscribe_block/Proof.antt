@@ -31,7 +31,7 @@ slice-aggregate-fill : tie.Need-slice-aggregate-fill
 slice-aggregate-fill c =
     let a = c .before .before .before .before .before .before .before .before .args in
     let e = sym (ap toldPart (c .before .before .before .before .block .given .1)) ∙ c .before .before .before .before .before .before .read-room .ensures in
-    sym (length-take-le _ _ (room-stands (now (a .s)) (a .at) _ e .inside))
+    sym (length-take-le _ _ (omega (arith, room-stands (now (a .s)) (a .at) _ e .inside)))
 
 fill-requires : tie.Need-fill-requires
 fill-requires c κs = search needs

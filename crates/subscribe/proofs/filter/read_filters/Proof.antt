@@ -15,7 +15,7 @@ abbrev μ-loop : tie.MeasureT-loop
 μ-loop s at i₀ i = length s - i
 
 returns : tie.Need-returns Inv-loop μ-loop
-returns c = run-empty (now (c .before .before .args .s)) (c .before .before .args .at) (c .if1 .taken)
+returns c = run-empty (now (c .before .before .args .s)) (c .before .before .args .at) (omega arith)
 
 loop-holds : tie.Need-loop-holds Inv-loop μ-loop
 loop-holds c = going-start (now (c .before .before .args .s)) (c .before .before .args .at)
@@ -40,11 +40,11 @@ loop-less c =
 loop-again : tie.Need-loop-again Inv-loop μ-loop
 loop-again c = going-next (c .before .before .before .before .before .loop .inv) (c .before .before .before .before .loop-test .taken) (rw (c .before .next .given .1) at (c .before .before .before .read-filter .ensures))
 
-sub-t12 : tie.Need-sub-t12 Inv-loop μ-loop
-sub-t12 c = omega arith
+sub-len : tie.Need-sub-len Inv-loop μ-loop
+sub-len c = omega arith
 
 returns-3 : tie.Need-returns-3 Inv-loop μ-loop
-returns-3 c = going-end (c .before .loop .inv) (c .before .before .if1 .left) (c .loop-test .left)
+returns-3 c = going-end (c .before .loop .inv) (omega arith) (omega arith)
 
 pub read-filters-spec : {M : Type 1} → statement M
 read-filters-spec =
@@ -60,5 +60,5 @@ read-filters-spec =
     enum-known-next
     loop-less
     loop-again
-    sub-t12
+    sub-len
     returns-3)

@@ -34,7 +34,10 @@ returns c =
     string-crossed anyBytes cut (now (a .s)) (a .at) _ _ e (omega arith)
 
 add-t9 : tie.Need-add-t9
-add-t9 c = search needs
+add-t9 c =
+    let a = c .before .before .before .before .before .before .args in
+    let e = sym (ap toldU16 (c .before .before .n .given .1)) ∙ c .before .before .before .before .read-u16 .ensures in
+    omega (arith, size-within (now (a .s)) (a .at) _ _ e)
 
 returns-2 : tie.Need-returns-2
 unfolding bytesOf
@@ -47,7 +50,7 @@ unfolding bytesOf
 returns-3 c =
     let a = c .before .before .before .before .before .before .args in
     let e = sym (ap toldU16 (c .before .before .n .given .1)) ∙ c .before .before .before .before .read-u16 .ensures in
-    string-fine anyBytes cut (now (a .s)) (a .at) _ _ e (omega (arith, size-within _ _ _ _ e)) refl
+    string-fine anyBytes cut (now (a .s)) (a .at) _ _ e (omega (arith, size-within (now (a .s)) (a .at) _ _ e)) refl
 
 pub read-mqtt-bytes-spec : {M : Type 1} → statement M
 read-mqtt-bytes-spec =

@@ -1,9 +1,9 @@
--- `wire::string::read_mqtt_string` meets its contract: what is refused as bytes is refused as text, and what stands there is tested.
--- Assumes nothing.
+-- `wire::string::read_mqtt_string` meets its contract: what is refused as bytes is refused as text, and the part that stands there is
+-- tested. Assumes nothing.
 use mathlib.Core.Path.{ap, sym, _∙_}
-use native.Mathlib.Omega.{arith}
 use borrow.Author.Needs.{needs}
 use denote.Ref.{now}
+use Rattle.reading.specs.Read.{isText}
 use Rattle.wire.specs.Told.{toldPart}
 use Rattle.wire.proofs.Laws.Strings.{string-stands, text-bad, text-fine, text-broken}
 use Rattle.wire.proofs.string.read_mqtt_string.Statement.{statement}
@@ -18,23 +18,8 @@ enum-known-e c = search needs
 enum-known-p : tie.Need-enum-known-p
 enum-known-p c = search needs
 
-sub-is-utf8 : tie.Need-sub-is-utf8
-sub-is-utf8 c =
-    let a = c .before .before .before .before .before .args in
-    let h = string-stands (now (a .s)) (a .at) _ (sym (ap toldPart (c .before .p .given .1)) ∙ c .before .before .before .read-mqtt-bytes .ensures) in
-    omega (arith, h .ends)
-
-part-is-utf8-start : tie.Need-part-is-utf8-start
-part-is-utf8-start c =
-    let a = c .before .before .before .before .before .args in
-    let h = string-stands (now (a .s)) (a .at) _ (sym (ap toldPart (c .before .p .given .1)) ∙ c .before .before .before .read-mqtt-bytes .ensures) in
-    omega (arith, h .ends)
-
-part-is-utf8-end : tie.Need-part-is-utf8-end
-part-is-utf8-end c =
-    let a = c .before .before .before .before .before .args in
-    let h = string-stands (now (a .s)) (a .at) _ (sym (ap toldPart (c .before .p .given .1)) ∙ c .before .before .before .read-mqtt-bytes .ensures) in
-    h .within
+part-requires : tie.Need-part-requires
+part-requires c κs = search needs
 
 is-utf8-requires : tie.Need-is-utf8-requires
 is-utf8-requires c κs = search needs
@@ -43,7 +28,7 @@ returns : tie.Need-returns
 returns c =
     let a = c .before .before .before .before .before .before .before .before .args in
     let h = string-stands (now (a .s)) (a .at) _ (sym (ap toldPart (c .before .before .before .before .p .given .1)) ∙ c .before .before .before .before .before .before .read-mqtt-bytes .ensures) in
-    text-fine (now (a .s)) (a .at) h (sym (c .if1 .taken) ∙ c .before .is-utf8 .ensures)
+    text-fine (now (a .s)) (a .at) h (sym (c .if1 .taken) ∙ c .before .is-utf8 .ensures ∙ ap isText (c .before .before .part .ensures))
 
 returns-2 : tie.Need-returns-2
 returns-2 c =
@@ -54,7 +39,7 @@ returns-3 : tie.Need-returns-3
 returns-3 c =
     let a = c .before .before .before .before .before .before .before .before .args in
     let h = string-stands (now (a .s)) (a .at) _ (sym (ap toldPart (c .before .before .before .before .p .given .1)) ∙ c .before .before .before .before .before .before .read-mqtt-bytes .ensures) in
-    text-broken (now (a .s)) (a .at) h (sym (c .if1 .left) ∙ c .before .is-utf8 .ensures)
+    text-broken (now (a .s)) (a .at) h (sym (c .if1 .left) ∙ c .before .is-utf8 .ensures ∙ ap isText (c .before .before .part .ensures))
 
 pub read-mqtt-string-spec : {M : Type 1} → statement M
 read-mqtt-string-spec =
@@ -63,9 +48,7 @@ read-mqtt-string-spec =
     read-mqtt-bytes-requires
     enum-known-e
     enum-known-p
-    sub-is-utf8
-    part-is-utf8-start
-    part-is-utf8-end
+    part-requires
     is-utf8-requires
     returns
     returns-2

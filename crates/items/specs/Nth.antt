@@ -1,0 +1,48 @@
+-- What the search for the n-th value of a property comes to. Assumes nothing.
+use mathlib.Core.Path.{_≡_}
+use mathlib.Core.Option.{Option, some}
+use mathlib.Core.List.{List, [], _∷_}
+use Prim.Native.Nat.{ℕ}
+use lib.ListN.{length, drop}
+use Rattle.grammar.specs.Choice.{lookup}
+use Rattle.grammar.specs.Record.{Val, Prop, allOf}
+use Rattle.reading.specs.Reader.{Fit, got, _>>=_}
+use Rattle.reading.specs.Read.{propertiesFit}
+use Rattle.reading.specs.Place.{asPlaces, orNoItem, nthOf, valuesAt}
+use Rattle.property_value.specs.Told.{toldValue, formOf}
+use Rattle.grammar.specs.Tables as tables
+use Rattle.reading.specs.Place as place
+use Rattle.property_value.specs.declared.Value.{Value}
+use Rattle.items.specs.declared.Seek.{Seek}
+use Rattle.items.specs.declared.Seek.the-variants.{Left, At}
+
+-- 01, "What must change shape": "a way to get the n-th", where the values vs follow
+abbrev pub sought : Seek → List (Val place.Span) → Fit (Val place.Span)
+sought (Left n) vs = nthOf n vs
+sought (At v) vs = got (toldValue v)
+
+-- a value that was found is of the form o
+abbrev pub Formed : Option tables.Form → Seek → Type 0
+Formed o (Left n) = Unit {0}
+Formed o (At v) = o ≡ some (formOf v)
+
+-- the search q for property i goes on as r where property k with value v is passed, whatever properties follow
+pub record SeekOn (q : Seek) (i k : ℕ) (v : Value) (r : Seek) : Type 0 where
+  pub says : (ps : List (Prop place.Span)) → sought r (allOf i ps) ≡ sought q (allOf i ((k, toldValue v) ∷ ps))
+  pub formed : (f : ℕ → Option tables.Form) → f k ≡ some (formOf v) → Formed (f i) q → Formed (f i) r
+
+-- 01, row 21: what the search q comes to in the properties that fill the bytes b, which end at index `end`, or that they are no block
+unfoldable pub soughtIn : tables.Place → ℕ → ℕ → Seek → List ℕ → Fit (Val place.Span)
+soughtIn row i end q b = do
+  ps ← orNoItem (propertiesFit asPlaces row end b)
+  sought q (allOf i ps)
+
+-- the n-th value of property i in the block that fills s from `start` on
+pub record SeekIn (row : tables.Place) (i : ℕ) (s : List ℕ) (start n : ℕ) (r : Seek) : Type 0 where
+  pub says : sought r [] ≡ soughtIn row i (length s) (Left n) (drop start s)
+  pub formed : Formed (lookup row i) r
+
+-- the n-th value of property i in the block at a place of s
+pub record NthRead (row : tables.Place) (i : ℕ) (s : List ℕ) (p : place.Span) (n : ℕ) (r : Seek) : Type 0 where
+  pub says : sought r [] ≡ (valuesAt asPlaces s p row i >>= nthOf n)
+  pub formed : Formed (lookup row i) r

@@ -1,0 +1,103 @@
+// The n-th user property and the n-th subscription identifier of a block: what stands in place of the lists of publish.rs, subscribe.rs and
+// puback.rs. The whole block is read, so that a fault behind the item is seen.
+use property_value::GotProperty;
+use property_value::Value;
+use records::answer::IdentifierItem;
+use records::answer::UserItem;
+use records::span::Span;
+use wire::property::PropertyPlace;
+ghost use mathlib.Core.Path.{_≡_};
+ghost use Rattle.reading.specs.Place.{asPlaces, userAt, subscriptionAt};
+ghost use Rattle.records.specs.Told.{toldSpan};
+ghost use Rattle.records.specs.Answered.{toldUser, toldIdentifier};
+ghost use Rattle.wire.specs.Property.{placeOf};
+ghost use Rattle.items.specs.Nth.{SeekOn, SeekIn, NthRead};
+
+// The search for a value: how many are to be passed before it, or the value.
+enum Seek {
+    Left(usize),
+    At(Value),
+}
+
+// The search for values of property id, after property k with value v.
+fn seek_on(seek: Seek, id: u8, k: u8, v: Value) -> Seek
+    ensures { λ r. ⌜ SeekOn seek id k v r ⌝ }
+{
+    if k != id {
+        return seek;
+    }
+    match seek {
+        Seek::Left(n) => {
+            if n == 0 {
+                return Seek::At(v);
+            }
+            Seek::Left(n - 1)
+        }
+        Seek::At(_) => seek,
+    }
+}
+
+// The n-th value of property id in the block that fills s from start on.
+fn seek_in(place: PropertyPlace, id: u8, s: &[u8], start: usize, n: usize) -> Seek
+    ensures { λ r. ⌜ SeekIn (placeOf place) id (now (s .entry)) start n r ⌝ }
+{
+    let mut seek = Seek::Left(n);
+    let mut at = start;
+    while at < s.len() {
+        match property_value::read_property(place, s, at) {
+            GotProperty::Refused(_) => {
+                return Seek::Left(n);
+            }
+            GotProperty::Found(k, v, next) => {
+                seek = seek_on(seek, id, k, v);
+                at = next;
+            }
+        }
+    }
+    seek
+}
+
+// The n-th value of property id in the block at a place.
+fn nth_value(place: PropertyPlace, id: u8, s: &[u8], p: Span, n: usize) -> Seek
+    ensures { λ r. ⌜ NthRead (placeOf place) id (now (s .entry)) (toldSpan p) n r ⌝ }
+{
+    let start = p.start;
+    let len = p.len;
+    if s.len() < start {
+        return Seek::Left(n);
+    }
+    if s.len() - start < len {
+        return Seek::Left(n);
+    }
+    let end = start + len;
+    seek_in(place, id, &s[..end], start, n)
+}
+
+pub fn user_property(place: PropertyPlace, s: &[u8], p: Span, n: usize) -> UserItem
+    ensures { λ r. ⌜ toldUser r ≡ userAt asPlaces (now (s .entry)) (toldSpan p) (placeOf place) n ⌝ }
+{
+    match nth_value(place, 38, s, p, n) {
+        Seek::Left(_) => UserItem::NoItem,
+        Seek::At(v) => {
+            if let Value::Pair(key, value) = v {
+                return UserItem::Pair(key, value);
+            }
+            UserItem::NoItem
+        }
+    }
+}
+
+// Of a Publish.
+pub fn subscription_identifier(s: &[u8], p: Span, n: usize) -> IdentifierItem
+    ensures { λ r. ⌜ toldIdentifier r ≡ subscriptionAt asPlaces (now (s .entry)) (toldSpan p) n ⌝ }
+{
+    match nth_value(PropertyPlace::Publish, 11, s, p, n) {
+        Seek::Left(_) => IdentifierItem::NoItem,
+        Seek::At(v) => {
+            if let Value::Number(id) = v {
+                return IdentifierItem::Number(id);
+            }
+            IdentifierItem::NoItem
+        }
+    }
+}

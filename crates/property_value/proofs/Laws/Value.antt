@@ -1,0 +1,169 @@
+-- How a property is read at an index: its identifier, then its value by the form that the row gives it. Assumes nothing.
+use mathlib.Core.Path.{_≡_, refl, sym, ap, _∙_}
+use mathlib.Core.Option.{Option, none, some}
+use mathlib.Core.List.{List, [], _∷_}
+use Prim.Native.Nat.{ℕ, _-_, _<_}
+use native.Mathlib.Omega.{arith}
+use lib.ListN.{length, drop, length-drop}
+use Rattle.grammar.specs.Choice.{lookup}
+use Rattle.grammar.specs.Tables.{Form, u8, u16, u32, number, text, bytes, pair, Place}
+use Rattle.grammar.specs.Record.{Val, num, str, Prop}
+use Rattle.grammar.specs.Sentence.{duoOf}
+use Rattle.reading.specs.Refusal.{Refusal, cut}
+use Rattle.reading.specs.Reader.{Fit, got, bad, Reader, _>>=_, mapOf, thenOf}
+use Rattle.reading.specs.Read.{bigOf, byteOf, numOf, bytesOf, textOf, valueOf, valueAt, propertyOf}
+use Rattle.reading.specs.Place.{Span, asPlaces}
+use Rattle.reading.proofs.Reading.{bad-got, from-got, from-bind}
+use Rattle.reading.proofs.Refusing.{got-bad}
+use Rattle.positions.specs.Position.{fromAt}
+use Rattle.positions.proofs.Less.{property-less}
+use Rattle.positions.proofs.Trails.{Trails, trails-map, trails-then, trails-byte, trails-big, trails-num, trails-bytes, trails-text, trails-property}
+use Rattle.positions.proofs.Position.{got-left, bad-left, left-bad}
+use Rattle.positions.proofs.Fill.{then-bad, map-bad, then-got, map-got}
+use Rattle.records.specs.Told.{toldError, toldSpan}
+use Rattle.property_value.specs.Told.{toldValue, formOf, toldProperty, Typed, ValueRead, PropertyRead}
+use Rattle.records.specs.declared.error.Error.{Error}
+use Rattle.records.specs.declared.span.Span as records
+use Rattle.property_value.specs.declared.Value.{Value}
+use Rattle.property_value.specs.declared.Value.the-variants.{Pair}
+use Rattle.property_value.specs.declared.GotProperty.{GotProperty}
+use Rattle.property_value.specs.declared.GotProperty.the-variants.{Found, Refused}
+
+-- ---- the value, by its form
+
+-- values of the form f are what p reads, seen through inj
+pub record Reader-of (f : Form) {A : Type 0} (inj : A → Val Span) (p : Reader A) (end : ℕ) : Type 0 where
+  pub same : valueOf asPlaces f end ≡ mapOf inj p
+  pub trails : Trails p
+
+module _ (end : ℕ) where
+  pub of-u8 : Reader-of u8 num (byteOf cut) end
+  unfolding valueOf
+  of-u8 = record { same = refl; trails = trails-byte cut }
+
+  pub of-u16 : Reader-of u16 num (bigOf cut 2) end
+  unfolding valueOf
+  of-u16 = record { same = refl; trails = trails-big cut 2 }
+
+  pub of-u32 : Reader-of u32 num (bigOf cut 4) end
+  unfolding valueOf
+  of-u32 = record { same = refl; trails = trails-big cut 4 }
+
+  pub of-number : Reader-of number num (numOf cut 4) end
+  unfolding valueOf
+  of-number = record { same = refl; trails = trails-num cut 4 }
+
+  pub of-text : Reader-of text str (textOf asPlaces end) end
+  unfolding valueOf
+  of-text = record { same = refl; trails = trails-text asPlaces end }
+
+  pub of-bytes : Reader-of bytes str (bytesOf asPlaces end) end
+  unfolding valueOf
+  of-bytes = record { same = refl; trails = trails-bytes asPlaces end }
+
+  pub of-pair : Reader-of pair duoOf (thenOf (textOf asPlaces end) (λ _. textOf asPlaces end)) end
+  unfolding valueOf
+  of-pair = record { same = refl; trails = trails-then (trails-text asPlaces end) (λ _. trails-text asPlaces end) }
+
+-- the value with its identifier
+abbrev tagged : {A : Type 0} → (A → Val Span) → Reader A → ℕ → Reader (Prop Span)
+tagged inj p k = mapOf (λ v. (k, v)) (mapOf inj p)
+
+value-tagged : {f : Form} {A : Type 0} {inj : A → Val Span} {p : Reader A} (s : List ℕ) → Reader-of f inj p (length s) → (k at : ℕ)
+    → fromAt (valueAt asPlaces (some f) k (length s)) s at ≡ fromAt (tagged inj p k) s at
+unfolding valueAt mapOf
+value-tagged s R k at = ap (λ (q : Reader (Val Span)). fromAt (mapOf (λ v. (k, v)) q) s at) (R .same)
+
+module _ {f : Form} {A : Type 0} {inj : A → Val Span} {p : Reader A} {s : List ℕ} {k at : ℕ} where
+  pub found : {x : A} {m : ℕ} {v : Value} → Reader-of f inj p (length s) → got (x, m) ≡ fromAt p s at → toldValue v ≡ inj x → formOf v ≡ f → ValueRead (some f) k s at (Found k v m)
+  found {x = x} {m = m} R e t u = record {
+    says =
+        ap (λ (w : Val Span). got ((k, w), m)) t
+        ∙ sym (map-got (mapOf inj p) s at (trails-map (R .trails) inj) (inj x) m (map-got p s at (R .trails) x m (sym e) inj) (λ w. (k, w)))
+        ∙ sym (value-tagged s R k at);
+    typed = ap some (sym u);
+  }
+
+  pub refused : {e : Error} → Reader-of f inj p (length s) → bad (toldError e) ≡ fromAt p s at → ValueRead (some f) k s at (Refused e)
+  refused {e = e} R h = record {
+    says = sym (map-bad (mapOf inj p) s at (λ w. (k, w)) (toldError e) (map-bad p s at inj (toldError e) (sym h))) ∙ sym (value-tagged s R k at);
+    typed = tt;
+  }
+
+-- ---- two texts
+
+-- the text at an index
+abbrev textAt : List ℕ → ℕ → Fit (Span × ℕ)
+textAt s at = fromAt (textOf asPlaces (length s)) s at
+
+-- the two texts at an index
+abbrev textsAt : List ℕ → ℕ → Fit ((Span × Span) × ℕ)
+textsAt s at = fromAt (thenOf (textOf asPlaces (length s)) (λ _. textOf asPlaces (length s))) s at
+
+texts-next : (s : List ℕ) (at : ℕ) (x : Span) (m : ℕ) → got (x, m) ≡ textAt s at → textsAt s at ≡ (textAt s m >>= λ z. got ((x, z .0), z .1))
+texts-next s at x m e = then-got (textOf asPlaces (length s)) s at (trails-text asPlaces (length s)) x m (sym e) (λ _. textOf asPlaces (length s))
+
+module _ {s : List ℕ} {k at : ℕ} where
+  pub pair-bad : {e : Error} → bad (toldError e) ≡ textAt s at → ValueRead (some pair) k s at (Refused e)
+  pair-bad {e = e} h = refused (of-pair (length s)) (sym (then-bad (textOf asPlaces (length s)) s at (λ _. textOf asPlaces (length s)) (toldError e) (sym h)))
+
+  pub pair-next-bad : {x : Span} {m : ℕ} {e : Error} → got (x, m) ≡ textAt s at → bad (toldError e) ≡ textAt s m → ValueRead (some pair) k s at (Refused e)
+  pair-next-bad {x = x} {m = m} d h = refused (of-pair (length s)) (sym (texts-next s at x m d ∙ rw (sym h)))
+
+  pub pair-got : {x y : records.Span} {m n : ℕ} → got (toldSpan x, m) ≡ textAt s at → got (toldSpan y, n) ≡ textAt s m → ValueRead (some pair) k s at (Found k (Pair x y) n)
+  pair-got {x = x} {m = m} d h = found (of-pair (length s)) (sym (texts-next s at (toldSpan x) m d ∙ rw (sym h))) refl refl
+
+-- ---- the identifier before it
+
+-- what is read has the identifier that was asked for
+value-tag : (o : Option Form) (k end : ℕ) (l : List ℕ) (y : Prop Span × List ℕ) → valueAt asPlaces o k end l ≡ got y → y .0 .0 ≡ k
+unfolding valueAt
+value-tag none k end l = λ y e. absurd (bad-got e)
+value-tag (some f) k end l = from-bind (valueOf asPlaces f end l) _ λ x e. from-got (λ (y : Prop Span × List ℕ). y .0 .0 ≡ k) ((k, x .0), x .1) refl
+
+value-id : (o : Option Form) (k end : ℕ) (s : List ℕ) (at : ℕ) (z : Prop Span × ℕ) → fromAt (valueAt asPlaces o k end) s at ≡ got z → z .0 .0 ≡ k
+unfolding fromAt
+value-id o k end s at = from-bind (valueAt asPlaces o k end (drop at s)) _ λ y e.
+    from-got (λ (z : Prop Span × ℕ). z .0 .0 ≡ k) (y .0, length s - length (y .1)) (value-tag o k end (drop at s) y e)
+
+byte-cons : (l : List ℕ) (k : ℕ) (r : List ℕ) → byteOf cut l ≡ got (k, r) → l ≡ k ∷ r
+unfolding byteOf
+byte-cons [] k r e = absurd (bad-got e)
+byte-cons (x ∷ l) k r e = from-got (λ (z : ℕ × List ℕ). x ∷ l ≡ z .0 ∷ z .1) (x, l) refl (k, r) e
+
+module _ (row : Place) (s : List ℕ) (at : ℕ) where
+  no-byte : (l : List ℕ) (k : Refusal) → byteOf cut l ≡ bad k → propertyOf asPlaces row (length s) l ≡ bad k
+  unfolding byteOf propertyOf
+  no-byte [] k e = let h : cut ≡ k = cc in ap bad h
+  no-byte (x ∷ l) k e = absurd (got-bad e)
+
+  pub property-refused : (e : Error) → bad (toldError e) ≡ fromAt (byteOf cut) s at → PropertyRead row s at (Refused e)
+  property-refused e h = record {
+    says = sym (left-bad (propertyOf asPlaces row (length s)) s at (toldError e) (no-byte (drop at s) (toldError e) (bad-left (byteOf cut) s at (toldError e) (sym h))));
+    typed = tt;
+  }
+
+  module _ (k m : ℕ) (e : got (k, m) ≡ fromAt (byteOf cut) s at) where
+    property-next : fromAt (propertyOf asPlaces row (length s)) s at ≡ fromAt (valueAt asPlaces (lookup row k) k (length s)) s m
+    unfolding fromAt propertyOf
+    property-next = rw (byte-cons (drop at s) k (drop m s) (got-left (byteOf cut) s at (trails-byte cut) k m (sym e)))
+
+    retyped : (r : GotProperty) → toldProperty r ≡ fromAt (valueAt asPlaces (lookup row k) k (length s)) s m → Typed (λ _. lookup row k) r → Typed (lookup row) r
+    retyped (Found j v n) h t = rw (value-id (lookup row k) k (length s) s m ((j, toldValue v), n) (sym h)) t
+    retyped (Refused c) h t = tt
+
+    pub property-read : (o : Option Form) (r : GotProperty) → o ≡ lookup row k → ValueRead o k s m r → PropertyRead row s at r
+    property-read o r h v =
+        let w : ValueRead (lookup row k) k s m r = rw h at v in
+        record { says = w .says ∙ sym property-next; typed = retyped r (w .says) (w .typed) }
+
+-- ---- a property takes a byte at least
+
+module _ (row : Place) (s : List ℕ) (at : ℕ) (a : Prop Span) (n : ℕ) (e : got (a, n) ≡ fromAt (propertyOf asPlaces row (length s)) s at) where
+  pub property-left : propertyOf asPlaces row (length s) (drop at s) ≡ got (a, drop n s)
+  property-left = got-left (propertyOf asPlaces row (length s)) s at (trails-property asPlaces (length s) row) a n (sym e)
+
+  pub property-ahead : at < n
+  property-ahead =
+      let l : length (drop n s) < length (drop at s) = property-less row (length s) (drop at s) (a, drop n s) (rw length-drop (omega arith)) property-left in
+      omega (arith, simp length-drop at l)

@@ -1,0 +1,59 @@
+-- What a property tells, and what the readers of one promise. Assumes nothing.
+use mathlib.Core.Path.{_≡_}
+use mathlib.Core.Option.{Option, some}
+use mathlib.Core.List.{List}
+use Prim.Native.Nat.{ℕ}
+use lib.ListN.{length}
+use Rattle.grammar.specs.Choice.{lookup}
+use Rattle.grammar.specs.Record.{Val, num, str, duo, Prop}
+use Rattle.reading.specs.Reader.{Fit, got, bad}
+use Rattle.reading.specs.Read.{valueAt, propertyOf}
+use Rattle.reading.specs.Place.{asPlaces}
+use Rattle.positions.specs.Position.{fromAt}
+use Rattle.records.specs.Told.{toldError, toldSpan}
+use Rattle.grammar.specs.Tables as tables
+use Rattle.reading.specs.Place as place
+use Rattle.property_value.specs.declared.Value.{Value}
+use Rattle.property_value.specs.declared.Value.the-variants.{U8, U16, U32, Number, Text, Bytes, Pair}
+use Rattle.property_value.specs.declared.GotProperty.{GotProperty}
+use Rattle.property_value.specs.declared.GotProperty.the-variants.{Found, Refused}
+
+-- 01, table of properties: a number, a string or a text pair
+abbrev pub toldValue : Value → Val place.Span
+toldValue (U8 x) = num x
+toldValue (U16 x) = num x
+toldValue (U32 x) = num x
+toldValue (Number x) = num x
+toldValue (Text p) = str (toldSpan p)
+toldValue (Bytes p) = str (toldSpan p)
+toldValue (Pair p q) = duo (toldSpan p) (toldSpan q)
+
+-- 01, table of properties: the form of a value
+abbrev pub formOf : Value → tables.Form
+formOf (U8 x) = tables.u8
+formOf (U16 x) = tables.u16
+formOf (U32 x) = tables.u32
+formOf (Number x) = tables.number
+formOf (Text p) = tables.text
+formOf (Bytes p) = tables.bytes
+formOf (Pair p q) = tables.pair
+
+-- 01, grammar: "an identifier byte and a value", and the index after them; or the refusal
+abbrev pub toldProperty : GotProperty → Fit (Prop place.Span × ℕ)
+toldProperty (Found k v n) = got ((k, toldValue v), n)
+toldProperty (Refused e) = bad (toldError e)
+
+-- where a value v is found with identifier k, it has the form that f gives k: so two forms that tell the same, as u8 and u16, are told apart
+abbrev pub Typed : (ℕ → Option tables.Form) → GotProperty → Type 0
+Typed f (Found k v n) = f k ≡ some (formOf v)
+Typed f (Refused e) = Unit {0}
+
+-- the value of property k from index `at` of s, of the form o if the row has the identifier
+pub record ValueRead (o : Option tables.Form) (k : ℕ) (s : List ℕ) (at : ℕ) (r : GotProperty) : Type 0 where
+  pub says : toldProperty r ≡ fromAt (valueAt asPlaces o k (length s)) s at
+  pub typed : Typed (λ _. o) r
+
+-- the property at index `at` of s, in the row of a place
+pub record PropertyRead (row : tables.Place) (s : List ℕ) (at : ℕ) (r : GotProperty) : Type 0 where
+  pub says : toldProperty r ≡ fromAt (propertyOf asPlaces row (length s)) s at
+  pub typed : Typed (lookup row) r

@@ -1,0 +1,137 @@
+// UTF-8: the validator in place of `String::from_utf8` of v5/mod.rs, after the Unicode table of well-formed sequences. It goes by
+// chunks: one whose bytes are all ASCII is passed at once, any other character by character.
+ghost use mathlib.Core.Path.{_≡_};
+ghost use mathlib.Core.Bool.{true, false};
+ghost use Prim.Native.Nat.{_+_, _≤_, _<_};
+ghost use lib.ListN.{length, drop};
+ghost use Rattle.grammar.specs.Text.{rows, rowAt};
+ghost use Rattle.reading.specs.Read.{isText};
+ghost use Rattle.utf8.specs.Text.{toldLead, Followed, Passed};
+
+// What is to follow a byte that begins a character.
+enum Lead {
+    // So many bytes, the first of them from the second number to the third.
+    More(usize, u8, u8),
+    // No character begins so.
+    Nowhere,
+}
+
+fn begin(b: u8) -> Lead
+    ensures { λ r. ⌜ toldLead r ≡ rowAt rows b ⌝ }
+{
+    match b {
+        0..=0x7F => Lead::More(0, 0x80, 0xBF),
+        0xC2..=0xDF => Lead::More(1, 0x80, 0xBF),
+        0xE0 => Lead::More(2, 0xA0, 0xBF),
+        0xE1..=0xEC => Lead::More(2, 0x80, 0xBF),
+        0xED => Lead::More(2, 0x80, 0x9F),
+        0xEE..=0xEF => Lead::More(2, 0x80, 0xBF),
+        0xF0 => Lead::More(3, 0x90, 0xBF),
+        0xF1..=0xF3 => Lead::More(3, 0x80, 0xBF),
+        0xF4 => Lead::More(3, 0x80, 0x8F),
+        0x80..=0xC1 | 0xF5..=0xFF => Lead::Nowhere,
+    }
+}
+
+// Do n bytes follow from index `at` on, the first of them from low to high?
+fn follows(s: &[u8], at: usize, n: usize, low: u8, high: u8) -> bool
+    requires { ⌜ at ≤ length (now s) ⌝ }
+    ensures { λ r. ⌜ Followed (now (s .entry)) at n low high r ⌝ }
+{
+    if s.len() - at < n {
+        return false;
+    }
+    let mut lo = low;
+    let mut hi = high;
+    let mut i: usize = 0;
+    while i < n {
+        let b = s[at + i];
+        if b < lo {
+            return false;
+        }
+        if hi < b {
+            return false;
+        }
+        lo = 0x80;
+        hi = 0xBF;
+        i = i + 1;
+    }
+    true
+}
+
+// The index after the character at `at`; `at` if none stands there.
+fn next_char(s: &[u8], at: usize) -> usize
+    requires { ⌜ at < length (now s) ⌝ }
+    ensures { λ r. ⌜ Passed (now (s .entry)) at r ⌝ }
+{
+    match begin(s[at]) {
+        Lead::Nowhere => at,
+        Lead::More(n, low, high) => {
+            if follows(s, at + 1, n, low, high) {
+                at + 1 + n
+            } else {
+                at
+            }
+        }
+    }
+}
+
+// The index after the characters that begin before `end`; `at` if they break off.
+fn pass_chars(s: &[u8], at: usize, end: usize) -> usize
+    requires { ⌜ (at < end) × (end ≤ length (now s)) ⌝ }
+    ensures { λ r. ⌜ Passed (now (s .entry)) at r ⌝ }
+{
+    let mut i = at;
+    while i < end {
+        let next = next_char(s, i);
+        if next == i {
+            return at;
+        }
+        i = next;
+    }
+    i
+}
+
+// Is each byte from index `at` to `end` ASCII?
+fn is_ascii(s: &[u8], at: usize, end: usize) -> bool
+    requires { ⌜ (at ≤ end) × (end ≤ length (now s)) ⌝ }
+    ensures { λ r. ⌜ (r ≡ true → isText (drop at (now (s .entry))) ≡ isText (drop end (now (s .entry)))) ⌝ }
+{
+    let mut all: u8 = 0;
+    let mut i = at;
+    while i < end {
+        all = all | s[i];
+        i = i + 1;
+    }
+    all < 128
+}
+
+// The index after the next chunk, and after the character that crosses its end; `at` if it is no text.
+fn pass_chunk(s: &[u8], at: usize) -> usize
+    requires { ⌜ at < length (now s) ⌝ }
+    ensures { λ r. ⌜ Passed (now (s .entry)) at r ⌝ }
+{
+    let mut end = s.len();
+    if 64 < end - at {
+        end = at + 64;
+    }
+    if is_ascii(s, at, end) {
+        return end;
+    }
+    pass_chars(s, at, end)
+}
+
+// Is `s` well-formed UTF-8?
+pub fn is_utf8(s: &[u8]) -> bool
+    ensures { λ r. ⌜ r ≡ isText (now (s .entry)) ⌝ }
+{
+    let mut i: usize = 0;
+    while i < s.len() {
+        let next = pass_chunk(s, i);
+        if next == i {
+            return false;
+        }
+        i = next;
+    }
+    true
+}
