@@ -19,7 +19,6 @@ use Rattle.records.specs.declared.answer.IdentifierItem.{IdentifierItem}
 use Rattle.records.specs.declared.answer.FilterItem.{FilterItem}
 use Rattle.records.specs.declared.puback.GotReason.{GotReason}
 
-
 -- 01, "When the desk says no": "Taken is the count of stream bytes used up"
 abbrev pub told : Read → Answer Placed
 told (Read.Packet p n) = accepted (toldPacket p) n
