@@ -5,22 +5,24 @@ use mathlib.Core.Option.{Option, none, some}
 use mathlib.Core.List.{List, [], _∷_}
 use Prim.Native.Nat.{ℕ, _+_, _-_, _≤_, _<_, min}
 use native.Mathlib.Omega.{arith}
-use lib.ListN.{length, take, drop, drop-of-length-le}
+use lib.ListN.{length, take, drop}
 use lib.Seq.{drop-cons, length-take-le}
 use Rattle.grammar.specs.Choice.{or, isEmpty}
 use Rattle.grammar.specs.Tables.{Layout, aPing, isPing}
 use Rattle.grammar.specs.Record.{ping, kindOf}
 use Rattle.reading.specs.Refusal.{Refusal, nr, accepted, refusedAs}
-use Rattle.reading.specs.Reader.{Fit, got, bad, _>>=_, _>>_, guard, mapFit, isFit}
-use Rattle.reading.specs.Read.{frameOf, fieldsFit, layoutFit, bodyFit, bodyAnswer, wholeAnswer, frameAnswer, readAs}
-use Rattle.reading.specs.Place.{asPlaces, Placed, readPlacedOf}
-use Rattle.records.specs.Told.{toldError, limitOf}
+use Rattle.reading.specs.Reader.{Fit, got, bad, _>>_, guard, mapFit, isFit}
+use Rattle.reading.specs.Read.{frameOf, fieldsFit, layoutFit, bodyFit, bodyAnswer, wholeAnswer, frameAnswer, readAs, readOf}
+use Rattle.reading.specs.Place.{asPlaces, Placed, readPlacedOf, sayAnswer}
+use Rattle.reading.proofs.Reading.{got-inj}
+use Rattle.reading.proofs.Faults.{answered}
+use Rattle.reading.proofs.Places.{placed-says}
+use Rattle.records.specs.Told.{toldError}
 use Rattle.records.specs.Answered.{told}
-use Rattle.records.specs.declared.answer.Limit.{Limit}
 use Rattle.records.specs.declared.answer.Read.{Read}
 use Rattle.framing.specs.Told.{kindAt, frameAt}
 use Rattle.framing.proofs.Laws.Frame.{checked-within, checked-read, checked-refused}
-use Rattle.packet.specs.Told.{takenIn, takenBy}
+use Rattle.packet.specs.Told.{takenIn, takenBy, Judged}
 
 -- ---- the body of a frame whose first byte is x
 
@@ -133,6 +135,15 @@ taken-within limit s r e = rw (told-taken r) at (rw (← e) at (go (frameOf limi
     go (got z) = rw (body-taken (length s - length (z .1)) (bodyFit asPlaces (z .0 .0) (length s - length (z .1)) (z .0 .1))) (omega arith)
     go (bad (nr k vs)) = omega arith
 
--- both of what is promised
-pub answer : (limit : Limit) (s : List ℕ) (r : Read) → told r ≡ readPlacedOf (limitOf limit) s → (told r ≡ readPlacedOf (limitOf limit) s) × (takenBy r ≤ length s)
-answer limit s r e = (e, taken-within (limitOf limit) s r e)
+-- ---- what is promised
+
+module _ (limit : Option ℕ) (s : List ℕ) (r : Read) (e : told r ≡ readPlacedOf limit s) where
+  -- what the answer says is what the definition answers
+  pub says-read : sayAnswer s (told r) ≡ got (readOf limit s)
+  says-read = ap (sayAnswer s) e ∙ placed-says limit s
+
+  pub judged : Judged limit s r
+  judged a = (λ i. answered limit s a .0 (got-inj (sym says-read ∙ i)), λ v. says-read ∙ ap got (answered limit s a .1 v))
+
+  pub promised : (told r ≡ readPlacedOf limit s) × ((takenBy r ≤ length s) × Judged limit s r)
+  promised = (e, (taken-within limit s r e, judged))

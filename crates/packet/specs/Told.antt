@@ -1,10 +1,17 @@
--- What the answer on a whole frame tells, and what an answer takes. Assumes nothing.
+-- What the answer on a whole frame tells, what an answer takes, and what it says. Assumes nothing.
+use mathlib.Core.Path.{_≡_}
+use mathlib.Core.Option.{Option}
+use mathlib.Core.Logic.{_↔_}
+use mathlib.Core.List.{List}
 use Prim.Native.Nat.{ℕ}
+use Rattle.grammar.specs.Sentence.{Packet}
 use Rattle.reading.specs.Refusal.{Answer, accepted, refused}
+use Rattle.reading.specs.Fault.{Verdict}
 use Rattle.reading.specs.Reader.{Fit, got, bad}
-use Rattle.reading.specs.Place.{Placed}
+use Rattle.reading.specs.Place.{Placed, sayAnswer}
 use Rattle.records.specs.Told.{toldError}
 use Rattle.records.specs.Said.{toldPacket}
+use Rattle.records.specs.Answered.{told}
 use Rattle.records.specs.declared.answer.Read.{Read}
 use Rattle.packet.specs.declared.GotBody.{GotBody}
 
@@ -22,3 +29,11 @@ takenIn (refused k vs n) = n
 abbrev pub takenBy : Read → ℕ
 takenBy (Read.Packet p n) = n
 takenBy (Read.Refused e n) = n
+
+-- the answer r says a, once each of its places is looked up in the stream s
+abbrev pub Says : List ℕ → Read → Answer Packet → Type 0
+Says s r a = sayAnswer s (told r) ≡ got a
+
+-- demand 3, and each refusal: what r says of s is the one verdict on it, a sentence of the grammar or the first fault, and nothing else
+abbrev pub Judged : Option ℕ → List ℕ → Read → Type 0
+Judged limit s r = (a : Answer Packet) → Says s r a ↔ Verdict limit s a

@@ -21,7 +21,7 @@ ghost use Rattle.records.specs.Answered.{told};
 ghost use Rattle.puback.specs.Told.{toldGotPubAck};
 ghost use Rattle.publish.specs.Told.{toldGotPublish};
 ghost use Rattle.subscribe.specs.Told.{toldGotSubscribe};
-ghost use Rattle.packet.specs.Told.{toldBody, takenBy};
+ghost use Rattle.packet.specs.Told.{toldBody, takenBy, Judged};
 
 // What a whole frame says, or why it is refused.
 enum GotBody {
@@ -103,6 +103,7 @@ fn read_body(s: &[u8], h: FixedHeader) -> GotBody
 pub fn read(stream: &[u8], limit: Limit) -> Read
     ensures answer { λ r. ⌜ told r ≡ readPlacedOf (limitOf limit) (now (stream .entry)) ⌝ }
     ensures within { λ r. ⌜ takenBy r ≤ length (now (stream .entry)) ⌝ }
+    ensures verdict { λ r. ⌜ Judged (limitOf limit) (now (stream .entry)) r ⌝ }
 {
     match check::check(stream, limit) {
         Checked::Refused(e) => Read::Refused(e, 0),

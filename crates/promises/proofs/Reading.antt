@@ -2,7 +2,6 @@
 -- Assumes nothing.
 use mathlib.Core.Path.{_≡_, refl, sym, ap, _∙_}
 use mathlib.Core.Bool.{true}
-use mathlib.Core.Option.{none, some}
 use mathlib.Core.Logic.{_↔_, _⊎_, inl, inr, ⊎-elim}
 use mathlib.Core.List.{List, [], _∷_, _++_}
 use Prim.Native.Nat.{ℕ, _≤_}
@@ -11,7 +10,6 @@ use Rattle.grammar.specs.Choice.{isIn}
 use Rattle.grammar.specs.Number.{Spells}
 use Rattle.grammar.specs.Sentence.{Packet, Frame, Sentence, ShortSentence}
 use Rattle.reading.specs.Refusal.{Refusal, nr, Answer, accepted, refused, refusedAs}
-use Rattle.reading.specs.Fault.{Verdict}
 use Rattle.reading.specs.Reader.{Fit, got, bad}
 use Rattle.reading.specs.Read.{readOf}
 use Rattle.reading.specs.Place.{asPlaces, Placed, onGot, say, sayAnswer, Items}
@@ -19,20 +17,20 @@ use Rattle.reading.specs.Rows.{Above, insufficient, malformed, exceeded, invali
 use Rattle.reading.specs.Demand.{Begins, Taken}
 use Rattle.reading.proofs.Reading.{bad-got, got-inj}
 use Rattle.reading.proofs.Demand.{no-accept}
-use Rattle.reading.proofs.Places.{placed-says, placed-refused}
+use Rattle.reading.proofs.Places.{placed-refused}
 use Rattle.reading.proofs.Rows.{row-1, row-2, row-3, row-4, row-5, row-6, field-rows, row-2-inside}
+use Rattle.reading.proofs.Theorems as reading
 use Rattle.records.specs.Told.{toldError, rowOf, valuesOf, limitOf}
 use Rattle.records.specs.Said.{toldPacket}
 use Rattle.records.specs.Answered.{told}
 use Rattle.records.proofs.Answered.{read-injective}
-use Rattle.packet.specs.Told.{takenBy}
-use Rattle.promises.specs.Reading.{Meets, Says}
-use Rattle.reading.proofs.Theorems as reading
 use Rattle.records.specs.declared.answer.Limit.{Limit}
 use Rattle.records.specs.declared.answer.Read.{Read}
 use Rattle.records.specs.declared.error.Error.{Error}
 use Rattle.records.specs.declared.packet.Packet as code
+use Rattle.packet.specs.Told.{takenBy, Says, Judged}
 use Rattle.packet.proofs.Laws as packet
+use Rattle.promises.specs.Reading.{Meets}
 
 -- first one, then the other
 both : {A B C : Type 0} → A ↔ B → B ↔ C → A ↔ C
@@ -50,7 +48,7 @@ numbered (nr k vs) = refl
 module _ (limit : Limit) (s : List ℕ) (r : Read) (m : Meets limit s r) where
   -- what the answer says is what the definition answers
   says-read : sayAnswer s (told r) ≡ got (readOf (limitOf limit) s)
-  says-read = ap (sayAnswer s) m ∙ placed-says (limitOf limit) s
+  says-read = packet.says-read (limitOf limit) s r m
 
   says : (a : Answer Packet) → Says s r a ↔ (readOf (limitOf limit) s ≡ a)
   says a = (λ e. got-inj (sym says-read ∙ e), λ e. says-read ∙ ap got e)
@@ -64,8 +62,8 @@ module _ (limit : Limit) (s : List ℕ) (r : Read) (m : Meets limit s r) where
   says-something = (readOf (limitOf limit) s, says-read)
 
   -- and what it says is the verdict on the stream: a sentence, or the first fault
-  pub verdict : (a : Answer Packet) → Says s r a ↔ Verdict (limitOf limit) s a
-  verdict a = both (says a) (reading.verdict (limitOf limit) s a)
+  pub verdict : Judged (limitOf limit) s r
+  verdict = packet.judged (limitOf limit) s r m
 
   -- no more bytes are taken than the stream has
   pub taken-within : takenBy r ≤ length s

@@ -1,20 +1,23 @@
--- What is promised of an answer of `packet::read`: the contract that it meets, what it says, and what its parts hold. Assumes nothing.
+-- The contract that an answer of `packet::read` meets, and what the parts and the items of its record are to say. Assumes nothing.
 use mathlib.Core.Path.{_≡_}
 use mathlib.Core.Option.{Option, none, some}
 use mathlib.Core.List.{List, []}
 use Prim.Native.Nat.{ℕ}
-use Rattle.grammar.specs.Record.{Val, num, str, duo}
+use Rattle.grammar.specs.Tables.{Place}
+use Rattle.grammar.specs.Record.{num, str, duo}
 use Rattle.grammar.specs.Record as record-of
-use Rattle.grammar.specs.Sentence.{Value, Packet}
-use Rattle.reading.specs.Refusal.{Answer}
-use Rattle.reading.specs.Reader.{got}
-use Rattle.reading.specs.Place.{heldOf, readPlacedOf, sayAnswer}
+use Rattle.grammar.specs.Sentence.{Value}
+use Rattle.reading.specs.Place.{heldOf, asPlaces, readPlacedOf, nthOf, userAt, subscriptionAt, filterAt, onGot, sayVal, sayFilter}
 use Rattle.records.specs.Told.{limitOf, toldSpan}
-use Rattle.records.specs.Answered.{told}
+use Rattle.records.specs.Answered.{told, toldUser, toldIdentifier, toldFilterItem}
 use Rattle.records.specs.declared.answer.Limit.{Limit}
 use Rattle.records.specs.declared.answer.Read.{Read}
+use Rattle.records.specs.declared.answer.UserItem.{UserItem}
+use Rattle.records.specs.declared.answer.IdentifierItem.{IdentifierItem}
+use Rattle.records.specs.declared.answer.FilterItem.{FilterItem}
 use Rattle.records.specs.declared.puback.PubAck.{PubAck}
 use Rattle.records.specs.declared.publish.Publish.{Publish}
+use Rattle.records.specs.declared.span.Span.{Span}
 use Rattle.wire.specs.Told.{heldIf}
 use Rattle.puback.specs.Told as puback
 use Rattle.publish.specs.Told as publish
@@ -22,10 +25,6 @@ use Rattle.publish.specs.Told as publish
 -- the contract of `packet::read`, of the answer r to the stream s
 abbrev pub Meets : Limit → List ℕ → Read → Type 0
 Meets limit s r = told r ≡ readPlacedOf (limitOf limit) s
-
--- the answer r says a, once each of its places is looked up in s
-abbrev pub Says : List ℕ → Read → Answer Packet → Type 0
-Says s r a = sayAnswer s (told r) ≡ got a
 
 -- ---- parts
 
@@ -53,3 +52,18 @@ pub record PublishParts (s : List ℕ) (m : Publish) (w : record-of.Publish (Lis
 -- the same of a PubAck's reason string
 pub record PubAckParts (s : List ℕ) (m : PubAck) (w : record-of.Ack (List ℕ) List) : Type 0 where
   pub reason : heldIf s (puback.inBlock (λ p. p .«reason_string») (m .properties)) ≡ inProps (λ ps. ps .reason) (w .props)
+
+-- ---- items
+
+-- 01: "a way to get the n-th pair, identifier or filter, n from 0": every answer that meets the contract of `items::user_property`, of the
+-- block b of a place's row, says the k-th of vs, and 21 past the last
+abbrev pub UserItems : List ℕ → Place → Span → List Value → Type 0
+UserItems s place b vs = (k : ℕ) (u : UserItem) → toldUser u ≡ userAt asPlaces s (toldSpan b) place k → onGot (sayVal s) (toldUser u) ≡ nthOf k vs
+
+-- the same of `items::subscription_identifier`
+abbrev pub IdentifierItems : List ℕ → Span → List Value → Type 0
+IdentifierItems s b vs = (k : ℕ) (u : IdentifierItem) → toldIdentifier u ≡ subscriptionAt asPlaces s (toldSpan b) k → onGot (sayVal s) (toldIdentifier u) ≡ nthOf k vs
+
+-- and of `subscribe::filter::filter`, of the run at b
+abbrev pub FilterItems : List ℕ → Span → List (record-of.Filter (List ℕ)) → Type 0
+FilterItems s b fs = (k : ℕ) (u : FilterItem) → toldFilterItem u ≡ filterAt asPlaces s (toldSpan b) k → onGot (sayFilter s) (toldFilterItem u) ≡ nthOf k fs

@@ -3,16 +3,15 @@ use mathlib.Core.Path.{_≡_, refl, sym, ap, _∙_}
 use mathlib.Core.Bool.{Bool, true, false}
 use mathlib.Core.Option.{Option, none}
 use mathlib.Core.List.{List, [], _∷_}
-use Prim.Native.Nat.{ℕ, suc, _+_, _≤_, _<_}
-use native.Mathlib.Omega.{arith}
+use Prim.Native.Nat.{ℕ, _+_, _≤_, _<_}
 use native.Mathlib.Numerals.{add-one}
 use lib.ListN.{length, drop, getD, drop-of-length-le}
 use lib.Seq.{drop-cons}
-use Rattle.grammar.specs.Choice.{isIn, isEmpty}
+use Rattle.grammar.specs.Choice.{isIn}
 use Rattle.grammar.specs.Tables.{ackPlace, reasons, anAck}
-use Rattle.grammar.specs.Record.{AckProps, ack, kindOf}
+use Rattle.grammar.specs.Record.{AckProps, kindOf}
 use Rattle.reading.specs.Refusal.{Refusal, nr, cut}
-use Rattle.reading.specs.Reader.{Fit, got, bad, Reader, _>>=_, _>>_, guard, mapFit, thenFit, exactFit}
+use Rattle.reading.specs.Reader.{Fit, got, bad, _>>=_, _>>_, guard, mapFit, exactFit}
 use Rattle.reading.specs.Read.{bigOf, blockOf, ackAs, ackBlockFit, ackRestFit, fieldsFit}
 use Rattle.reading.specs.Place.{Span, asPlaces, Placed}
 use Rattle.reading.proofs.Reading.{bad-got}

@@ -1,5 +1,5 @@
 -- The fields of a Publish one after the other: how a read of them goes on from each, and where it ends. Assumes nothing.
-use mathlib.Core.Path.{_≡_, refl, sym, ap, _∙_}
+use mathlib.Core.Path.{_≡_, refl, sym, _∙_}
 use mathlib.Core.Bool.{Bool, true, false}
 use mathlib.Core.Option.{Option}
 use mathlib.Core.List.{List, [], _∷_}
@@ -12,7 +12,7 @@ use Rattle.grammar.specs.Tables.{publishPlace, aPublish}
 use Rattle.grammar.specs.Record.{PublishProps, publish, flagQos}
 use Rattle.grammar.specs.Sentence.{notThree, notZero}
 use Rattle.reading.specs.Refusal.{Refusal, nr, cut}
-use Rattle.reading.specs.Reader.{Fit, got, bad, Reader, Filler, _>>=_, _>>_, guard, noneOf, onlyOf, mapFit, handFit, thenFit, isFit}
+use Rattle.reading.specs.Reader.{Fit, got, bad, Reader, Filler, _>>=_, _>>_, noneOf, onlyOf, mapFit, handFit, thenFit, isFit}
 use Rattle.reading.specs.Read.{bigOf, identOf, anyBytes, stringFit, bytesOf, publishAs, blockOf, messageFit, fieldsFit}
 use Rattle.reading.specs.Place.{Span, asPlaces, Placed}
 use Rattle.reading.proofs.Reading.{bad-got}

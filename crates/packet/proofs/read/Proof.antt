@@ -1,14 +1,14 @@
 -- `packet::read` is right since what `check` refuses takes nothing, and a whole frame is taken, whatever its body says. Assumes nothing.
+use mathlib.Core.Path.{sym, ap, _∙_}
+use native.Mathlib.Omega.{arith}
 use borrow.Author.Needs.{needs}
-use Rattle.packet.proofs.Laws.{frame-end, frame-count, answer-none, answer-got, answer-bad, answer}
-use Rattle.packet.specs.Told.{toldBody}
-use Rattle.framing.specs.Told.{toldChecked}
+use denote.Ref.{now}
 use Rattle.records.specs.Told.{toldError, limitOf}
 use Rattle.records.specs.Said.{toldPacket}
 use Rattle.records.specs.declared.answer.Read.{Read}
-use denote.Ref.{now}
-use native.Mathlib.Omega.{arith}
-use mathlib.Core.Path.{sym, ap, _∙_}
+use Rattle.framing.specs.Told.{toldChecked}
+use Rattle.packet.specs.Told.{toldBody}
+use Rattle.packet.proofs.Laws.{frame-end, frame-count, answer-none, answer-got, answer-bad, promised}
 use Rattle.packet.proofs.read.Statement.{statement}
 use Rattle.packet.proofs.read.Tie as tie
 
@@ -44,7 +44,7 @@ returns : tie.Need-returns
 returns c =
     let a = c .before .before .before .before .before .args in
     let k = c .before .e .given .0 .0 in
-    answer (a .limit) (now (a .stream)) (Read.Refused k 0)
+    promised (limitOf (a .limit)) (now (a .stream)) (Read.Refused k 0)
     (answer-none (limitOf (a .limit)) (now (a .stream)) (toldError k) (sym (ap (toldChecked (now (a .stream))) (c .before .e .given .1)) ∙ c .before .before .before .check .ensures))
 
 returns-2 : tie.Need-returns-2
@@ -54,7 +54,7 @@ returns-2 c =
     let e = sym (ap (toldChecked (now (a .stream))) (h .h .given .1)) ∙ c .before .before .before .before .before .before .before .before .before .check .ensures in
     let n = c .before .before .before .before .before .frame-length in
     let v = c .before .p .given .0 .0 in
-    answer (a .limit) (now (a .stream)) (Read.Packet v (n .result))
+    promised (limitOf (a .limit)) (now (a .stream)) (Read.Packet v (n .result))
     (answer-got (limitOf (a .limit)) (now (a .stream)) _ _ _ e _ (frame-end (limitOf (a .limit)) (now (a .stream)) _ _ _ e _ (n .ensures) (omega arith)) (toldPacket v)
     (sym (ap toldBody (c .before .p .given .1)) ∙ c .before .before .before .read-body .ensures))
 
@@ -65,7 +65,7 @@ returns-3 c =
     let e = sym (ap (toldChecked (now (a .stream))) (h .h .given .1)) ∙ c .before .before .before .before .before .before .before .before .before .check .ensures in
     let n = c .before .before .before .before .before .frame-length in
     let v = c .before .e2 .given .0 .0 in
-    answer (a .limit) (now (a .stream)) (Read.Refused v (n .result))
+    promised (limitOf (a .limit)) (now (a .stream)) (Read.Refused v (n .result))
     (answer-bad (limitOf (a .limit)) (now (a .stream)) _ _ _ e _ (frame-end (limitOf (a .limit)) (now (a .stream)) _ _ _ e _ (n .ensures) (omega arith)) (toldError v)
     (sym (ap toldBody (c .before .e2 .given .1)) ∙ c .before .before .before .read-body .ensures))
 

@@ -1,7 +1,7 @@
 -- `packet::read_body` is right since R is 0 just where no byte is left after the header. Assumes nothing.
+use lib.ListN.{drop-of-length-le}
 use borrow.Author.Needs.{needs}
 use denote.Ref.{now}
-use lib.ListN.{drop-of-length-le}
 use Rattle.packet.proofs.read_body.Statement.{statement}
 use Rattle.packet.proofs.read_body.Tie as tie
 

@@ -1,10 +1,10 @@
 -- `packet::read_empty` is right since only a reserved kind and a ping are answered otherwise than with 5. Assumes nothing.
-use borrow.Author.Needs.{needs}
-use Rattle.packet.proofs.Laws.{body-reserved, body-ping, body-required}
-use Rattle.framing.specs.Told.{toldKind}
 use mathlib.Core.List.{[]}
 use mathlib.Core.Option.{none}
 use mathlib.Core.Path.{refl, sym, ap, _∙_}
+use borrow.Author.Needs.{needs}
+use Rattle.framing.specs.Told.{toldKind}
+use Rattle.packet.proofs.Laws.{body-reserved, body-ping, body-required}
 use Rattle.packet.proofs.read_empty.Statement.{statement}
 use Rattle.packet.proofs.read_empty.Tie as tie
 

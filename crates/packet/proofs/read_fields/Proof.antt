@@ -1,11 +1,11 @@
 -- `packet::read_fields` is right since the tables give each kind the layout that its reader reads. Assumes nothing.
-use borrow.Author.Needs.{needs}
-use Rattle.packet.proofs.Laws.{left-some, body-reserved, body-ping, body-foreign, body-fields}
-use Rattle.framing.specs.Told.{toldKind}
-use denote.Ref.{now}
-use lib.ListN.{length, drop}
 use mathlib.Core.Option.{none}
 use mathlib.Core.Path.{sym, ap, _∙_}
+use lib.ListN.{length, drop}
+use borrow.Author.Needs.{needs}
+use denote.Ref.{now}
+use Rattle.framing.specs.Told.{toldKind}
+use Rattle.packet.proofs.Laws.{left-some, body-reserved, body-ping, body-foreign, body-fields}
 use Rattle.packet.proofs.read_fields.Statement.{statement}
 use Rattle.packet.proofs.read_fields.Tie as tie
 

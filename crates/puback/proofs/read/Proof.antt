@@ -1,8 +1,8 @@
 -- `puback::read` is right since the identifier is what `read_u16` read, and the rest goes on where it ends. Assumes nothing.
-use borrow.Author.Needs.{needs}
-use Rattle.puback.proofs.Laws.{ident-bad, ident-got}
-use Rattle.wire.specs.Told.{toldU16}
 use mathlib.Core.Path.{sym, ap, _∙_}
+use borrow.Author.Needs.{needs}
+use Rattle.wire.specs.Told.{toldU16}
+use Rattle.puback.proofs.Laws.{ident-bad, ident-got}
 use Rattle.puback.proofs.read.Statement.{statement}
 use Rattle.puback.proofs.read.Tie as tie
 

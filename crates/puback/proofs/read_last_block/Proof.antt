@@ -1,9 +1,9 @@
 -- `puback::read_last_block` is right since a block is read only where bytes are left, and then no byte may follow it. Assumes nothing.
-use borrow.Author.Needs.{needs}
-use Rattle.puback.proofs.Laws.{block-none, block-bad, bytes-after, block-ends}
-use Rattle.properties.specs.Block.{toldPubAckBlockAt}
-use denote.Ref.{now}
 use mathlib.Core.Path.{sym, ap, _∙_}
+use borrow.Author.Needs.{needs}
+use denote.Ref.{now}
+use Rattle.properties.specs.Block.{toldPubAckBlockAt}
+use Rattle.puback.proofs.Laws.{block-none, block-bad, bytes-after, block-ends}
 use Rattle.puback.proofs.read_last_block.Statement.{statement}
 use Rattle.puback.proofs.read_last_block.Tie as tie
 

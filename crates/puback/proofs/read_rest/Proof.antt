@@ -1,10 +1,10 @@
 -- `puback::read_rest` is right since a reason is tested where a byte is left, and what follows it is read then. Assumes nothing.
-use borrow.Author.Needs.{needs}
-use Rattle.puback.proofs.Laws.{rest-none, reason-bad, last-bad, last-got}
-use Rattle.puback.specs.Told.{toldLastBlock}
-use Rattle.records.specs.Answered.{toldGotReason}
-use denote.Ref.{now}
 use mathlib.Core.Path.{sym, ap, _∙_}
+use borrow.Author.Needs.{needs}
+use denote.Ref.{now}
+use Rattle.records.specs.Answered.{toldGotReason}
+use Rattle.puback.specs.Told.{toldLastBlock}
+use Rattle.puback.proofs.Laws.{rest-none, reason-bad, last-bad, last-got}
 use Rattle.puback.proofs.read_rest.Statement.{statement}
 use Rattle.puback.proofs.read_rest.Tie as tie
 

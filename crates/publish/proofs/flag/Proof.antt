@@ -1,6 +1,6 @@
 -- `publish::flag` is right since a bit is 0 or 1. Assumes nothing.
-use Rattle.publish.proofs.Laws.{flag-told}
 use native.Mathlib.Omega.{arith}
+use Rattle.publish.proofs.Laws.{flag-told}
 use Rattle.publish.proofs.flag.Statement.{statement}
 use Rattle.publish.proofs.flag.Tie as tie
 

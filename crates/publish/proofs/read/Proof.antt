@@ -1,14 +1,14 @@
 -- `publish::read` is right since each field is read where the one before it ends, and the first refusal stands. Assumes nothing.
+use mathlib.Core.Path.{sym, ap, _∙_}
+use Prim.Native.Nat.{ℕ}
 use borrow.Author.Needs.{needs}
-use Rattle.publish.proofs.Laws.{qos-fine, qos-refused, topic-within, topic-bad, pkid-bad, block-within, block-bad, fields-got}
-use Rattle.properties.specs.Block.{toldPublishBlockAt}
+use denote.Ref.{now}
+use Rattle.reading.specs.Read.{identOf}
+use Rattle.positions.specs.Position.{fromAt}
 use Rattle.wire.specs.Qos.{toldGotQos}
 use Rattle.wire.specs.Told.{toldU16, toldPart}
-use Rattle.positions.specs.Position.{fromAt}
-use Rattle.reading.specs.Read.{identOf}
-use denote.Ref.{now}
-use Prim.Native.Nat.{ℕ}
-use mathlib.Core.Path.{sym, ap, _∙_}
+use Rattle.properties.specs.Block.{toldPublishBlockAt}
+use Rattle.publish.proofs.Laws.{qos-fine, qos-refused, topic-within, topic-bad, pkid-bad, block-within, block-bad, fields-got}
 use Rattle.publish.proofs.read.Statement.{statement}
 use Rattle.publish.proofs.read.Tie as tie
 

@@ -1,7 +1,7 @@
 -- `publish::read_pkid` is right since at QoS 0 nothing stands there, and at 1 and 2 the same. Assumes nothing.
 use borrow.Author.Needs.{needs}
-use Rattle.publish.proofs.Laws.{ident-none}
 use Rattle.reading.specs.Read.{identOf}
+use Rattle.publish.proofs.Laws.{ident-none}
 use Rattle.publish.proofs.read_pkid.Statement.{statement}
 use Rattle.publish.proofs.read_pkid.Tie as tie
 

@@ -1,8 +1,8 @@
 -- `publish::read_some_pkid` is right since the identifier is what `read_u16` read, and 0 is refused. Assumes nothing.
-use borrow.Author.Needs.{needs}
-use Rattle.publish.proofs.Laws.{ident-bad, ident-zero, ident-some}
-use Rattle.wire.specs.Told.{toldU16}
 use mathlib.Core.Path.{sym, ap, _∙_}
+use borrow.Author.Needs.{needs}
+use Rattle.wire.specs.Told.{toldU16}
+use Rattle.publish.proofs.Laws.{ident-bad, ident-zero, ident-some}
 use Rattle.publish.proofs.read_some_pkid.Statement.{statement}
 use Rattle.publish.proofs.read_some_pkid.Tie as tie
 
