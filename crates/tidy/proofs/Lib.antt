@@ -1,0 +1,3 @@
+pub mod Has
+pub mod Said
+pub mod Rows

@@ -1,0 +1,192 @@
+-- What holds of every packet that a sentence says. Assumes nothing.
+use mathlib.Core.Path.{_≡_, refl, sym, ap, _∙_}
+use mathlib.Core.Bool.{Bool, true, false, not, _||_}
+use mathlib.Core.Option.{Option, none, some}
+use mathlib.Core.List.{List, [], _∷_, _++_}
+use Prim.Native.Nat.{ℕ, zero, suc, _+_, _/_, _%_, _≤_, _<_}
+use native.Mathlib.Omega.{arith}
+use lib.Dec.{eqb}
+use lib.ListN.{length, length-append}
+use Rattle.grammar.specs.Choice.{pick, isIn, lookup}
+use Rattle.grammar.specs.Gram.{mapped, only, both, sized, done, more, Many, is, nothing}
+use Rattle.grammar.specs.Number.{byte}
+use Rattle.grammar.specs.Text.{Utf8}
+use Rattle.grammar.specs.Tables.{publishPlace, subscribePlace, ackPlace, reasons, Layout, aPublish, anAck, aSubscribe, aPing, kinds}
+use Rattle.grammar.specs.Record as g
+use Rattle.grammar.specs.Record.{Filter, AckProps, kindOf, flagQos, mkFilter, Publish, Ack, Subscribe}
+use Rattle.grammar.specs.Sentence.{Any, publishOf, subscribeOf, ackOf, notThree, notZero, Ident, qosFine, ruleFine, FilterOf, someOf, AckRest, plain, coded, full, Packet, Fields, body, framed, Sentence}
+use Rattle.reading.proofs.Lists.{no-way}
+use Rattle.writing.specs.Lists.{Each, nil, _&_, Octets, total}
+use Rattle.writing.specs.Size.{most, identSize}
+use Rattle.writing.specs.Refuse.{Short}
+use Rattle.writing.proofs.Each.{each-tail, each-left, each-right, rows-of, lookup-each}
+use Rattle.writing.proofs.Tests.{eq-not}
+use Rattle.tidy.proofs.Has.{has-many, has-big, has-number, has-string, FromList, has-block}
+
+-- ---- each kind; n is what the block may take
+
+pub record PublishSaid (p : Publish (List ℕ) List) : Type 0 where
+  pub dup : p .dup < 2
+  pub qos : p .qos < 3
+  pub retain : p .retain < 2
+  pub topic : Short (p .topic)
+  pub octets : Octets (p .topic)
+  pub ident : p .ident < 65536
+  pub unnamed : p .qos ≡ 0 → p .ident ≡ 0
+  pub named : (p .qos ≡ 0 → ⊥) → p .ident ≡ 0 → ⊥
+  pub size : ℕ
+  pub props : FromList publishPlace publishOf (p .props) size
+  pub payload : Octets (p .payload)
+  pub light : 2 + length (p .topic) + (identSize (p .qos) (p .ident) + (size + length (p .payload))) ≤ most
+
+pub record AckSaid (k : ℕ) (p : Ack (List ℕ) List) : Type 0 where
+  pub reasons : List ℕ
+  pub kind : lookup kinds k ≡ some (anAck reasons)
+  pub reason : isIn (p .reason) reasons ≡ true
+  pub ident : p .ident < 65536
+  pub size : ℕ
+  pub props : FromList ackPlace ackOf (p .props) size
+  pub light : 3 + size ≤ most
+
+pub record FilterSaid (f : Filter (List ℕ)) : Type 0 where
+  pub path : Short (f .path)
+  pub text : Utf8 (f .path)
+  pub octets : Octets (f .path)
+  pub options : ℕ
+  pub filter : f ≡ mkFilter (f .path, options)
+  pub rule : ruleFine options ≡ true
+  pub qos : qosFine options ≡ true
+
+abbrev pub filterSize : Filter (List ℕ) → ℕ
+filterSize f = 3 + length (f .path)
+
+pub record SubscribeSaid (p : Subscribe (List ℕ) List) : Type 0 where
+  pub ident : p .ident < 65536
+  pub size : ℕ
+  pub props : FromList subscribePlace subscribeOf (p .props) size
+  pub filters : Each FilterSaid (p .filters)
+  pub asked : someOf (p .filters) ≡ true
+  pub light : 2 + (size + total filterSize (p .filters)) ≤ most
+
+abbrev pub Said : Packet → Type 0
+Said (g.publish p) = PublishSaid p
+Said (g.ack k p) = AckSaid k p
+Said (g.subscribe p) = SubscribeSaid p
+Said (g.ping k) = lookup kinds k ≡ some aPing
+
+-- ---- Publish
+
+record Named (q i n : ℕ) : Type 0 where
+  small : i < 65536
+  unnamed : q ≡ 0 → i ≡ 0
+  named : (q ≡ 0 → ⊥) → i ≡ 0 → ⊥
+  light : identSize q i ≤ n
+
+has-ident : (q i : ℕ) (b : List ℕ) → Ident q i b → Octets b → Named q i (length b)
+has-ident zero _ _ nothing o = record { small = omega arith; unnamed = λ _. refl; named = λ n _. n refl; light = omega arith }
+has-ident (suc q) i b (only t g) o =
+    let (h, e) = has-big 2 i b g o in
+    record { small = omega arith; unnamed = λ z. absurd (omega arith); named = λ _ z. no-way (ap notZero (sym z) ∙ t); light = omega (arith, two (eqb (suc q) 0 || eqb i 0)) }
+  where
+    two : (t : Bool) → pick t 0 2 ≤ 2
+    two true = omega arith
+    two false = omega arith
+
+not-three : (q : ℕ) → notThree q ≡ true → q < 4 → q < 3
+not-three q e h = go (eqb q 3) refl e
+  where
+    go : (t : Bool) → eqb q 3 ≡ t → not t ≡ true → q < 3
+    go true c n = absurd (no-way n)
+    go false c n = let m = eq-not q 3 .0 c in omega arith
+
+publish-said : (x : ℕ) (v : Packet) (b : List ℕ) → Fields aPublish x v b → Octets b → length b ≤ most → Said v
+publish-said x _ _ (only t (mapped (both {a = s} {b = b₁} {d = d₁} g₁ (both {a = i} {b = b₂} {d = d₂} g₂ (both {a = a} {b = b₃} {d = d₃} g₃ (is _)))))) o l =
+    let q₁ = each-right b₁ d₁ o in
+    let q₂ = each-right b₂ d₂ q₁ in
+    let (h, _, w, e) = has-string Any s b₁ g₁ (each-left b₁ d₁ o) in
+    let n = has-ident (flagQos x) i b₂ g₂ (each-left b₂ d₂ q₁) in
+    let ps = has-block publishPlace publishOf a b₃ g₃ (each-left b₃ d₃ q₂) in
+    record {
+      dup = omega arith;
+      qos = not-three (flagQos x) t (omega arith);
+      retain = omega arith;
+      topic = h;
+      octets = w;
+      ident = n .small;
+      unnamed = n .unnamed;
+      named = n .named;
+      size = length b₃;
+      props = ps;
+      payload = each-right b₃ d₃ q₂;
+      light = omega (arith, n .light, length-append b₁ d₁, length-append b₂ d₂, length-append b₃ d₃);
+    }
+
+-- ---- acknowledgements
+
+-- every kind of acknowledgement can give success
+abbrev Zero : ℕ × Layout → Type 0
+Zero r = go (r .1)
+  where
+    go : Layout → Type 0
+    go aPublish = Unit {0}
+    go (anAck rs) = isIn 0 rs ≡ true
+    go aSubscribe = Unit {0}
+    go aPing = Unit {0}
+
+kinds-zero : Each Zero kinds
+unfolding kinds reasons
+kinds-zero = rows-of Zero kinds (tt & (refl & (tt & (tt & (tt & nil)))))
+
+record RestSaid (rs : List ℕ) (v : ℕ × Option (AckProps (List ℕ) List)) (n : ℕ) : Type 0 where
+  reason : isIn (v .0) rs ≡ true
+  size : ℕ
+  props : FromList ackPlace ackOf (v .1) size
+  light : 2 + n ≤ most → 3 + size ≤ most
+
+no-props : (n : ℕ) → 1 ≤ n → FromList ackPlace ackOf none n
+no-props n h = record { list = []; is = refl; suits = nil; light = omega arith }
+
+rest-said : (rs : List ℕ) → isIn 0 rs ≡ true → (v : ℕ × Option (AckProps (List ℕ) List)) (b : List ℕ) → AckRest rs v b → Octets b → RestSaid rs v (length b)
+rest-said rs z _ _ plain o = record { reason = z; size = 1; props = no-props 1 (omega arith); light = λ _. omega arith }
+rest-said rs z _ _ (coded t) o = record { reason = t; size = 1; props = no-props 1 (omega arith); light = λ _. omega arith }
+rest-said rs z _ _ (full {ps = ps} {b = b} t g) o = record { reason = t; size = length b; props = has-block ackPlace ackOf ps b g (each-tail o); light = λ l. omega arith }
+
+ack-said : (rs : List ℕ) (x : ℕ) → lookup kinds (kindOf x) ≡ some (anAck rs) → (v : Packet) (b : List ℕ) → Fields (anAck rs) x v b → Octets b → length b ≤ most → Said v
+ack-said rs x e _ _ (mapped (both {a = i} {c = v} {b = c} {d = d} g w)) o l =
+    let (h, n) = has-big 2 i c g (each-left c d o) in
+    let r = rest-said rs (lookup-each Zero kinds-zero (kindOf x) (anAck rs) e) v d w (each-right c d o) in
+    record { reasons = rs; kind = e; reason = r .reason; ident = omega arith; size = r .size; props = r .props; light = r .light (omega (arith, length-append c d)) }
+
+-- ---- Subscribe
+
+has-filter : (f : Filter (List ℕ)) (b : List ℕ) → FilterOf f b → Octets b → FilterSaid f × (filterSize f ≤ length b)
+has-filter _ _ (mapped (both {a = s} {c = p} {b = b} {d = d} g (only q (only r byte)))) o =
+    let (h, u, w, e) = has-string Utf8 s b g (each-left b d o) in
+    (record { path = h; text = u; octets = w; options = p; filter = refl; rule = r; qos = q }, omega (arith, length-append b d))
+
+subscribe-said : (x : ℕ) (v : Packet) (b : List ℕ) → Fields aSubscribe x v b → Octets b → length b ≤ most → Said v
+subscribe-said x _ _ (mapped (both {a = i} {b = b₁} {d = d₁} g₁ (both {a = a} {c = fs} {b = b₂} {d = d₂} g₂ (only t m)))) o l =
+    let q₁ = each-right b₁ d₁ o in
+    let (h, e) = has-big 2 i b₁ g₁ (each-left b₁ d₁ o) in
+    let (ws, k) = has-many FilterSaid filterSize has-filter fs d₂ m (each-right b₂ d₂ q₁) in
+    record {
+      ident = omega arith;
+      size = length b₂;
+      props = has-block subscribePlace subscribeOf a b₂ g₂ (each-left b₂ d₂ q₁);
+      filters = ws;
+      asked = t;
+      light = omega (arith, length-append b₁ d₁, length-append b₂ d₂);
+    }
+
+-- ---- all
+
+fields-said : (l : Layout) (x : ℕ) → lookup kinds (kindOf x) ≡ some l → (v : Packet) (b : List ℕ) → Fields l x v b → Octets b → length b ≤ most → Said v
+fields-said aPublish x e v b w = publish-said x v b w
+fields-said (anAck rs) x e v b w = ack-said rs x e v b w
+fields-said aSubscribe x e v b w = subscribe-said x v b w
+fields-said aPing x e _ b (mapped w) = λ o l. e
+
+pub sentence-said : (v : Packet) (b : List ℕ) → Sentence v b → Octets b → Said v
+sentence-said v _ (framed {x = x} (both {b = c} byte (sized {b = b} {c = n} k (is _))) (body {l = l} e w)) o =
+    let q = each-right c (n ++ b) o in
+    fields-said l x e v b w (each-right n b q) (has-number (length b) n k (each-left n b q) .0)

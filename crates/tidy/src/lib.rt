@@ -1,0 +1,1 @@
+// The tidy form of a frame, as definitions and laws.

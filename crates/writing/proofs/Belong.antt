@@ -1,0 +1,93 @@
+-- 20, 12 and 13 are given exactly when their rows say; an absent block has nothing in it. Assumes nothing.
+use mathlib.Core.Path.{_≡_, refl, sym}
+use mathlib.Core.Bool.{Bool, true, false, not, _||_}
+use mathlib.Core.Option.{none, some}
+use mathlib.Core.Logic.{_↔_}
+use mathlib.Core.List.{List, [], _∷_}
+use Prim.Native.Nat.{ℕ, _%_}
+use lib.Dec.{eqb}
+use lib.ListN.{length}
+use Rattle.grammar.specs.Choice.{isEmpty}
+use Rattle.grammar.specs.Tables.{Place, publishPlace, subscribePlace, ackPlace}
+use Rattle.reading.proofs.Lists.{no-way, eq-of}
+use Rattle.writing.specs.Lists.{Each, nil, _&_, flat, sum}
+use Rattle.writing.specs.Handed.{Handed, publish, ack, subscribe, ping, Given, one, lent, pairs, several, Givens, publishGiven, subscribeGiven, ackGiven, items, tag, entries, filters, addsUp, sorted, nothing, blockBelongs, filtersBelong, belongs}
+use Rattle.writing.specs.Order.{named, asked}
+use Rattle.writing.specs.Refuse.{Sorted, Nothing, InBlock, Belongs, Unnamed, Unasked}
+use Rattle.writing.proofs.Tests.{and-when, or-when, not-when, nil-when, eq-when, eq-not, all-when}
+
+-- ---- what belongs together
+
+sorted-when : (g : Given) → (sorted g ≡ true) ↔ Sorted g
+sorted-when (one o) = (λ _. tt, λ _. refl)
+sorted-when (lent l) = or-when (l .on) (isEmpty (l .bytes)) (nil-when (l .bytes))
+sorted-when (pairs r) =
+    and-when (addsUp r) (eqb (length (r .lengths) % 2) 0) (eq-when (sum (r .lengths)) (length (r .bytes))) (eq-when (length (r .lengths) % 2) 0)
+sorted-when (several ns) = (λ _. tt, λ _. refl)
+
+nothing-when : (g : Given) → (nothing g ≡ true) ↔ Nothing g
+nothing-when (one none) = (λ _. refl, λ _. refl)
+nothing-when (one (some n)) = (λ e. absurd (no-way e), λ e. cc)
+nothing-when (lent l) = and-when (not (l .on)) (isEmpty (l .bytes)) (not-when (l .on)) (nil-when (l .bytes))
+nothing-when (pairs r) = and-when (isEmpty (r .bytes)) (isEmpty (r .lengths)) (nil-when (r .bytes)) (nil-when (r .lengths))
+nothing-when (several ns) = nil-when ns
+
+block-when : (place : Place) (block : Bool) (g : Givens) → (blockBelongs place block g ≡ true) ↔ Each (InBlock block g) place
+unfolding blockBelongs
+block-when place block g = all-when _ (λ r. and-when (sorted (g (r .0))) (block || nothing (g (r .0))) (sorted-when (g (r .0))) (or-when block (nothing (g (r .0))) (nothing-when (g (r .0))))) place
+
+-- 01, row 20
+pub belongs-when : (h : Handed) → (belongs h ≡ true) ↔ Belongs h
+unfolding belongs filtersBelong
+belongs-when (publish h) = block-when publishPlace (h .block) (publishGiven h)
+belongs-when (ack k h) = block-when ackPlace (h .block) (ackGiven h)
+belongs-when (subscribe h) =
+    and-when (blockBelongs subscribePlace (h .block) (subscribeGiven h)) (filtersBelong h) (block-when subscribePlace (h .block) (subscribeGiven h))
+    (and-when (addsUp (h .filters)) (eqb (length (h .filters .lengths)) (length (h .options))) (eq-when (sum (h .filters .lengths)) (length (h .filters .bytes))) (eq-when (length (h .filters .lengths)) (length (h .options))))
+belongs-when (ping k) = (λ _. tt, λ _. refl)
+
+-- ---- 12 and 13
+
+unnamed : (a b : Bool) → ((a || not b) ≡ false) ↔ ((a ≡ false) × (b ≡ true))
+unnamed true b = (λ e. absurd (no-way (sym e)), λ t. absurd (no-way (sym (t .0))))
+unnamed false true = (λ e. (refl, refl), λ t. refl)
+unnamed false false = (λ e. absurd (no-way (sym e)), λ t. absurd (no-way (t .1)))
+
+never : (true ≡ false) ↔ ⊥
+never = (λ e. no-way (sym e), λ f. absurd f)
+
+-- 01, row 12
+pub unnamed-when : (h : Handed) → (named h ≡ false) ↔ Unnamed h
+unnamed-when (publish h) =
+    let w = unnamed (eqb (h .qos) 0) (eqb (h .ident) 0) in
+    (λ e. let p = w .0 e in (eq-not (h .qos) 0 .0 (p .0), eq-of (h .ident) 0 (p .1)), λ t. w .1 (eq-not (h .qos) 0 .1 (t .0), eq-when (h .ident) 0 .1 (t .1)))
+unnamed-when (ack k h) = never
+unnamed-when (subscribe h) = never
+unnamed-when (ping k) = never
+
+-- 01, row 13
+pub unasked-when : (h : Handed) → (asked h ≡ false) ↔ Unasked h
+unasked-when (publish h) = never
+unasked-when (ack k h) = never
+unasked-when (subscribe h) = go (filters h)
+  where
+    go : (fs : List (List ℕ × ℕ)) → (not (isEmpty fs) ≡ false) ↔ (fs ≡ [])
+    go [] = (λ _. refl, λ _. refl)
+    go (f ∷ fs) = (λ e. absurd (no-way (sym e)), λ e. cc)
+unasked-when (ping k) = never
+
+-- ---- an absent block
+
+nothing-items : (g : Given) → Nothing g → items g ≡ []
+nothing-items (one o) e = rw e
+nothing-items (lent l) (e, _) = rw e
+nothing-items (pairs r) (_, e) = rw e
+nothing-items (several ns) e = rw e
+
+nothing-rows : {block : Bool} → block ≡ false → (g : Givens) {place : Place} → Each (InBlock block g) place → flat (λ r. tag r (items (g (r .0)))) place ≡ []
+nothing-rows e g nil = refl
+nothing-rows e g (_&_ {a = r} p ps) = rw (nothing-items (g (r .0)) (p .1 e), nothing-rows e g ps)
+
+pub nothing-entries : (place : Place) (block : Bool) (g : Givens) → Each (InBlock block g) place → block ≡ false → entries place g ≡ []
+unfolding entries
+nothing-entries place block g rows e = nothing-rows e g rows

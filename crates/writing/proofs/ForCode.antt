@@ -1,0 +1,223 @@
+-- What the code of a writer goes by: the contract from the answer and the stores; for each kind its tests, its sums and its bytes one after
+-- the other; and a list's items by the index of a length and the place in the run. Assumes nothing.
+use mathlib.Core.Path.{_≡_, refl, sym, ap, _∙_}
+use mathlib.Core.Bool.{true, _&&_}
+use mathlib.Core.Logic.{_⊎_, inl, inr}
+use mathlib.Core.Option.{Option}
+use mathlib.Core.List.{List, [], _∷_, _++_, map}
+use Prim.Native.Nat.{ℕ, _+_, _-_, _≤_, _<_}
+use native.Mathlib.Omega.{arith}
+use native.Mathlib.Numerals.{add-one}
+use lib.Dec.{eqb, leb}
+use lib.ListN.{length, take, drop, getD, drop-of-length-le}
+use lib.Seq.{drop-cons, drop-drop, sets}
+use Rattle.grammar.specs.Choice.{pick}
+use Rattle.grammar.specs.Tables.{Form, u8, u16, u32, number, text, bytes, pair, publishPlace, subscribePlace, ackPlace}
+use Rattle.reading.specs.Refusal.{Refusal}
+use Rattle.reading.specs.Reader.{got, bad, _>>_}
+use Rattle.reading.proofs.Lists.{leb-yes, leb-no, eq-of}
+use Rattle.writing.specs.Lists.{flat, sum, beside}
+use Rattle.writing.specs.Handed.{Run, PublishHanded, SubscribeHanded, AckHanded, Handed, publish, ack, subscribe, ping, one, lent, pairs, several, publishGiven, subscribeGiven, ackGiven, strings, filters, rowBelongs, blockBelongs, filtersBelong, belongs}
+use Rattle.writing.specs.Spell.{wide, short, string, numeral, value, rowBytes, propsBytes, counted, block, filterBytes}
+use Rattle.writing.specs.Size.{most, withLength, givenSize, propsSize, isPlain, restIs, sizeIs, cap}
+use Rattle.writing.specs.Order.{judge, word, fieldTests, permit}
+use Rattle.writing.specs.Write.{firstByte, identBytes, bodyBytes, frameBytes, writeOf, answerOf, Written}
+use Rattle.writing.specs.Refuse.{Belongs}
+use Rattle.writing.proofs.Tests.{eq-when, eq-not, le-or, same-test}
+use Rattle.writing.proofs.Belong.{belongs-when}
+use Rattle.writing.proofs.Sizes.{length-props, length-body}
+use Rattle.writing.proofs.Judge.{fields-more}
+use Rattle.writing.proofs.Demand.{out-refused, out-sets}
+
+-- ---- the contract
+
+module _ (limit : Option ℕ) (h : Handed) (before : List ℕ) where
+  -- permitted: the frame is stored from place 0 on, and the answer is the size
+  pub writes-all : permit limit (length before) h ≡ got tt → (after : List ℕ) → after ≡ sets before 0 (frameBytes h) → Written limit h before after (got (sizeIs h))
+  unfolding writeOf answerOf
+  writes-all p after e = record { answer = rw p; output = e ∙ sym (out-sets limit before h (frameBytes h) (rw p)) }
+
+  -- refused: nothing is stored
+  pub writes-none : (k : Refusal) → permit limit (length before) h ≡ bad k → Written limit h before before (bad k)
+  unfolding writeOf answerOf
+  writes-none k p = record { answer = rw p; output = sym (out-refused limit before h k (rw p)) }
+
+-- ---- 20: what belongs together, for each kind
+
+pub publish-belongs : (h : PublishHanded) → belongs (publish h)
+    ≡ (rowBelongs (h .block) (one (h .format))
+    && (rowBelongs (h .block) (one (h .expiry))
+    && (rowBelongs (h .block) (one (h .alias))
+    && (rowBelongs (h .block) (lent (h .response))
+    && (rowBelongs (h .block) (lent (h .correlation))
+    && (rowBelongs (h .block) (pairs (h .user))
+    && (rowBelongs (h .block) (several (h .subscriptions))
+    && (rowBelongs (h .block) (lent (h .content))
+    && true))))))))
+unfolding belongs blockBelongs publishPlace publishGiven
+publish-belongs h = refl
+
+pub ack-belongs : (k : ℕ) (h : AckHanded) → belongs (ack k h) ≡ (rowBelongs (h .block) (lent (h .text)) && (rowBelongs (h .block) (pairs (h .user)) && true))
+unfolding belongs blockBelongs ackPlace ackGiven
+ack-belongs k h = refl
+
+pub subscribe-belongs : (h : SubscribeHanded) → belongs (subscribe h)
+    ≡ ((rowBelongs (h .block) (one (h .subscription)) && (rowBelongs (h .block) (pairs (h .user)) && true)) && filtersBelong h)
+unfolding belongs blockBelongs subscribePlace subscribeGiven
+subscribe-belongs h = refl
+
+-- ---- L, for each kind
+
+pub publish-sum : (h : PublishHanded) → propsSize publishPlace (publishGiven h)
+    ≡ givenSize u8 (one (h .format))
+    + (givenSize u32 (one (h .expiry))
+    + (givenSize u16 (one (h .alias))
+    + (givenSize text (lent (h .response))
+    + (givenSize bytes (lent (h .correlation))
+    + (givenSize pair (pairs (h .user))
+    + (givenSize number (several (h .subscriptions))
+    + (givenSize text (lent (h .content))
+    + 0)))))))
+unfolding propsSize publishPlace publishGiven
+publish-sum h = refl
+
+pub ack-sum : (h : AckHanded) → propsSize ackPlace (ackGiven h) ≡ givenSize text (lent (h .text)) + (givenSize pair (pairs (h .user)) + 0)
+unfolding propsSize ackPlace ackGiven
+ack-sum h = refl
+
+pub subscribe-sum : (h : SubscribeHanded) → propsSize subscribePlace (subscribeGiven h) ≡ givenSize number (one (h .subscription)) + (givenSize pair (pairs (h .user)) + 0)
+unfolding propsSize subscribePlace subscribeGiven
+subscribe-sum h = refl
+
+-- ---- the bytes of each kind, one after the other, with R and L as sums
+
+-- the bytes with their number n in front
+counted-sum : (b : List ℕ) (n : ℕ) → length b ≡ n → counted b ≡ short n ++ b
+unfolding counted
+counted-sum b n e = rw e
+
+frame-sum : (h : Handed) → Belongs h → frameBytes h ≡ firstByte h ∷ (short (restIs h) ++ bodyBytes h)
+unfolding frameBytes
+frame-sum h w = ap (λ (l : List ℕ). firstByte h ∷ l) (counted-sum (bodyBytes h) (restIs h) (length-body h w))
+
+pub publish-frame : (h : PublishHanded) → belongs (publish h) ≡ true → frameBytes (publish h)
+    ≡ firstByte (publish h) ∷ (short (restIs (publish h)) ++ (string (h .topic) ++ (identBytes (h .qos) (h .ident)
+    ++ ((short (propsSize publishPlace (publishGiven h)) ++ propsBytes publishPlace (publishGiven h)) ++ h .payload))))
+unfolding bodyBytes block
+publish-frame h e =
+    let w : Belongs (publish h) = belongs-when (publish h) .0 e in
+    frame-sum (publish h) w ∙ ap (λ (l : List ℕ). firstByte (publish h) ∷ (short (restIs (publish h)) ++ (string (h .topic) ++ (identBytes (h .qos) (h .ident) ++ (l ++ h .payload)))))
+    (counted-sum (propsBytes publishPlace (publishGiven h)) (propsSize publishPlace (publishGiven h)) (length-props publishPlace (h .block) (publishGiven h) w))
+
+pub ack-frame : (k : ℕ) (h : AckHanded) → belongs (ack k h) ≡ true → frameBytes (ack k h)
+    ≡ firstByte (ack k h) ∷ (short (restIs (ack k h)) ++ (wide 2 (h .ident)
+    ++ pick (isPlain h) [] (h .reason ∷ (short (propsSize ackPlace (ackGiven h)) ++ propsBytes ackPlace (ackGiven h)))))
+unfolding bodyBytes block
+ack-frame k h e =
+    let w : Belongs (ack k h) = belongs-when (ack k h) .0 e in
+    frame-sum (ack k h) w ∙ ap (λ (l : List ℕ). firstByte (ack k h) ∷ (short (restIs (ack k h)) ++ (wide 2 (h .ident) ++ pick (isPlain h) [] (h .reason ∷ l))))
+    (counted-sum (propsBytes ackPlace (ackGiven h)) (propsSize ackPlace (ackGiven h)) (length-props ackPlace (h .block) (ackGiven h) w))
+
+pub subscribe-frame : (h : SubscribeHanded) → belongs (subscribe h) ≡ true → frameBytes (subscribe h)
+    ≡ firstByte (subscribe h) ∷ (short (restIs (subscribe h)) ++ (wide 2 (h .ident)
+    ++ ((short (propsSize subscribePlace (subscribeGiven h)) ++ propsBytes subscribePlace (subscribeGiven h)) ++ flat filterBytes (filters h))))
+unfolding bodyBytes block
+subscribe-frame h e =
+    let w : Belongs (subscribe h) = belongs-when (subscribe h) .0 e in
+    frame-sum (subscribe h) w ∙ ap (λ (l : List ℕ). firstByte (subscribe h) ∷ (short (restIs (subscribe h)) ++ (wide 2 (h .ident) ++ (l ++ flat filterBytes (filters h)))))
+    (counted-sum (propsBytes subscribePlace (subscribeGiven h)) (propsSize subscribePlace (subscribeGiven h)) (length-props subscribePlace (h .block) (subscribeGiven h) (w .0)))
+
+pub ping-frame : (k : ℕ) → frameBytes (ping k) ≡ firstByte (ping k) ∷ (short 0 ++ [])
+unfolding frameBytes bodyBytes counted
+ping-frame k = refl
+
+-- ---- lists: what is left of a run from place p on, with the lengths from index i on
+
+abbrev pub runFrom : Run → ℕ → ℕ → Run
+runFrom r i p = record { bytes = drop p (r .bytes); lengths = drop i (r .lengths) }
+
+module _ (r : Run) (i p : ℕ) where
+  -- the i-th length, and the string of so many bytes at p
+  abbrev pub lengthAt : ℕ
+  lengthAt = getD (r .lengths) i 0
+
+  abbrev pub stringAt : List ℕ
+  stringAt = take lengthAt (drop p (r .bytes))
+
+  pub strings-more : i < length (r .lengths) → strings (runFrom r i p) ≡ stringAt ∷ strings (runFrom r (i + 1) (p + lengthAt))
+  strings-more h = rw (drop-cons (r .lengths) i 0 h, add-one i, ← drop-drop lengthAt p (r .bytes))
+
+  pub strings-done : length (r .lengths) ≤ i → strings (runFrom r i p) ≡ []
+  strings-done h = rw (drop-of-length-le (r .lengths) h)
+
+-- the tests of a list of texts, one by one
+pub words-more : (s : List ℕ) (ss : List (List ℕ)) → judge (flat fieldTests (map word (s ∷ ss))) ≡ (judge (fieldTests (word s)) >> judge (flat fieldTests (map word ss)))
+words-more s ss = fields-more (word s) (map word ss)
+
+-- a pair and the pairs after it
+pub pairs-more : (r : Run) (i p : ℕ) (f : Form) (j : ℕ) → i + 1 < length (r .lengths) → rowBytes (j, f) (pairs (runFrom r i p))
+    ≡ (j ∷ (string (stringAt r i p) ++ string (stringAt r (i + 1) (p + lengthAt r i p))))
+    ++ rowBytes (j, f) (pairs (runFrom r (i + 2) (p + lengthAt r i p + lengthAt r (i + 1) (p + lengthAt r i p))))
+unfolding value
+pairs-more r i p f j h =
+    let q : ℕ = p + lengthAt r i p in
+    let e : i + 1 + 1 ≡ i + 2 = omega arith in
+    let l : i < length (r .lengths) = omega arith in
+    rw (strings-more r i p l, strings-more r (i + 1) q h, e)
+
+-- an identifier and those after it
+pub several-more : (i n : ℕ) (f : Form) (ns : List ℕ) → rowBytes (i, f) (several (n ∷ ns)) ≡ (i ∷ numeral f n) ++ rowBytes (i, f) (several ns)
+unfolding value
+several-more i n f ns = refl
+
+-- a filter and those after it
+pub filters-more : (h : SubscribeHanded) (i p : ℕ) → i < length (h .filters .lengths) → i < length (h .options)
+    → beside (strings (runFrom (h .filters) i p)) (drop i (h .options))
+    ≡ (stringAt (h .filters) i p, getD (h .options) i 0) ∷ beside (strings (runFrom (h .filters) (i + 1) (p + lengthAt (h .filters) i p))) (drop (i + 1) (h .options))
+filters-more h i p a b = rw (strings-more (h .filters) i p a, drop-cons (h .options) i 0 b, add-one i)
+
+-- ---- sums that cannot overflow: lengths by subtraction, sizes cut off above the largest R
+
+-- a length is no more than what is left, and the others add up to the rest
+pub adds-more : (n : ℕ) (ns : List ℕ) (m : ℕ) → eqb (sum (n ∷ ns)) m ≡ (leb n m && eqb (sum ns) (m - n))
+adds-more n ns m = go (le-or n m)
+  where
+    go : (n ≤ m) ⊎ (m < n) → eqb (n + sum ns) m ≡ (leb n m && eqb (sum ns) (m - n))
+    go (inl h) = rw (leb-yes n m h) (same-test (eqb (n + sum ns) m) (eqb (sum ns) (m - n)) left right)
+      where
+        left : eqb (n + sum ns) m ≡ true → eqb (sum ns) (m - n) ≡ true
+        left e = let i : n + sum ns ≡ m = eq-of (n + sum ns) m e in eq-when (sum ns) (m - n) .1 (omega arith)
+
+        right : eqb (sum ns) (m - n) ≡ true → eqb (n + sum ns) m ≡ true
+        right e = let i : sum ns ≡ m - n = eq-of (sum ns) (m - n) e in eq-when (n + sum ns) m .1 (omega arith)
+    go (inr h) = rw (leb-no n m h) (eq-not (n + sum ns) m .1 (λ e. omega arith))
+
+-- the sum is cut off exactly if it is too large
+pub cap-small : (n : ℕ) → n ≤ most → cap n ≡ n
+cap-small n h = rw (leb-yes n most h)
+
+pub cap-large : (n : ℕ) → most < n → cap n ≡ most + 1
+cap-large n h = rw (leb-no n most h)
+
+pub cap-test : (n : ℕ) → leb (cap n) most ≡ leb n most
+cap-test n = go (le-or n most)
+  where
+    go : (n ≤ most) ⊎ (most < n) → leb (cap n) most ≡ leb n most
+    go (inl h) = ap (λ (k : ℕ). leb k most) (cap-small n h)
+    go (inr h) = ap (λ (k : ℕ). leb k most) (cap-large n h) ∙ sym (leb-no n most h)
+
+-- what was cut off stays so, whatever is added
+pub cap-add : (m n : ℕ) → cap (cap m + n) ≡ cap (m + n)
+cap-add m n = go (le-or m most)
+  where
+    go : (m ≤ most) ⊎ (most < m) → cap (cap m + n) ≡ cap (m + n)
+    go (inl h) = ap (λ (k : ℕ). cap (k + n)) (cap-small m h)
+    go (inr h) = ap (λ (k : ℕ). cap (k + n)) (cap-large m h) ∙ cap-large (most + 1 + n) (omega arith) ∙ sym (cap-large (m + n) (omega arith))
+
+-- also where it is counted
+pub cap-length : (n : ℕ) → cap (withLength (cap n)) ≡ cap (withLength n)
+cap-length n = go (le-or n most)
+  where
+    go : (n ≤ most) ⊎ (most < n) → cap (withLength (cap n)) ≡ cap (withLength n)
+    go (inl h) = ap (λ (k : ℕ). cap (withLength k)) (cap-small n h)
+    go (inr h) = ap (λ (k : ℕ). cap (withLength k)) (cap-large n h) ∙ cap-large (withLength (most + 1)) (omega arith) ∙ sym (cap-large (withLength n) (omega arith))

@@ -1,0 +1,89 @@
+-- How tests go in a list: those that hold are passed, the first that fails says the refusal. Assumes nothing.
+use mathlib.Core.Path.{_≡_, refl}
+use mathlib.Core.Bool.{Bool, true, false}
+use mathlib.Core.Option.{Option, none, some}
+use mathlib.Core.List.{List, [], _∷_, _++_, map}
+use Prim.Native.Nat.{ℕ, _<_}
+use lib.Dec.{leb}
+use lib.ListN.{length}
+use Rattle.grammar.specs.Text.{Utf8}
+use Rattle.reading.specs.Refusal.{Refusal, nr}
+use Rattle.reading.specs.Reader.{got, bad, _>>_, guard}
+use Rattle.reading.specs.Read.{isText}
+use Rattle.reading.proofs.Lists.{leb-yes, leb-no}
+use Rattle.reading.proofs.Fields.{text-fine}
+use Rattle.writing.specs.Lists.{Each, nil, _&_, flat}
+use Rattle.writing.specs.Size.{most}
+use Rattle.writing.specs.Order.{Test, judge, Field, raw, word, filter, fieldTests, small, limitTests}
+use Rattle.writing.specs.Refuse.{Sound, Faulty, long-raw, long-word, long-filter, bad-word, bad-filter, bad-rule, bad-qos, FirstFault, Small, TooLarge, Within}
+use Rattle.writing.proofs.Tests.{fails-when}
+use Rattle.writing.specs.Refuse as r
+
+-- tests, and then others
+pub judge-append : (ts us : List Test) → judge (ts ++ us) ≡ (judge ts >> judge us)
+unfolding judge
+judge-append [] us = refl
+judge-append (t ∷ ts) us = go (t .0) (judge-append ts us)
+  where
+    go : (b : Bool) → judge (ts ++ us) ≡ (judge ts >> judge us) → (guard b (t .1) >> judge (ts ++ us)) ≡ ((guard b (t .1) >> judge ts) >> judge us)
+    go true e = e
+    go false e = refl
+
+-- ---- fields
+
+text-no : (s : List ℕ) → (Utf8 s → ⊥) → isText s ≡ false
+text-no s = fails-when (isText s) (text-fine s)
+
+pub field-pass : (f : Field) → Sound f → judge (fieldTests f) ≡ got tt
+unfolding judge
+field-pass (raw s) h = rw (leb-yes (length s) 65535 h)
+field-pass (word s) (h, u) = rw (leb-yes (length s) 65535 h, text-fine s .1 u)
+field-pass (filter s o) (h, u, p, q) = rw (leb-yes (length s) 65535 h, text-fine s .1 u, p, q)
+
+pub field-fault : {f : Field} {k : Refusal} → Faulty f k → judge (fieldTests f) ≡ bad k
+unfolding judge
+field-fault (long-raw {s} h) = rw (leb-no (length s) 65535 h)
+field-fault (long-word {s} h) = rw (leb-no (length s) 65535 h)
+field-fault (long-filter {s} h) = rw (leb-no (length s) 65535 h)
+field-fault (bad-word {s} h n) = rw (leb-yes (length s) 65535 h, text-no s n)
+field-fault (bad-filter {s} h n) = rw (leb-yes (length s) 65535 h, text-no s n)
+field-fault (bad-rule {s} h u p) = rw (leb-yes (length s) 65535 h, text-fine s .1 u, p)
+field-fault (bad-qos {s} h u p q) = rw (leb-yes (length s) 65535 h, text-fine s .1 u, p, q)
+
+-- the first field, and then the others
+pub fields-more : (f : Field) (fs : List Field) → judge (flat fieldTests (f ∷ fs)) ≡ (judge (fieldTests f) >> judge (flat fieldTests fs))
+fields-more f fs = judge-append (fieldTests f) (flat fieldTests fs)
+
+pub fields-pass : {fs : List Field} → Each Sound fs → judge (flat fieldTests fs) ≡ got tt
+unfolding judge
+fields-pass nil = refl
+fields-pass (_&_ {a = f} {l = fs} p ps) = rw (fields-more f fs, field-pass f p) (fields-pass ps)
+
+pub fields-fault : {fs : List Field} {k : Refusal} → FirstFault k fs → judge (flat fieldTests fs) ≡ bad k
+fields-fault (r.FirstFault.here {f = f} {fs = fs} p) = rw (fields-more f fs, field-fault p)
+fields-fault (r.FirstFault.later {f = f} {fs = fs} p ps) = rw (fields-more f fs, field-pass f p) (fields-fault ps)
+
+-- ---- numbers and the limit
+
+pub numbers-pass : {ns : List ℕ} → Each Small ns → judge (map small ns) ≡ got tt
+unfolding judge
+numbers-pass nil = refl
+numbers-pass (_&_ {a = n} p ps) = rw (leb-yes n most p) (numbers-pass ps)
+
+pub numbers-fault : {ns : List ℕ} → TooLarge ns → judge (map small ns) ≡ bad (nr 17 [])
+unfolding judge
+numbers-fault (r.TooLarge.here {n = n} p) = rw (leb-no n most p)
+numbers-fault (r.TooLarge.later {n = n} {ns = ns} p) = go (leb n most) (numbers-fault p)
+  where
+    go : (t : Bool) → judge (map small ns) ≡ bad (nr 17 []) → (guard t (nr 17 []) >> judge (map small ns)) ≡ bad (nr 17 [])
+    go true e = e
+    go false e = refl
+
+pub limit-pass : (limit : Option ℕ) (n : ℕ) → Within limit n → judge (limitTests limit n) ≡ got tt
+unfolding judge
+limit-pass none n h = refl
+limit-pass (some m) n h = rw (leb-yes n m h)
+
+pub limit-fault : (m n : ℕ) → m < n → judge (limitTests (some m) n) ≡ bad (nr 16 (n ∷ m ∷ []))
+unfolding judge
+limit-fault m n h = rw (leb-no n m h)

@@ -1,0 +1,15 @@
+pub mod Each
+pub mod Tests
+pub mod Says
+pub mod Values
+pub mod Sets
+pub mod Belong
+pub mod Sizes
+pub mod Judge
+pub mod Verdict
+pub mod Packets
+pub mod Demand
+pub mod Back
+pub mod Shortest
+pub mod Pins
+pub mod ForCode

@@ -1,0 +1,239 @@
+-- What each kind writes fills a frame as its grammar says. Assumes nothing.
+use mathlib.Core.Path.{_≡_, refl, ap, _∙_}
+use mathlib.Core.Bool.{Bool, true, false, not, _||_}
+use mathlib.Core.Option.{Option, some}
+use mathlib.Core.List.{List, [], _∷_, map}
+use Prim.Native.Nat.{ℕ, zero, suc, _+_, _*_, _/_, _%_, _≤_, _<_}
+use native.Mathlib.Omega.{arith}
+use lib.Dec.{eqb, eqb·suc-zero, lit<}
+use lib.ListN.{length, length-append}
+use Rattle.grammar.specs.Choice.{pick, or, isIn, lookup, isEmpty}
+use Rattle.grammar.specs.Gram.{Only, both, sized, is}
+use Rattle.grammar.specs.Number.{byte, Big}
+use Rattle.grammar.specs.Tables.{publishPlace, subscribePlace, ackPlace, reasons, Layout, aPublish, anAck, aSubscribe, aPing, kinds}
+use Rattle.grammar.specs.Record.{kindOf, flagQos, mkPublish, mkAck, mkFilter, mkSubscribe, mkPing}
+use Rattle.grammar.specs.Sentence.{Any, publishOf, subscribeOf, ackOf, notThree, notZero, Ident, publishGood, someOf, AckRest, plain, full, Packet, Fields, body, framed, Sentence}
+use Rattle.reading.proofs.Lists.{no-way, eq-of}
+use Rattle.writing.specs.Lists.{Each, nil, _&_, Octet, Octets, flat, beside}
+use Rattle.writing.specs.Handed.{PublishHanded, SubscribeHanded, AckHanded, Handed, publish, ack, subscribe, ping, publishGiven, subscribeGiven, ackGiven, strings, propOf, entries, filters}
+use Rattle.writing.specs.Spell.{wide, propsBytes, counted, block}
+use Rattle.writing.specs.Size.{most, isPlain}
+use Rattle.writing.specs.Order.{Field, givenFields, propsFields, filterField, fieldsOf, numbersOf, named, asked}
+use Rattle.writing.specs.Write.{firsts, firstOf, firstByte, identBytes, bodyBytes, frameBytes}
+use Rattle.writing.specs.Refuse.{InBlock, Belongs, Sound, Small, Accepts}
+use Rattle.writing.specs.Meant.{said, PublishTyped, AckTyped, SubscribeTyped, Typed}
+use Rattle.writing.proofs.Each.{each-head, each-tail, each-append, each-left, each-right, each-flat, each-piece, rows-of, lookup-each}
+use Rattle.writing.proofs.Tests.{and-left, and-right, not-true, passes-when}
+use Rattle.writing.proofs.Says.{Says, says-nothing, says-map, says-only, says-then, says-is, says-wide, says-short}
+use Rattle.writing.proofs.Values.{says-bytes, an-u8, an-u16, an-u32, a-number, a-text, a-bytes, RightRow, says-block, one-suits, below-each, lent-suits, pairs-suit, several-suit, says-filters}
+use Rattle.writing.proofs.Sets.{publish-says, ack-says, subscribe-says}
+use Rattle.writing.proofs.Belong.{unnamed-when, unasked-when, nothing-entries}
+use Rattle.writing.proofs.Sizes.{length-body}
+
+-- ---- the kinds that are carried, row by row
+
+-- the first byte is of the kind
+abbrev First : ℕ → Type 0
+First k = (kindOf (firstOf k) ≡ k) × (firstOf k < 256)
+
+-- a kind whose first byte stands in the table; an acknowledgement's reasons are bytes
+abbrev Fine : ℕ × Layout → Type 0
+Fine r = go (r .1)
+  where
+    go : Layout → Type 0
+    go aPublish = Unit {0}
+    go (anAck rs) = First (r .0) × Octets rs
+    go aSubscribe = First (r .0)
+    go aPing = First (r .0)
+
+kinds-fine : Each Fine kinds
+unfolding kinds reasons firsts firstOf
+kinds-fine = rows-of Fine kinds
+    (tt
+    & (((refl, lit< tt), lit< tt & lit< tt & lit< tt & lit< tt & lit< tt & lit< tt & lit< tt & lit< tt & lit< tt & nil)
+    & ((refl, lit< tt)
+    & ((refl, lit< tt)
+    & ((refl, lit< tt)
+    & nil)))))
+
+is-in : (P : ℕ → Type 0) (x : ℕ) {l : List ℕ} → Each P l → isIn x l ≡ true → P x
+is-in P x nil e = absurd (no-way e)
+is-in P x (_&_ {a = y} {l = l} p ps) e = go (is-in P x ps) (eqb x y) refl e
+  where
+    go : (isIn x l ≡ true → P x) → (t : Bool) → eqb x y ≡ t → or t (isIn x l) ≡ true → P x
+    go ih true q e′ = rw (eq-of x y q) p
+    go ih false q e′ = ih e′
+
+-- ---- the frame around a body
+
+says-frame : (l : Layout) (x : ℕ) {v : Packet} {b : List ℕ} → lookup kinds (kindOf x) ≡ some l → x < 256 → length b ≤ most → Says (Fields l x) v b → Says Sentence v (x ∷ counted b)
+unfolding counted
+says-frame l x {b = b} e h m s =
+    let n = says-short (length b) m in
+    record { spelled = framed (both byte (sized (n .spelled) (is tt))) (body e (s .spelled)); octets = h & each-append (n .octets) (s .octets) }
+
+-- a first byte of the table
+says-first : (l : Layout) (k : ℕ) {v : Packet} {b : List ℕ} → lookup kinds k ≡ some l → First k → length b ≤ most → Says (Fields l (firstOf k)) v b → Says Sentence v (firstOf k ∷ counted b)
+says-first l k e (i, h) m s = says-frame l (firstOf k) (ap (lookup kinds) i ∙ e) h m s
+
+-- a block stands within what it stands in
+block-fits : (b : List ℕ) → length (counted b) ≤ most → length b ≤ most
+unfolding counted
+block-fits b h = omega (arith, simp length-append at h)
+
+-- ---- Publish
+
+publish-rows : (h : PublishHanded) → PublishTyped h → Each (λ r. Each Sound (givenFields (r .1) (publishGiven h (r .0)))) publishPlace → Each Small (h .subscriptions) → Each (RightRow publishPlace (publishGiven h)) publishPlace
+unfolding publishPlace publishGiven
+publish-rows h t (_ & (_ & (_ & (a & (b & (c & (_ & (d & nil)))))))) q = rows-of (RightRow publishPlace (publishGiven h)) publishPlace
+    (record { known = refl; small = omega arith; suits = one-suits _ (λ n b. an-u8 b) (h .format) (below-each 256 (h .format) (t .format)) }
+    & (record { known = refl; small = omega arith; suits = one-suits _ (λ n b. an-u32 b) (h .expiry) (below-each 4294967296 (h .expiry) (t .expiry)) }
+    & (record { known = refl; small = omega arith; suits = one-suits _ (λ n b. an-u16 b) (h .alias) (below-each 65536 (h .alias) (t .alias)) }
+    & (record { known = refl; small = omega arith; suits = lent-suits (h .response) (a-text (t .response)) a }
+    & (record { known = refl; small = omega arith; suits = lent-suits (h .correlation) (a-bytes (t .correlation)) b }
+    & (record { known = refl; small = omega arith; suits = pairs-suit (h .user) (t .user) c }
+    & (record { known = refl; small = omega arith; suits = several-suit q }
+    & (record { known = refl; small = omega arith; suits = lent-suits (h .content) (a-text (t .content)) d }
+    & nil))))))))
+
+says-ident : (q i : ℕ) → i < 65536 → (eqb q 0 || notZero i) ≡ true → Says (Ident q) (pick (eqb q 0) 0 i) (identBytes q i)
+says-ident zero i h e = says-nothing 0
+says-ident (suc q) i h e = rw (eqb·suc-zero q) (go (eqb i 0) refl (rw (eqb·suc-zero q) at e))
+  where
+    go : (t : Bool) → eqb i 0 ≡ t → not t ≡ true → Says (Only notZero (Big 2)) i (pick (eqb i 0) [] (wide 2 i))
+    go true p n = absurd (no-way n)
+    go false p n = rw p (says-only notZero (ap not p) (says-wide 2 i (omega arith)))
+
+not-three : (q : ℕ) → q < 3 → notThree q ≡ true
+not-three q h = ap not (go (eqb q 3) refl)
+  where
+    go : (t : Bool) → eqb q 3 ≡ t → eqb q 3 ≡ false
+    go true e = absurd (omega (arith, eq-of q 3 e))
+    go false e = e
+
+-- the flags of the first byte
+module _ (d q r : ℕ) (hd : d < 2) (hq : q < 3) (hr : r < 2) where
+  abbrev flags : ℕ
+  flags = 0x30 + (8 * d + (2 * q + r))
+
+  flags-kind : kindOf flags ≡ 3
+  flags-kind = omega arith
+
+  flags-dup : flags / 8 % 2 ≡ d
+  flags-dup = omega arith
+
+  flags-qos : flagQos flags ≡ q
+  flags-qos = omega arith
+
+  flags-retain : flags % 2 ≡ r
+  flags-retain = omega arith
+
+publish-fields : (h : PublishHanded) → PublishTyped h → Each Sound (fieldsOf (publish h)) → named (publish h) ≡ true → Each Small (h .subscriptions) → length (bodyBytes (publish h)) ≤ most
+    → Says (Fields aPublish (firstByte (publish h))) (said (publish h)) (bodyBytes (publish h))
+unfolding firstByte bodyBytes fieldsOf propsFields said block
+publish-fields h t p i q l =
+    let x : ℕ = flags (h .dup) (h .qos) (h .retain) (t .dup) (t .qos) (t .retain) in
+    let j : ℕ = pick (eqb (h .qos) 0) 0 (h .ident) in
+    let eq : flagQos x ≡ h .qos = flags-qos (h .dup) (h .qos) (h .retain) (t .dup) (t .qos) (t .retain) in
+    let s₁ = says-bytes (t .topic) (each-head p) in
+    let s₂ : Says (Ident (flagQos x)) j (identBytes (h .qos) (h .ident)) = rw eq (says-ident (h .qos) (h .ident) (t .ident) i) in
+    let m : length (counted (propsBytes publishPlace (publishGiven h))) ≤ most = omega (arith, simp length-append at l) in
+    let s₃ = says-block publishPlace publishOf (publishGiven h) (publish-rows h t (each-flat _ publishPlace (each-tail p)) q) (block-fits (propsBytes publishPlace (publishGiven h)) m) in
+    let s₄ = says-is Any (h .payload) tt (t .payload) in
+    let same : mkPublish x (h .topic, (j, (publishOf (map propOf (entries publishPlace (publishGiven h))), h .payload))) ≡ said (publish h) =
+    rw (
+      flags-dup (h .dup) (h .qos) (h .retain) (t .dup) (t .qos) (t .retain),
+      eq,
+      flags-retain (h .dup) (h .qos) (h .retain) (t .dup) (t .qos) (t .retain),
+      publish-says h,
+    ) in
+    let good : notThree (flagQos x) ≡ true = rw eq (not-three (h .qos) (t .qos)) in
+    rw (← same) (says-only (publishGood x) good (says-map (mkPublish x) (says-then s₁ (says-then s₂ (says-then s₃ s₄)))))
+
+publish-kind : (h : PublishHanded) → PublishTyped h → (lookup kinds (kindOf (firstByte (publish h))) ≡ some aPublish) × (firstByte (publish h) < 256)
+unfolding firstByte kinds
+publish-kind h t = (rw (flags-kind (h .dup) (h .qos) (h .retain) (t .dup) (t .qos) (t .retain)), omega (arith, t .dup, t .qos, t .retain))
+
+-- ---- acknowledgements
+
+ack-rows : (k : ℕ) (h : AckHanded) → AckTyped k h → Each (λ r. Each Sound (givenFields (r .1) (ackGiven h (r .0)))) ackPlace → Each (RightRow ackPlace (ackGiven h)) ackPlace
+unfolding ackPlace ackGiven
+ack-rows k h t (a & (b & nil)) = rows-of (RightRow ackPlace (ackGiven h)) ackPlace
+    (record { known = refl; small = omega arith; suits = lent-suits (h .text) (a-text (t .text)) a }
+    & (record { known = refl; small = omega arith; suits = pairs-suit (h .user) (t .user) b }
+    & nil))
+
+ack-rest : (k : ℕ) (h : AckHanded) (t : AckTyped k h) → Octets (t .reasons) → Each (InBlock (h .block) (ackGiven h)) ackPlace → Each Sound (propsFields ackPlace (ackGiven h))
+    → (b : Bool) → isPlain h ≡ b → length (pick b [] (h .reason ∷ block ackPlace (ackGiven h))) ≤ most
+    → Says (AckRest (t .reasons)) (h .reason, ackOf (map propOf (entries ackPlace (ackGiven h)))) (pick b [] (h .reason ∷ block ackPlace (ackGiven h)))
+unfolding propsFields block
+ack-rest k h t o w p true e l =
+    let absent : h .block ≡ false = not-true (h .block) (and-right (eqb (h .reason) 0) (not (h .block)) e) in
+    rw (nothing-entries ackPlace (h .block) (ackGiven h) w absent, eq-of (h .reason) 0 (and-left (eqb (h .reason) 0) (not (h .block)) e))
+    (record { spelled = plain; octets = nil })
+ack-rest k h t o w p false e l =
+    let s = says-block ackPlace ackOf (ackGiven h) (ack-rows k h t (each-flat _ ackPlace p)) (block-fits (propsBytes ackPlace (ackGiven h)) (omega arith)) in
+    record { spelled = full (t .reason) (s .spelled); octets = is-in Octet (h .reason) o (t .reason) & s .octets }
+
+ack-fields : (k : ℕ) (h : AckHanded) (t : AckTyped k h) → First k → Octets (t .reasons) → Belongs (ack k h) → Each Sound (fieldsOf (ack k h)) → length (bodyBytes (ack k h)) ≤ most
+    → Says (Fields (anAck (t .reasons)) (firstOf k)) (said (ack k h)) (bodyBytes (ack k h))
+unfolding fieldsOf bodyBytes said
+ack-fields k h t (i, _) o w p l =
+    let m : length (pick (isPlain h) [] (h .reason ∷ block ackPlace (ackGiven h))) ≤ most = omega (arith, simp length-append at l) in
+    let same : mkAck (firstOf k) (h .ident, (h .reason, ackOf (map propOf (entries ackPlace (ackGiven h))))) ≡ said (ack k h) = rw (i, ack-says h) in
+    rw (← same) (says-map (mkAck (firstOf k)) (says-then (says-wide 2 (h .ident) (omega (arith, t .ident))) (ack-rest k h t o w p (isPlain h) refl m)))
+
+-- ---- Subscribe
+
+subscribe-rows : (h : SubscribeHanded) → SubscribeTyped h → Each (λ r. Each Sound (givenFields (r .1) (subscribeGiven h (r .0)))) subscribePlace → Each Small (numbersOf (subscribe h)) → Each (RightRow subscribePlace (subscribeGiven h)) subscribePlace
+unfolding subscribePlace subscribeGiven
+subscribe-rows h t (_ & (b & nil)) q = rows-of (RightRow subscribePlace (subscribeGiven h)) subscribePlace
+    (record { known = refl; small = omega arith; suits = one-suits Small (λ n s. a-number s) (h .subscription) q }
+    & (record { known = refl; small = omega arith; suits = pairs-suit (h .user) (t .user) b }
+    & nil))
+
+each-beside : {ss : List (List ℕ)} (os : List ℕ) → Each Octets ss → Each (λ f. Octets (f .0)) (beside ss os)
+each-beside os nil = nil
+each-beside [] (p & ps) = nil
+each-beside (o ∷ os) (p & ps) = p & each-beside os ps
+
+some-mapped : (fs : List (List ℕ × ℕ)) → not (isEmpty fs) ≡ true → someOf (map mkFilter fs) ≡ true
+some-mapped [] e = e
+some-mapped (f ∷ fs) e = refl
+
+subscribe-fields : (h : SubscribeHanded) → SubscribeTyped h → Each Sound (fieldsOf (subscribe h)) → Each Small (numbersOf (subscribe h)) → asked (subscribe h) ≡ true → length (bodyBytes (subscribe h)) ≤ most
+    → Says (Fields aSubscribe (firstOf 8)) (said (subscribe h)) (bodyBytes (subscribe h))
+unfolding fieldsOf propsFields bodyBytes said filters block
+subscribe-fields h t p q a l =
+    let fs : List (List ℕ × ℕ) = beside (strings (h .filters)) (h .options) in
+    let ps : List Field = flat (λ r. givenFields (r .1) (subscribeGiven h (r .0))) subscribePlace in
+    let m : length (counted (propsBytes subscribePlace (subscribeGiven h))) ≤ most = omega (arith, simp length-append at l) in
+    let s₁ = says-wide 2 (h .ident) (omega (arith, t .ident)) in
+    let s₂ = says-block subscribePlace subscribeOf (subscribeGiven h) (subscribe-rows h t (each-flat _ subscribePlace (each-left ps (map filterField fs) p)) q) (block-fits (propsBytes subscribePlace (subscribeGiven h)) m) in
+    let s₃ = says-filters fs (each-beside (h .options) (each-piece (h .filters .lengths) (t .filters))) (each-right ps (map filterField fs) p) in
+    let same : mkSubscribe (h .ident, (subscribeOf (map propOf (entries subscribePlace (subscribeGiven h))), map mkFilter fs)) ≡ said (subscribe h) = rw (subscribe-says h) in
+    rw (← same) (says-map mkSubscribe (says-then s₁ (says-then s₂ (says-only someOf (some-mapped fs a) s₃))))
+
+-- ---- all
+
+frame-says : (limit : Option ℕ) (room : ℕ) (h : Handed) → Typed h → Accepts limit room h → length (bodyBytes h) ≤ most → Says Sentence (said h) (firstByte h ∷ counted (bodyBytes h))
+unfolding firstByte bodyBytes said kinds
+frame-says limit room (publish h) t p l =
+    let (e, b) = publish-kind h t in
+    let n = passes-when (named (publish h)) (unnamed-when (publish h)) .1 (p .named) in
+    says-frame aPublish (firstByte (publish h)) e b l (publish-fields h t (p .countable .fields) n (p .numbers) l)
+frame-says limit room (ack k h) t p l =
+    let (f, o) = lookup-each Fine kinds-fine k (anAck (t .reasons)) (t .kind) in
+    says-first (anAck (t .reasons)) k (t .kind) f l (ack-fields k h t f o (p .countable .belongs) (p .countable .fields) l)
+frame-says limit room (subscribe h) t p l =
+    let a = passes-when (asked (subscribe h)) (unasked-when (subscribe h)) .1 (p .asked) in
+    says-first aSubscribe 8 refl (lookup-each Fine kinds-fine 8 aSubscribe refl) l (subscribe-fields h t (p .countable .fields) (p .numbers) a l)
+frame-says limit room (ping k) t p l =
+    let f : First k = lookup-each Fine kinds-fine k aPing t in
+    let same : mkPing (firstOf k) [] ≡ said (ping k) = rw (f .0) in
+    says-first aPing k t f l (rw (← same) (says-map (mkPing (firstOf k)) (says-is Any [] tt nil)))
+
+-- 01: what is accepted is written as a sentence, in bytes
+pub says-handed : (limit : Option ℕ) (room : ℕ) (h : Handed) → Typed h → Accepts limit room h → Says Sentence (said h) (frameBytes h)
+unfolding frameBytes
+says-handed limit room h t p = frame-says limit room h t p (rw (length-body h (p .countable .belongs)) (p .countable .rest))

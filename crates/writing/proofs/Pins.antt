@@ -1,0 +1,140 @@
+-- What 01 says of the bytes, and the sentence theorem leaves open: first bytes, shortest lengths (`Shortest`), the order of properties,
+-- no identifier at QoS 0, bits 6-7 of options, a plain success, empty pings. Assumes nothing.
+use mathlib.Core.Path.{_≡_, refl, ap, _∙_}
+use mathlib.Core.Bool.{Bool, true, false, _||_}
+use mathlib.Core.Option.{Option, some}
+use mathlib.Core.List.{List, [], _∷_, _++_, map, append-nil}
+use Prim.Native.Nat.{ℕ, _+_, _*_, _/_, _%_}
+use native.Mathlib.Omega.{arith}
+use lib.Dec.{eqb}
+use Rattle.grammar.specs.Choice.{pick}
+use Rattle.grammar.specs.Tables.{Form, u8, u16, u32, number, text, bytes, pair, publishPlace, subscribePlace, ackPlace}
+use Rattle.grammar.specs.Record.{str}
+use Rattle.reading.specs.Reader.{got}
+use Rattle.writing.specs.Lists.{flat}
+use Rattle.writing.specs.Handed.{Lent, PublishHanded, SubscribeHanded, AckHanded, publish, ack, subscribe, ping, one, lent, pairs, several, publishGiven, subscribeGiven, ackGiven, strings, tag, filters}
+use Rattle.writing.specs.Spell.{wide, spellStep, spell, short, string, numeral, value, entry, rowBytes, propsBytes, counted, block, filterBytes}
+use Rattle.writing.specs.Size.{identSize, isPlain}
+use Rattle.writing.specs.Order.{raw, word, propsFields, filterField, fieldsOf}
+use Rattle.writing.specs.Write.{firsts, firstOf, firstByte, identBytes, bodyBytes, frameBytes, writeOf}
+use Rattle.writing.proofs.Verdict.{written}
+
+-- ---- the order of properties, and each row
+
+-- 01, table of properties, row Publish: 1, 2, 35, 8, 9, 38, 11, 3
+pub publish-props : (h : PublishHanded) → propsBytes publishPlace (publishGiven h)
+    ≡ rowBytes (1, u8) (one (h .format))
+    ++ (rowBytes (2, u32) (one (h .expiry))
+    ++ (rowBytes (35, u16) (one (h .alias))
+    ++ (rowBytes (8, text) (lent (h .response))
+    ++ (rowBytes (9, bytes) (lent (h .correlation))
+    ++ (rowBytes (38, pair) (pairs (h .user))
+    ++ (rowBytes (11, number) (several (h .subscriptions))
+    ++ (rowBytes (3, text) (lent (h .content))
+    ++ [])))))))
+unfolding propsBytes publishPlace publishGiven
+publish-props h = refl
+
+-- 01, table of properties, row Subscribe: 11, 38
+pub subscribe-props : (h : SubscribeHanded) → propsBytes subscribePlace (subscribeGiven h) ≡ rowBytes (11, number) (one (h .subscription)) ++ (rowBytes (38, pair) (pairs (h .user)) ++ [])
+unfolding propsBytes subscribePlace subscribeGiven
+subscribe-props h = refl
+
+-- 01, table of properties, row PubAck: 31, 38
+pub ack-props : (h : AckHanded) → propsBytes ackPlace (ackGiven h) ≡ rowBytes (31, text) (lent (h .text)) ++ (rowBytes (38, pair) (pairs (h .user)) ++ [])
+unfolding propsBytes ackPlace ackGiven
+ack-props h = refl
+
+-- an identifier byte and a number
+pub one-bytes : (i n : ℕ) (f : Form) → rowBytes (i, f) (one (some n)) ≡ i ∷ numeral f n
+unfolding value
+one-bytes i n f = ap (λ (l : List ℕ). i ∷ l) (append-nil (numeral f n))
+
+-- an identifier byte and a string, if it is present
+pub lent-bytes : (i : ℕ) (f : Form) (l : Lent) → rowBytes (i, f) (lent l) ≡ pick (l .on) (i ∷ string (l .bytes)) []
+unfolding value
+lent-bytes i f l = go (l .on)
+  where
+    go : (t : Bool) → flat entry (tag (i, f) (pick t (str (l .bytes) ∷ []) [])) ≡ pick t (i ∷ string (l .bytes)) []
+    go true = ap (λ (s : List ℕ). i ∷ s) (append-nil (string (l .bytes)))
+    go false = refl
+
+-- ---- the fields that are tested, in the order in which they are written
+
+-- 01, writing order: topic, 8, 9, pairs key then value, 3
+pub publish-order : (h : PublishHanded) → fieldsOf (publish h)
+    ≡ raw (h .topic)
+    ∷ (pick (h .response .on) (word (h .response .bytes) ∷ []) []
+    ++ (pick (h .correlation .on) (raw (h .correlation .bytes) ∷ []) []
+    ++ (map word (strings (h .user))
+    ++ (pick (h .content .on) (word (h .content .bytes) ∷ []) []
+    ++ []))))
+unfolding fieldsOf propsFields publishPlace publishGiven
+publish-order h = refl
+
+-- 01, writing order: pairs, then each filter's text and options
+pub subscribe-order : (h : SubscribeHanded) → fieldsOf (subscribe h) ≡ (map word (strings (h .user)) ++ []) ++ map filterField (filters h)
+unfolding fieldsOf propsFields subscribePlace subscribeGiven
+subscribe-order h = refl
+
+-- 01, writing order: 31, pairs
+pub ack-order : (k : ℕ) (h : AckHanded) → fieldsOf (ack k h) ≡ pick (h .text .on) (word (h .text .bytes) ∷ []) [] ++ (map word (strings (h .user)) ++ [])
+unfolding fieldsOf propsFields ackPlace ackGiven
+ack-order k h = refl
+
+-- ---- whole frames
+
+module _ (limit : Option ℕ) (room : ℕ) (b : List ℕ) where
+  -- 01, grammar, Publish: dup (8), QoS (6), retain (1); the length, topic, identifier, block, payload
+  pub publish-bytes : (h : PublishHanded) → writeOf limit room (publish h) ≡ got b
+      → b ≡ (0x30 + (8 * h .dup + (2 * h .qos + h .retain))) ∷ counted (string (h .topic) ++ (identBytes (h .qos) (h .ident) ++ (counted (propsBytes publishPlace (publishGiven h)) ++ h .payload)))
+  unfolding frameBytes firstByte bodyBytes block
+  publish-bytes h e = written limit room (publish h) b e
+
+  -- 01, grammar: "first byte 0x82 for Subscribe"
+  pub subscribe-bytes : (h : SubscribeHanded) → writeOf limit room (subscribe h) ≡ got b
+      → b ≡ 0x82 ∷ counted (wide 2 (h .ident) ++ (counted (propsBytes subscribePlace (subscribeGiven h)) ++ flat filterBytes (filters h)))
+  unfolding frameBytes firstByte firstOf firsts bodyBytes block
+  subscribe-bytes h e = written limit room (subscribe h) b e
+
+  -- 01, grammar: "A successful PubAck with properties absent is 4 bytes"
+  pub puback-plain : (h : AckHanded) → h .reason ≡ 0 → h .block ≡ false → writeOf limit room (ack 4 h) ≡ got b → b ≡ 0x40 ∷ 0x02 ∷ wide 2 (h .ident)
+  unfolding frameBytes firstByte firstOf firsts bodyBytes counted short spell spellStep wide
+  puback-plain h c p e = written limit room (ack 4 h) b e ∙ rw (c, p)
+
+  -- 01, grammar: "any other writes reason and block"
+  pub puback-full : (h : AckHanded) → isPlain h ≡ false → writeOf limit room (ack 4 h) ≡ got b
+      → b ≡ 0x40 ∷ counted (wide 2 (h .ident) ++ (h .reason ∷ counted (propsBytes ackPlace (ackGiven h))))
+  unfolding frameBytes firstByte firstOf firsts bodyBytes block
+  puback-full h p e = written limit room (ack 4 h) b e ∙ rw p
+
+  -- 01, grammar: "`C0 00` and `D0 00` for pings"
+  pub ping-bytes : (k : ℕ) → writeOf limit room (ping k) ≡ got b → b ≡ firstOf k ∷ 0x00 ∷ []
+  unfolding frameBytes firstByte bodyBytes counted short spell spellStep
+  ping-bytes k e = written limit room (ping k) b e
+
+-- 01, grammar: "first byte 0x82 for Subscribe, 0x40 for PubAck, `C0 00` and `D0 00` for pings"
+pub first-bytes : (firstOf 4 ≡ 0x40) × (firstOf 8 ≡ 0x82) × (firstOf 12 ≡ 0xC0) × (firstOf 13 ≡ 0xD0)
+unfolding firstOf firsts
+first-bytes = (refl, refl, refl, refl)
+
+-- ---- identifiers and options
+
+-- 01, grammar: "QoS 0 writes no identifier"
+pub no-ident : (i : ℕ) → identBytes 0 i ≡ []
+no-ident i = refl
+
+-- 01, writing order: "size leaves out a Publish identifier that is 0"
+pub zero-left-out : (q : ℕ) → identSize q 0 ≡ 0
+zero-left-out q = go (eqb q 0)
+  where
+    go : (t : Bool) → _≡_ {A = ℕ} (pick (t || true) 0 2) 0
+    go true = refl
+    go false = refl
+
+-- 01, "What must change shape": "bits 6-7 written as 0 and no part of the record"
+pub options-low : (o : ℕ) → o % 64 / 64 ≡ 0
+options-low o = omega arith
+
+pub options-same : (s : List ℕ) (o : ℕ) → filterBytes (s, o) ≡ filterBytes (s, o % 64)
+options-same s o = let e : o % 64 % 64 ≡ o % 64 = omega arith in rw e

@@ -1,0 +1,153 @@
+-- Strings, values, properties, blocks and filters that pass their tests say what was handed over. Assumes nothing.
+use mathlib.Core.Path.{_≡_, refl}
+use mathlib.Core.Bool.{Bool, true, false}
+use mathlib.Core.Option.{Option, none, some}
+use mathlib.Core.List.{List, [], _∷_, map}
+use Prim.Native.Nat.{ℕ, _/_, _%_, _≤_, _<_}
+use native.Mathlib.Omega.{arith}
+use lib.ListN.{length}
+use Rattle.grammar.specs.Choice.{pick, lookup}
+use Rattle.grammar.specs.Gram.{Sized, Many, Is}
+use Rattle.grammar.specs.Number.{Big}
+use Rattle.grammar.specs.Text.{Utf8}
+use Rattle.grammar.specs.Tables.{Form, u8, u16, u32, number, text, bytes, pair, Place}
+use Rattle.grammar.specs.Record.{num, str, duo, mkFilter}
+use Rattle.grammar.specs.Sentence.{Any, Bytes, Text, Value, Prop, duoOf, Spelt, Property, property, Block, qosFine, ruleFine, FilterOf}
+use Rattle.writing.specs.Lists.{Each, nil, _&_, Octets, flat}
+use Rattle.writing.specs.Handed.{Lent, Run, one, lent, pairs, several, Givens, strings, duos, items, Entry, propOf, tag, entries}
+use Rattle.writing.specs.Spell.{string, numeral, value, entry, rowBytes, propsBytes, block, filterBytes}
+use Rattle.writing.specs.Size.{most}
+use Rattle.writing.specs.Order.{word, stringField, filterField, orNone}
+use Rattle.writing.specs.Refuse.{Short, Sound, Small}
+use Rattle.writing.specs.Meant.{Below}
+use Rattle.writing.proofs.Each.{each-imp, each-both, map-each, flat-each, each-piece, flat-append}
+use Rattle.writing.proofs.Says.{Says, says-map, says-only, says-then, says-sized, says-is, says-many, says-byte, says-wide, says-short, says-counted}
+
+-- ---- strings
+
+-- a string of which P holds
+says-string : (P : List ℕ → Type 0) {s : List ℕ} → P s → Octets s → Short s → Says (Sized (Big 2) (Is P)) s (string s)
+unfolding string
+says-string P {s} p o h = says-sized (says-wide 2 (length s) (omega arith)) (says-is P s p o)
+
+pub says-bytes : {s : List ℕ} → Octets s → Short s → Says Bytes s (string s)
+says-bytes o h = says-string Any tt o h
+
+says-text : {s : List ℕ} → Octets s → Sound (word s) → Says Text s (string s)
+says-text o (h, u) = says-string Utf8 u o h
+
+-- ---- values
+
+-- a value that can be written in the form
+pub data Suits : Form → Value → Type 0 where
+  an-u8 : {n : ℕ} → n < 256 → Suits u8 (num n)
+  an-u16 : {n : ℕ} → n < 65536 → Suits u16 (num n)
+  an-u32 : {n : ℕ} → n < 4294967296 → Suits u32 (num n)
+  a-number : {n : ℕ} → Small n → Suits number (num n)
+  a-text : {s : List ℕ} → Octets s → Sound (word s) → Suits text (str s)
+  a-bytes : {s : List ℕ} → Octets s → Short s → Suits bytes (str s)
+  a-pair : {a b : List ℕ} → Octets a → Sound (word a) → Octets b → Sound (word b) → Suits pair (duo a b)
+
+says-value : {f : Form} {v : Value} → Suits f v → Says (Spelt f) v (value f v)
+unfolding value numeral
+says-value (an-u8 {n} h) = says-map num (says-byte n h)
+says-value (an-u16 {n} h) = says-map num (says-wide 2 n (omega arith))
+says-value (an-u32 {n} h) = says-map num (says-wide 4 n (omega arith))
+says-value (a-number {n} h) = says-map num (says-short n h)
+says-value (a-text o h) = says-map str (says-text o h)
+says-value (a-bytes o h) = says-map str (says-bytes o h)
+says-value (a-pair o h o′ h′) = says-map duoOf (says-then (says-text o h) (says-text o′ h′))
+
+-- ---- blocks
+
+module _ (place : Place) where
+  -- a row of the place, with a value that its form can write
+  record Right (e : Entry) : Type 0 where
+    pub known : lookup place (e .0 .0) ≡ some (e .0 .1)
+    pub small : e .0 .0 < 256
+    pub suits : Suits (e .0 .1) (e .1)
+
+  says-entry : (e : Entry) → Right e → Says (Property place) (propOf e) (entry e)
+  says-entry e r =
+      let s = says-value (r .suits) in
+      record { spelled = property (r .known) (s .spelled); octets = r .small & s .octets }
+
+  -- what is handed over for a row
+  pub record RightRow (g : Givens) (r : ℕ × Form) : Type 0 where
+    pub known : lookup place (r .0) ≡ some (r .1)
+    pub small : r .0 < 256
+    pub suits : Each (Suits (r .1)) (items (g (r .0)))
+
+  entries-right : (g : Givens) → Each (RightRow g) place → Each Right (entries place g)
+  unfolding entries
+  entries-right g rows = flat-each (λ r. tag r (items (g (r .0)))) (each-imp right-row rows)
+    where
+      right-tag : (r : ℕ × Form) → lookup place (r .0) ≡ some (r .1) → r .0 < 256 → {vs : List Value} → Each (Suits (r .1)) vs → Each Right (tag r vs)
+      right-tag r k h nil = nil
+      right-tag r k h (s & ss) = record { known = k; small = h; suits = s } & right-tag r k h ss
+
+      right-row : (r : ℕ × Form) → RightRow g r → Each Right (tag r (items (g (r .0))))
+      right-row r w = right-tag r (w .known) (w .small) (w .suits)
+
+  -- the bytes of a block are its properties, one after the other
+  rows-entries : (g : Givens) (rs : Place) → flat (λ r. rowBytes r (g (r .0))) rs ≡ flat entry (flat (λ r. tag r (items (g (r .0)))) rs)
+  rows-entries g [] = refl
+  rows-entries g (r ∷ rs) = rw (flat-append entry (tag r (items (g (r .0)))) (flat (λ r. tag r (items (g (r .0)))) rs), rows-entries g rs)
+
+  pub says-block : {A : Type 0} (f : List Prop → A) (g : Givens) → Each (RightRow g) place → length (propsBytes place g) ≤ most → Says (Block place f) (f (map propOf (entries place g))) (block place g)
+  unfolding block propsBytes entries
+  says-block f g rows h = says-counted h (rw (rows-entries g place) (says-map f (says-many propOf entry (entries place g) (each-imp says-entry (entries-right g rows)))))
+
+-- ---- what is handed over can be written
+
+pub one-suits : {f : Form} (P : ℕ → Type 0) → ((n : ℕ) → P n → Suits f (num n)) → (o : Option ℕ) → Each P (orNone o) → Each (Suits f) (items (one o))
+one-suits P s none p = nil
+one-suits P s (some n) (p & nil) = s n p & nil
+
+pub below-each : (m : ℕ) (o : Option ℕ) → Below m o → Each (λ (n : ℕ). n < m) (orNone o)
+below-each m none b = nil
+below-each m (some n) b = b & nil
+
+pub lent-suits : {f : Form} (l : Lent) → (Sound (stringField f (l .bytes)) → Suits f (str (l .bytes))) → Each Sound (pick (l .on) (stringField f (l .bytes) ∷ []) []) → Each (Suits f) (items (lent l))
+lent-suits {f} l s = go (l .on)
+  where
+    go : (t : Bool) → Each Sound (pick t (stringField f (l .bytes) ∷ []) []) → Each (Suits f) (pick t (str (l .bytes) ∷ []) [])
+    go true (p & nil) = s p & nil
+    go false p = nil
+
+duos-suit : (l : List (List ℕ)) → Each Octets l → Each Sound (map word l) → Each (Suits pair) (duos l)
+duos-suit [] o p = nil
+duos-suit (a ∷ []) o p = nil
+duos-suit (a ∷ b ∷ l) (o & (o′ & os)) (p & (p′ & ps)) = a-pair o p o′ p′ & duos-suit l os ps
+
+pub pairs-suit : (r : Run) → Octets (r .bytes) → Each Sound (map word (strings r)) → Each (Suits pair) (items (pairs r))
+pairs-suit r o p = duos-suit (strings r) (each-piece (r .lengths) o) p
+
+pub several-suit : {ns : List ℕ} → Each Small ns → Each (Suits number) (items (several ns))
+several-suit nil = nil
+several-suit (p & ps) = a-number p & several-suit ps
+
+-- ---- filters
+
+-- the two high bits of an options byte say nothing
+module _ (o : ℕ) where
+  pub low-qos : o % 64 % 4 ≡ o % 4
+  low-qos = omega arith
+
+  pub low-rule : o % 64 / 16 % 4 ≡ o / 16 % 4
+  low-rule = omega arith
+
+  pub low-filter : (s : List ℕ) → mkFilter (s, o % 64) ≡ mkFilter (s, o)
+  low-filter s =
+      let d : o % 64 / 4 % 2 ≡ o / 4 % 2 = omega arith in
+      let e : o % 64 / 8 % 2 ≡ o / 8 % 2 = omega arith in
+      rw (low-qos, d, e, low-rule)
+
+says-filter : (f : List ℕ × ℕ) → Octets (f .0) × Sound (filterField f) → Says FilterOf (mkFilter f) (filterBytes f)
+says-filter (s, o) (b, (h, u, p, q)) =
+    let p′ : ruleFine (o % 64) ≡ true = rw (low-rule o) p in
+    let q′ : qosFine (o % 64) ≡ true = rw (low-qos o) q in
+    rw (← low-filter o s) (says-map mkFilter (says-then (says-text b (h, u)) (says-only qosFine q′ (says-only ruleFine p′ (says-byte (o % 64) (omega arith))))))
+
+pub says-filters : (fs : List (List ℕ × ℕ)) → Each (λ f. Octets (f .0)) fs → Each Sound (map filterField fs) → Says (Many FilterOf) (map mkFilter fs) (flat filterBytes fs)
+says-filters fs o p = says-many mkFilter filterBytes fs (each-imp says-filter (each-both o (map-each filterField fs p)))

@@ -1,0 +1,185 @@
+-- What a caller hands over to have a packet written (01, "What must change shape"): numbers and presence by value, each string as a list
+-- of bytes, a list of strings as one run of bytes and the lengths. Assumes nothing.
+use mathlib.Core.Bool.{Bool, true, false, not, _&&_, _||_}
+use mathlib.Core.Option.{Option, none, some}
+use mathlib.Core.List.{List, [], _∷_, map}
+use Prim.Native.Nat.{ℕ, _%_}
+use lib.Dec.{eqb}
+use lib.ListN.{length}
+use Rattle.grammar.specs.Choice.{pick, lookup, isEmpty}
+use Rattle.grammar.specs.Tables.{Form, Place, publishPlace, subscribePlace, ackPlace}
+use Rattle.grammar.specs.Record.{num, str, duo}
+use Rattle.grammar.specs.Sentence.{Value, Prop}
+use Rattle.writing.specs.Lists.{flat, all, sum, pieces, beside}
+
+-- a string that may be absent
+pub record Lent : Type 0 where
+  pub on : Bool
+  pub bytes : List ℕ
+
+-- strings: all their bytes in one run, and the length of each
+pub record Run : Type 0 where
+  pub bytes : List ℕ
+  pub lengths : List ℕ
+
+-- 01, grammar: "Publish (3)"; `block` says whether a property set is present
+pub record PublishHanded : Type 0 where
+  pub dup : ℕ
+  pub qos : ℕ
+  pub retain : ℕ
+  pub topic : List ℕ
+  pub ident : ℕ
+  pub block : Bool
+  pub format : Option ℕ
+  pub expiry : Option ℕ
+  pub alias : Option ℕ
+  pub response : Lent
+  pub correlation : Lent
+  pub user : Run
+  pub subscriptions : List ℕ
+  pub content : Lent
+  pub payload : List ℕ
+
+-- 01, grammar: "Subscribe (8)"; an options byte for each filter
+pub record SubscribeHanded : Type 0 where
+  pub ident : ℕ
+  pub block : Bool
+  pub subscription : Option ℕ
+  pub user : Run
+  pub filters : Run
+  pub options : List ℕ
+
+-- 01, grammar: "PubAck (4)"
+pub record AckHanded : Type 0 where
+  pub ident : ℕ
+  pub reason : ℕ
+  pub block : Bool
+  pub text : Lent
+  pub user : Run
+
+-- 01, modules: "Publish, Subscribe, PubAck, PingReq, PingResp"; an acknowledgement and a ping by the number of their kind
+pub data Handed : Type 0 where
+  publish : PublishHanded → Handed
+  ack : ℕ → AckHanded → Handed
+  subscribe : SubscribeHanded → Handed
+  ping : ℕ → Handed
+
+-- ---- what is handed over for a row of the table of properties
+
+-- a number or none, a string, pairs of strings, numbers
+pub data Given : Type 0 where
+  one : Option ℕ → Given
+  lent : Lent → Given
+  pairs : Run → Given
+  several : List ℕ → Given
+
+-- by the property's identifier
+abbrev pub Givens : Type 0
+Givens = ℕ → Given
+
+-- nothing for an identifier that is none of the record's
+abbrev orNothing : Option Given → Given
+orNothing none = several []
+orNothing (some g) = g
+
+-- 01, table of properties, row Publish: the fields by their identifiers
+unfoldable pub publishGiven : PublishHanded → Givens
+publishGiven h i = orNothing (lookup (
+    (1, one (h .format))
+    ∷ (2, one (h .expiry))
+    ∷ (35, one (h .alias))
+    ∷ (8, lent (h .response))
+    ∷ (9, lent (h .correlation))
+    ∷ (38, pairs (h .user))
+    ∷ (11, several (h .subscriptions))
+    ∷ (3, lent (h .content))
+    ∷ []) i)
+
+-- 01, table of properties, row Subscribe
+unfoldable pub subscribeGiven : SubscribeHanded → Givens
+subscribeGiven h i = orNothing (lookup ((11, one (h .subscription)) ∷ (38, pairs (h .user)) ∷ []) i)
+
+-- 01, table of properties, row PubAck
+unfoldable pub ackGiven : AckHanded → Givens
+ackGiven h i = orNothing (lookup ((31, lent (h .text)) ∷ (38, pairs (h .user)) ∷ []) i)
+
+-- ---- the values in it
+
+-- the strings of a run
+abbrev pub strings : Run → List (List ℕ)
+strings r = pieces (r .lengths) (r .bytes)
+
+-- 01, table of properties: "text pair": strings two by two, key and value
+abbrev pub duos : List (List ℕ) → List Value
+duos [] = []
+duos (k ∷ []) = []
+duos (k ∷ v ∷ l) = duo k v ∷ duos l
+
+-- the values of a row, in order
+abbrev pub items : Given → List Value
+items (one none) = []
+items (one (some n)) = num n ∷ []
+items (lent l) = pick (l .on) (str (l .bytes) ∷ []) []
+items (pairs r) = duos (strings r)
+items (several ns) = map num ns
+
+-- a row of the table, and a value for it
+abbrev pub Entry : Type 0
+Entry = (ℕ × Form) × Value
+
+-- the property that an entry is
+abbrev pub propOf : Entry → Prop
+propOf e = (e .0 .0, e .1)
+
+-- the values, each with its row
+abbrev pub tag : ℕ × Form → List Value → List Entry
+tag r [] = []
+tag r (v ∷ vs) = (r, v) ∷ tag r vs
+
+-- 01, table of properties: the properties of a block, row by row, and the values of a row in their order
+unfoldable pub entries : Place → Givens → List Entry
+entries place g = flat (λ r. tag r (items (g (r .0)))) place
+
+-- 01, grammar, Subscribe: a filter's text, and its options byte
+unfoldable pub filters : SubscribeHanded → List (List ℕ × ℕ)
+filters h = beside (strings (h .filters)) (h .options)
+
+-- ---- 01, row 20: whether what is handed over belongs together
+
+-- "the lent lengths of a list do not add up to its lent bytes"
+abbrev pub addsUp : Run → Bool
+addsUp r = eqb (sum (r .lengths)) (length (r .bytes))
+
+-- "pair lengths are odd in number"; "anything is handed over for an absent value"
+abbrev pub sorted : Given → Bool
+sorted (one o) = true
+sorted (lent l) = l .on || isEmpty (l .bytes)
+sorted (pairs r) = addsUp r && eqb (length (r .lengths) % 2) 0
+sorted (several ns) = true
+
+-- nothing at all
+abbrev pub nothing : Given → Bool
+nothing (one none) = true
+nothing (one (some n)) = false
+nothing (lent l) = not (l .on) && isEmpty (l .bytes)
+nothing (pairs r) = isEmpty (r .bytes) && isEmpty (r .lengths)
+nothing (several ns) = isEmpty ns
+
+-- "anything is handed over for an absent .. block": what is handed over for a row, where the block is present or not
+abbrev pub rowBelongs : Bool → Given → Bool
+rowBelongs block g = sorted g && (block || nothing g)
+
+-- the rows of a block
+unfoldable pub blockBelongs : Place → Bool → Givens → Bool
+blockBelongs place block g = all (λ r. rowBelongs block (g (r .0))) place
+
+-- "options bytes and filter lengths differ in number"
+unfoldable pub filtersBelong : SubscribeHanded → Bool
+filtersBelong h = addsUp (h .filters) && eqb (length (h .filters .lengths)) (length (h .options))
+
+-- 01, row 20, of each kind
+unfoldable pub belongs : Handed → Bool
+belongs (publish h) = blockBelongs publishPlace (h .block) (publishGiven h)
+belongs (ack k h) = blockBelongs ackPlace (h .block) (ackGiven h)
+belongs (subscribe h) = blockBelongs subscribePlace (h .block) (subscribeGiven h) && filtersBelong h
+belongs (ping k) = true

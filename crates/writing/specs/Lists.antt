@@ -1,0 +1,49 @@
+-- Lists: every element, one after the other, a run cut by lengths. Assumes nothing.
+use mathlib.Core.Bool.{Bool, true, _&&_}
+use mathlib.Core.List.{List, [], _∷_, _++_}
+use Prim.Native.Nat.{ℕ, _+_, _<_}
+use lib.ListN.{take, drop}
+
+-- P holds of every element
+infixr 5 _&_
+pub data Each {A : Type 0} (P : A → Type 0) : List A → Type 0 where
+  nil : Each P []
+  _&_ : {a : A} {l : List A} → P a → Each P l → Each P (a ∷ l)
+
+-- a byte
+abbrev pub Octet : ℕ → Type 0
+Octet x = x < 256
+
+-- bytes
+abbrev pub Octets : List ℕ → Type 0
+Octets = Each Octet
+
+-- what f makes of each element, one after the other
+abbrev pub flat : {A B : Type 0} → (A → List B) → List A → List B
+flat f [] = []
+flat f (a ∷ l) = f a ++ flat f l
+
+-- every element passes the test
+abbrev pub all : {A : Type 0} → (A → Bool) → List A → Bool
+all t [] = true
+all t (a ∷ l) = t a && all t l
+
+-- the sum of what f makes of each element
+abbrev pub total : {A : Type 0} → (A → ℕ) → List A → ℕ
+total f [] = 0
+total f (a ∷ l) = f a + total f l
+
+-- the numbers' sum
+abbrev pub sum : List ℕ → ℕ
+sum = total (λ n. n)
+
+-- 01, "What must change shape": "one run of bytes and a list of lengths": the strings that the lengths cut the run into
+abbrev pub pieces : List ℕ → List ℕ → List (List ℕ)
+pieces [] run = []
+pieces (n ∷ ns) run = take n run ∷ pieces ns (drop n run)
+
+-- the elements of two lists side by side, as far as the shorter goes
+abbrev pub beside : {A B : Type 0} → List A → List B → List (A × B)
+beside [] bs = []
+beside (a ∷ as′) [] = []
+beside (a ∷ as′) (b ∷ bs) = (a, b) ∷ beside as′ bs

@@ -1,0 +1,145 @@
+-- The value of what is handed over: the packet that a caller means, and the packet that the bytes say. Assumes nothing.
+use mathlib.Core.Path.{_≡_}
+use mathlib.Core.Bool.{Bool, true}
+use mathlib.Core.Option.{Option, none, some}
+use mathlib.Core.List.{List, map}
+use Prim.Native.Nat.{ℕ, _<_}
+use lib.Dec.{eqb}
+use Rattle.grammar.specs.Choice.{pick, isIn, lookup, isEmpty}
+use Rattle.grammar.specs.Tables.{publishPlace, subscribePlace, ackPlace, anAck, aPing, kinds}
+use Rattle.grammar.specs.Record.{num, str, PublishProps, SubscribeProps, AckProps, mkFilter}
+use Rattle.grammar.specs.Sentence.{Value, Packet}
+use Rattle.writing.specs.Lists.{Octets}
+use Rattle.writing.specs.Handed.{Lent, PublishHanded, SubscribeHanded, AckHanded, Handed, publish, ack, subscribe, ping, publishGiven, subscribeGiven, ackGiven, strings, duos, entries, filters}
+use Rattle.grammar.specs.Record as g
+
+-- ---- properties
+
+-- a number, if there is one
+abbrev pub numeralOf : Option ℕ → Option Value
+numeralOf none = none
+numeralOf (some n) = some (num n)
+
+-- a string, if it is present
+abbrev pub stringOf : Lent → Option Value
+stringOf l = pick (l .on) (some (str (l .bytes))) none
+
+-- 01, table of properties, row Publish
+abbrev pub publishSet : PublishHanded → PublishProps (List ℕ) List
+publishSet h = record {
+  format = numeralOf (h .format);
+  expiry = numeralOf (h .expiry);
+  alias = numeralOf (h .alias);
+  response = stringOf (h .response);
+  correlation = stringOf (h .correlation);
+  user = duos (strings (h .user));
+  subscriptions = map num (h .subscriptions);
+  content = stringOf (h .content);
+}
+
+-- 01, table of properties, row Subscribe
+abbrev pub subscribeSet : SubscribeHanded → SubscribeProps (List ℕ) List
+subscribeSet h = record { ident = numeralOf (h .subscription); user = duos (strings (h .user)) }
+
+-- 01, table of properties, row PubAck
+abbrev pub ackSet : AckHanded → AckProps (List ℕ) List
+ackSet h = record { reason = stringOf (h .text); user = duos (strings (h .user)) }
+
+-- ---- packets, with an identifier and a set of properties
+
+-- 01, grammar: "Publish (3)"
+abbrev pub thePublish : PublishHanded → ℕ → Option (PublishProps (List ℕ) List) → Packet
+thePublish h i ps = g.publish (record { dup = h .dup; qos = h .qos; retain = h .retain; topic = h .topic; ident = i; props = ps; payload = h .payload })
+
+-- 01, grammar: "PubAck (4)"; k is the number of the kind
+abbrev pub theAck : ℕ → AckHanded → Option (AckProps (List ℕ) List) → Packet
+theAck k h ps = g.ack k (record { ident = h .ident; reason = h .reason; props = ps })
+
+-- 01, grammar: "Subscribe (8)"
+abbrev pub theSubscribe : SubscribeHanded → Option (SubscribeProps (List ℕ) List) → Packet
+theSubscribe h ps = g.subscribe (record { ident = h .ident; props = ps; filters = map mkFilter (filters h) })
+
+-- the record: what the caller means
+unfoldable pub meant : Handed → Packet
+meant (publish h) = thePublish h (h .ident) (pick (h .block) (some (publishSet h)) none)
+meant (ack k h) = theAck k h (pick (h .block) (some (ackSet h)) none)
+meant (subscribe h) = theSubscribe h (pick (h .block) (some (subscribeSet h)) none)
+meant (ping k) = g.ping k
+
+-- a property set has nothing in it
+abbrev pub nonePublish : PublishHanded → Bool
+nonePublish h = isEmpty (entries publishPlace (publishGiven h))
+
+-- the same of an acknowledgement
+abbrev pub noneAck : AckHanded → Bool
+noneAck h = isEmpty (entries ackPlace (ackGiven h))
+
+-- the same of a Subscribe
+abbrev pub noneSubscribe : SubscribeHanded → Bool
+noneSubscribe h = isEmpty (entries subscribePlace (subscribeGiven h))
+
+-- what the bytes say: 01, grammar: "QoS 0 writes no identifier"; reading back: a set present but empty "writes length 0 and reads as absent"
+unfoldable pub said : Handed → Packet
+said (publish h) = thePublish h (pick (eqb (h .qos) 0) 0 (h .ident)) (pick (nonePublish h) none (some (publishSet h)))
+said (ack k h) = theAck k h (pick (noneAck h) none (some (ackSet h)))
+said (subscribe h) = theSubscribe h (pick (noneSubscribe h) none (some (subscribeSet h)))
+said (ping k) = g.ping k
+
+-- ---- what the types of the code ensure: lent bytes are u8, numbers are of their widths; nothing is assumed of lengths, options bytes
+-- and subscription identifiers
+
+-- a number of the width, if there is one
+abbrev pub Below : ℕ → Option ℕ → Type 0
+Below m none = Unit {0}
+Below m (some n) = n < m
+
+-- dup and retain are bools, QoS has three cases; lent strings are bytes
+pub record PublishTyped (h : PublishHanded) : Type 0 where
+  pub dup : h .dup < 2
+  pub qos : h .qos < 3
+  pub retain : h .retain < 2
+  pub topic : Octets (h .topic)
+  pub ident : h .ident < 65536
+  pub format : Below 256 (h .format)
+  pub expiry : Below 4294967296 (h .expiry)
+  pub alias : Below 65536 (h .alias)
+  pub response : Octets (h .response .bytes)
+  pub correlation : Octets (h .correlation .bytes)
+  pub user : Octets (h .user .bytes)
+  pub content : Octets (h .content .bytes)
+  pub payload : Octets (h .payload)
+
+-- an acknowledgement of a kind that is carried, with one of its reasons
+pub record AckTyped (k : ℕ) (h : AckHanded) : Type 0 where
+  pub reasons : List ℕ
+  pub kind : lookup kinds k ≡ some (anAck reasons)
+  pub reason : isIn (h .reason) reasons ≡ true
+  pub ident : h .ident < 65536
+  pub text : Octets (h .text .bytes)
+  pub user : Octets (h .user .bytes)
+
+-- its options bytes and lengths may be any
+pub record SubscribeTyped (h : SubscribeHanded) : Type 0 where
+  pub ident : h .ident < 65536
+  pub user : Octets (h .user .bytes)
+  pub filters : Octets (h .filters .bytes)
+
+-- each kind; a ping of a kind that is carried
+abbrev pub Typed : Handed → Type 0
+Typed (publish h) = PublishTyped h
+Typed (ack k h) = AckTyped k h
+Typed (subscribe h) = SubscribeTyped h
+Typed (ping k) = lookup kinds k ≡ some aPing
+
+-- ---- 01, reading back: "QoS 0 has identifier 0, and no property set is present but empty"
+
+-- the set is not present but empty
+abbrev pub Filled : Bool → Bool → Type 0
+Filled block empty = block ≡ true → empty ≡ true → ⊥
+
+-- both conditions, of each kind
+abbrev pub Plain : Handed → Type 0
+Plain (publish h) = (h .qos ≡ 0 → h .ident ≡ 0) × Filled (h .block) (nonePublish h)
+Plain (ack k h) = Filled (h .block) (noneAck h)
+Plain (subscribe h) = Filled (h .block) (noneSubscribe h)
+Plain (ping k) = Unit {0}

@@ -1,0 +1,130 @@
+-- What is tested of a hand-over, and in which order: the first test that fails says the refusal. Assumes nothing.
+use mathlib.Core.Bool.{Bool, true, not, _||_}
+use mathlib.Core.Option.{Option, none, some}
+use mathlib.Core.List.{List, [], _∷_, _++_, map}
+use Prim.Native.Nat.{ℕ}
+use lib.Dec.{leb, eqb}
+use lib.ListN.{length}
+use Rattle.grammar.specs.Choice.{pick, isEmpty}
+use Rattle.grammar.specs.Tables.{Form, u8, u16, u32, number, text, bytes, pair, Place, publishPlace, subscribePlace, ackPlace}
+use Rattle.grammar.specs.Sentence.{notZero, qosFine, ruleFine}
+use Rattle.reading.specs.Refusal.{Refusal, nr}
+use Rattle.reading.specs.Reader.{Fit, got, _>>_, guard}
+use Rattle.reading.specs.Read.{isText}
+use Rattle.writing.specs.Lists.{flat}
+use Rattle.writing.specs.Handed.{Handed, publish, ack, subscribe, ping, Given, one, lent, pairs, several, Givens, publishGiven, subscribeGiven, ackGiven, strings, filters, belongs}
+use Rattle.writing.specs.Size.{most, restIs, sizeIs}
+
+-- what must hold, and the refusal if it does not
+abbrev pub Test : Type 0
+Test = Bool × Refusal
+
+-- the refusal of the first test that fails
+unfoldable pub judge : List Test → Fit (Unit {0})
+judge [] = got tt
+judge (t ∷ ts) = do
+  guard (t .0) (t .1)
+  judge ts
+
+-- ---- the fields that are tested as they are written
+
+-- bytes; text; the text and the options byte of a filter
+pub data Field : Type 0 where
+  raw : List ℕ → Field
+  word : List ℕ → Field
+  filter : List ℕ → ℕ → Field
+
+-- 01, row 18: "written string above 65,535 bytes"
+abbrev pub fits : List ℕ → Test
+fits s = (leb (length s) 65535, nr 18 (length s ∷ []))
+
+-- 01, row 9: "text not UTF-8, read or written"
+abbrev pub reads : List ℕ → Test
+reads s = (isText s, nr 9 [])
+
+-- 01, writing order: "18, and 9 for text, .. with 14 then 11 after a filter's text"
+abbrev pub fieldTests : Field → List Test
+fieldTests (raw s) = fits s ∷ []
+fieldTests (word s) = fits s ∷ reads s ∷ []
+fieldTests (filter s o) = fits s ∷ reads s ∷ (ruleFine o, nr 14 (3 ∷ [])) ∷ (qosFine o, nr 11 (3 ∷ [])) ∷ []
+
+-- 01, table of properties: what is tested of a string of each form
+abbrev pub stringField : Form → List ℕ → Field
+stringField u8 s = raw s
+stringField u16 s = raw s
+stringField u32 s = raw s
+stringField number s = raw s
+stringField text s = word s
+stringField bytes s = raw s
+stringField pair s = raw s
+
+-- the fields of a row
+abbrev pub givenFields : Form → Given → List Field
+givenFields f (one o) = []
+givenFields f (lent l) = pick (l .on) (stringField f (l .bytes) ∷ []) []
+givenFields f (pairs r) = map word (strings r)
+givenFields f (several ns) = []
+
+-- 01, writing order: "field by field as written": the rows of the table in their order
+unfoldable pub propsFields : Place → Givens → List Field
+propsFields place g = flat (λ r. givenFields (r .1) (g (r .0))) place
+
+-- a filter's text and options byte
+abbrev pub filterField : List ℕ × ℕ → Field
+filterField f = filter (f .0) (f .1)
+
+-- 01, writing order: the fields of each kind, in the order in which they are written
+unfoldable pub fieldsOf : Handed → List Field
+fieldsOf (publish h) = raw (h .topic) ∷ propsFields publishPlace (publishGiven h)
+fieldsOf (ack k h) = propsFields ackPlace (ackGiven h)
+fieldsOf (subscribe h) = propsFields subscribePlace (subscribeGiven h) ++ map filterField (filters h)
+fieldsOf (ping k) = []
+
+-- ---- the other tests
+
+-- 01, row 17: "written R, or a subscription identifier, above 268,435,455"
+abbrev pub small : ℕ → Test
+small n = (leb n most, nr 17 [])
+
+-- the number, if there is one
+abbrev pub orNone : Option ℕ → List ℕ
+orNone none = []
+orNone (some n) = n ∷ []
+
+-- 01, writing order: "17 for identifiers in order": the subscription identifiers of each kind
+abbrev pub numbersOf : Handed → List ℕ
+numbersOf (publish h) = h .subscriptions
+numbersOf (ack k h) = []
+numbersOf (subscribe h) = orNone (h .subscription)
+numbersOf (ping k) = []
+
+-- 01, row 12: "Publish, QoS 1 or 2, identifier 0"
+abbrev pub named : Handed → Bool
+named (publish h) = eqb (h .qos) 0 || notZero (h .ident)
+named (ack k h) = true
+named (subscribe h) = true
+named (ping k) = true
+
+-- 01, row 13: "no filters"
+abbrev pub asked : Handed → Bool
+asked (publish h) = true
+asked (ack k h) = true
+asked (subscribe h) = not (isEmpty (filters h))
+asked (ping k) = true
+
+-- 01, row 16: "write size above the limit"
+abbrev pub limitTests : Option ℕ → ℕ → List Test
+limitTests none n = []
+limitTests (some m) n = (leb n m, nr 16 (n ∷ m ∷ [])) ∷ []
+
+-- 01, writing order: "20; then 18, and 9 for text, field by field as written, ..; 17 for R; 16; 12; 17 for identifiers in order; 13; 19"
+unfoldable pub permit : Option ℕ → ℕ → Handed → Fit (Unit {0})
+permit limit room h = do
+  guard (belongs h) (nr 20 [])
+  judge (flat fieldTests (fieldsOf h))
+  guard (leb (restIs h) most) (nr 17 [])
+  judge (limitTests limit (sizeIs h))
+  guard (named h) (nr 12 [])
+  judge (map small (numbersOf h))
+  guard (asked h) (nr 13 [])
+  guard (leb (sizeIs h) room) (nr 19 (sizeIs h ∷ []))

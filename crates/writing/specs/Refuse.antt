@@ -1,0 +1,136 @@
+-- When a write is refused, said of what is handed over and not of the tests. Assumes nothing.
+use mathlib.Core.Path.{_≡_}
+use mathlib.Core.Bool.{Bool, true, false}
+use mathlib.Core.Option.{Option, none, some}
+use mathlib.Core.List.{List, [], _∷_}
+use Prim.Native.Nat.{ℕ, _%_, _≤_, _<_}
+use lib.ListN.{length}
+use Rattle.grammar.specs.Text.{Utf8}
+use Rattle.grammar.specs.Tables.{Form, publishPlace, subscribePlace, ackPlace}
+use Rattle.grammar.specs.Sentence.{qosFine, ruleFine}
+use Rattle.reading.specs.Refusal.{Refusal, nr}
+use Rattle.writing.specs.Lists.{Each, sum}
+use Rattle.writing.specs.Handed.{Run, Handed, publish, ack, subscribe, ping, Given, one, lent, pairs, several, Givens, publishGiven, subscribeGiven, ackGiven, filters}
+use Rattle.writing.specs.Size.{most, restIs, sizeIs}
+use Rattle.writing.specs.Order.{Field, raw, word, filter, fieldsOf, numbersOf}
+
+-- ---- what belongs together (20)
+
+-- the lent lengths of a list add up to its lent bytes
+abbrev pub AddsUp : Run → Type 0
+AddsUp r = sum (r .lengths) ≡ length (r .bytes)
+
+-- what is handed over for a row: nothing for an absent value; lengths that add up, and an even number of them
+abbrev pub Sorted : Given → Type 0
+Sorted (one o) = Unit {0}
+Sorted (lent l) = l .on ≡ false → l .bytes ≡ []
+Sorted (pairs r) = AddsUp r × (length (r .lengths) % 2 ≡ 0)
+Sorted (several ns) = Unit {0}
+
+-- nothing at all
+abbrev pub Nothing : Given → Type 0
+Nothing (one o) = o ≡ none
+Nothing (lent l) = (l .on ≡ false) × (l .bytes ≡ [])
+Nothing (pairs r) = (r .bytes ≡ []) × (r .lengths ≡ [])
+Nothing (several ns) = ns ≡ []
+
+-- nothing for an absent block
+abbrev pub InBlock : Bool → Givens → ℕ × Form → Type 0
+InBlock block g r = Sorted (g (r .0)) × (block ≡ false → Nothing (g (r .0)))
+
+-- 01, row 20, does not apply
+abbrev pub Belongs : Handed → Type 0
+Belongs (publish h) = Each (InBlock (h .block) (publishGiven h)) publishPlace
+Belongs (ack k h) = Each (InBlock (h .block) (ackGiven h)) ackPlace
+Belongs (subscribe h) = Each (InBlock (h .block) (subscribeGiven h)) subscribePlace × (AddsUp (h .filters) × (length (h .filters .lengths) ≡ length (h .options)))
+Belongs (ping k) = Unit {0}
+
+-- ---- one field (18, 9, 14, 11)
+
+-- at most as long as a string can be
+abbrev pub Short : List ℕ → Type 0
+Short s = length s ≤ 65535
+
+-- a field that can be written
+abbrev pub Sound : Field → Type 0
+Sound (raw s) = Short s
+Sound (word s) = Short s × Utf8 s
+Sound (filter s o) = Short s × Utf8 s × (ruleFine o ≡ true) × (qosFine o ≡ true)
+
+-- a field that cannot, and the refusal that it is given
+pub data Faulty : Field → Refusal → Type 0 where
+  long-raw : {s : List ℕ} → 65535 < length s → Faulty (raw s) (nr 18 (length s ∷ []))
+  long-word : {s : List ℕ} → 65535 < length s → Faulty (word s) (nr 18 (length s ∷ []))
+  long-filter : {s : List ℕ} {o : ℕ} → 65535 < length s → Faulty (filter s o) (nr 18 (length s ∷ []))
+  bad-word : {s : List ℕ} → Short s → (Utf8 s → ⊥) → Faulty (word s) (nr 9 [])
+  bad-filter : {s : List ℕ} {o : ℕ} → Short s → (Utf8 s → ⊥) → Faulty (filter s o) (nr 9 [])
+  bad-rule : {s : List ℕ} {o : ℕ} → Short s → Utf8 s → ruleFine o ≡ false → Faulty (filter s o) (nr 14 (3 ∷ []))
+  bad-qos : {s : List ℕ} {o : ℕ} → Short s → Utf8 s → ruleFine o ≡ true → qosFine o ≡ false → Faulty (filter s o) (nr 11 (3 ∷ []))
+
+-- the first field that cannot be written is given k
+pub data FirstFault (k : Refusal) : List Field → Type 0 where
+  here : {f : Field} {fs : List Field} → Faulty f k → FirstFault k (f ∷ fs)
+  later : {f : Field} {fs : List Field} → Sound f → FirstFault k fs → FirstFault k (f ∷ fs)
+
+-- ---- the other rows
+
+-- 01, grammar: a number that four bytes can spell
+abbrev pub Small : ℕ → Type 0
+Small n = n ≤ most
+
+-- one of the numbers is too large (17)
+pub data TooLarge : List ℕ → Type 0 where
+  here : {n : ℕ} {ns : List ℕ} → most < n → TooLarge (n ∷ ns)
+  later : {n : ℕ} {ns : List ℕ} → TooLarge ns → TooLarge (n ∷ ns)
+
+-- a Publish with quality of service 1 or 2 and identifier 0 (12)
+abbrev pub Unnamed : Handed → Type 0
+Unnamed (publish h) = (h .qos ≡ 0 → ⊥) × (h .ident ≡ 0)
+Unnamed (ack k h) = ⊥
+Unnamed (subscribe h) = ⊥
+Unnamed (ping k) = ⊥
+
+-- a Subscribe with no filters (13)
+abbrev pub Unasked : Handed → Type 0
+Unasked (publish h) = ⊥
+Unasked (ack k h) = ⊥
+Unasked (subscribe h) = filters h ≡ []
+Unasked (ping k) = ⊥
+
+-- at most the limit (16)
+abbrev pub Within : Option ℕ → ℕ → Type 0
+Within none n = Unit {0}
+Within (some m) n = n ≤ m
+
+-- ---- the writing order
+
+-- no row up to 17 for R applies
+pub record Countable (h : Handed) : Type 0 where
+  pub belongs : Belongs h
+  pub fields : Each Sound (fieldsOf h)
+  pub rest : Small (restIs h)
+
+-- 01, writing order: a row in its turn, if no row before it applies
+pub data Refuses (limit : Option ℕ) (room : ℕ) (h : Handed) : Refusal → Type 0 where
+  mismatch : (Belongs h → ⊥) → Refuses limit room h (nr 20 [])
+  field : {k : Refusal} → Belongs h → FirstFault k (fieldsOf h) → Refuses limit room h k
+  too-long : Belongs h → Each Sound (fieldsOf h) → most < restIs h → Refuses limit room h (nr 17 [])
+  too-large : {m : ℕ} → Countable h → limit ≡ some m → m < sizeIs h → Refuses limit room h (nr 16 (sizeIs h ∷ m ∷ []))
+  no-name : Countable h → Within limit (sizeIs h) → Unnamed h → Refuses limit room h (nr 12 [])
+  number : Countable h → Within limit (sizeIs h) → (Unnamed h → ⊥) → TooLarge (numbersOf h) → Refuses limit room h (nr 17 [])
+  none-asked : Countable h → Within limit (sizeIs h) → (Unnamed h → ⊥) → Each Small (numbersOf h) → Unasked h → Refuses limit room h (nr 13 [])
+  no-room : Countable h → Within limit (sizeIs h) → (Unnamed h → ⊥) → Each Small (numbersOf h) → (Unasked h → ⊥) → room < sizeIs h → Refuses limit room h (nr 19 (sizeIs h ∷ []))
+
+-- what is accepted: no row applies
+pub record Accepts (limit : Option ℕ) (room : ℕ) (h : Handed) : Type 0 where
+  pub countable : Countable h
+  pub within : Within limit (sizeIs h)
+  pub named : Unnamed h → ⊥
+  pub numbers : Each Small (numbersOf h)
+  pub asked : Unasked h → ⊥
+  pub fits : sizeIs h ≤ room
+
+-- 01: "Asked alone, size refuses only with 20, then 17 for R"
+pub data Unsized (h : Handed) : Refusal → Type 0 where
+  mismatch : (Belongs h → ⊥) → Unsized h (nr 20 [])
+  too-long : Belongs h → most < restIs h → Unsized h (nr 17 [])

@@ -1,0 +1,90 @@
+-- The bytes of a frame, the size, what a write gives, and the output afterwards. Assumes nothing.
+use mathlib.Core.Path.{_≡_}
+use mathlib.Core.Option.{Option, none, some}
+use mathlib.Core.List.{List, [], _∷_, _++_}
+use Prim.Native.Nat.{ℕ, _+_, _*_}
+use lib.Dec.{leb}
+use lib.ListN.{length, drop}
+use Rattle.grammar.specs.Choice.{pick, lookup}
+use Rattle.grammar.specs.Tables.{publishPlace, subscribePlace, ackPlace}
+use Rattle.reading.specs.Refusal.{nr}
+use Rattle.reading.specs.Reader.{Fit, got, bad, _>>_, guard}
+use Rattle.writing.specs.Lists.{flat}
+use Rattle.writing.specs.Handed.{Handed, publish, ack, subscribe, ping, publishGiven, subscribeGiven, ackGiven, filters, belongs}
+use Rattle.writing.specs.Spell.{wide, string, counted, block, filterBytes}
+use Rattle.writing.specs.Size.{most, noIdent, isPlain, restIs, sizeIs}
+use Rattle.writing.specs.Order.{permit}
+
+-- ---- the first byte
+
+-- 01, grammar: "first byte 0x82 for Subscribe, 0x40 for PubAck, `C0 00` and `D0 00` for pings"
+unfoldable pub firsts : List (ℕ × ℕ)
+firsts = (4, 0x40) ∷ (8, 0x82) ∷ (12, 0xC0) ∷ (13, 0xD0) ∷ []
+
+-- 0 for a kind that is not in the table
+abbrev orZero : Option ℕ → ℕ
+orZero none = 0
+orZero (some x) = x
+
+-- the first byte of a kind of the table
+unfoldable pub firstOf : ℕ → ℕ
+firstOf k = orZero (lookup firsts k)
+
+-- 01, grammar, Publish: "flags are dup (8), QoS (6), retain (1)"
+unfoldable pub firstByte : Handed → ℕ
+firstByte (publish h) = 0x30 + (8 * h .dup + (2 * h .qos + h .retain))
+firstByte (ack k h) = firstOf k
+firstByte (subscribe h) = firstOf 8
+firstByte (ping k) = firstOf k
+
+-- ---- the R bytes
+
+-- 01, grammar: "QoS 0 writes no identifier"; writing order: "leaves out a Publish identifier that is 0"
+abbrev pub identBytes : ℕ → ℕ → List ℕ
+identBytes q i = pick (noIdent q i) [] (wide 2 i)
+
+-- 01, grammar: each kind
+unfoldable pub bodyBytes : Handed → List ℕ
+bodyBytes (publish h) = string (h .topic) ++ (identBytes (h .qos) (h .ident) ++ (block publishPlace (publishGiven h) ++ h .payload))
+bodyBytes (ack k h) = wide 2 (h .ident) ++ pick (isPlain h) [] (h .reason ∷ block ackPlace (ackGiven h))
+bodyBytes (subscribe h) = wide 2 (h .ident) ++ (block subscribePlace (subscribeGiven h) ++ flat filterBytes (filters h))
+bodyBytes (ping k) = []
+
+-- 01, grammar: "A frame is one byte .., a variable length number R, then R bytes"
+unfoldable pub frameBytes : Handed → List ℕ
+frameBytes h = firstByte h ∷ counted (bodyBytes h)
+
+-- ---- the answers
+
+-- 01: "Asked alone, size refuses only with 20, then 17 for R"
+unfoldable pub sizeOf : Handed → Fit ℕ
+sizeOf h = do
+  guard (belongs h) (nr 20 [])
+  guard (leb (restIs h) most) (nr 17 [])
+  got (sizeIs h)
+
+-- what a write gives under a limit, into an output of `room` bytes
+unfoldable pub writeOf : Option ℕ → ℕ → Handed → Fit (List ℕ)
+writeOf limit room h = do
+  permit limit room h
+  got (frameBytes h)
+
+-- 01: an accepted write "gives that size"
+unfoldable pub answerOf : Option ℕ → ℕ → Handed → Fit ℕ
+answerOf limit room h = do
+  permit limit room h
+  got (sizeIs h)
+
+-- 01: "A refused write leaves the output as it stood. An accepted one sets the first size bytes, .. and keeps the rest"
+abbrev pub leaves : List ℕ → Fit (List ℕ) → List ℕ
+leaves out (got b) = b ++ drop (length b) out
+leaves out (bad k) = out
+
+-- the output afterwards
+unfoldable pub outOf : Option ℕ → List ℕ → Handed → List ℕ
+outOf limit out h = leaves out (writeOf limit (length out) h)
+
+-- what every writer's contract says: what its answer tells, and the output before and after
+pub record Written (limit : Option ℕ) (h : Handed) (before after : List ℕ) (told : Fit ℕ) : Type 0 where
+  pub answer : told ≡ answerOf limit (length before) h
+  pub output : after ≡ outOf limit before h

@@ -1,0 +1,1 @@
+// Worked values of 01: what is written, as theorems by computation.
