@@ -1,22 +1,20 @@
 -- What holds of every value that bytes say, and of how many bytes say it: numbers, strings, properties, blocks. Assumes nothing.
-use mathlib.Core.Path.{_≡_, refl, sym, ap, _∙_}
-use mathlib.Core.Bool.{Bool, true}
+use mathlib.Core.Path.{_≡_, refl, ap, _∙_}
 use mathlib.Core.Option.{Option, none, some}
 use mathlib.Core.List.{List, [], _∷_, _++_}
-use Prim.Native.Nat.{ℕ, suc, _+_, _-_, _*_, _^_, _≤_, _<_}
+use Prim.Native.Nat.{ℕ, suc, _+_, _*_, _^_, _≤_, _<_}
 use native.Mathlib.Omega.{arith}
 use native.Mathlib.Nat.{pow-suc, mul-assoc, mul-comm, mul-le-mul-right, one-le-pow}
 use lib.ListN.{length, length-append}
 use Rattle.grammar.specs.Choice.{lookup}
-use Rattle.grammar.specs.Gram.{Gram, Nothing, nothing, Map, mapped, Only, only, Then, both, Sized, sized, done, more, Many, Is, is}
+use Rattle.grammar.specs.Gram.{Gram, mapped, both, Sized, sized, done, more, Many, Is, is}
 use Rattle.grammar.specs.Number.{Byte, byte, bigFrom, Big, big, Groups, last, next, Spells}
-use Rattle.grammar.specs.Tables.{Form, u8, u16, u32, number, text, bytes, pair, Place}
-use Rattle.grammar.specs.Record.{num, str}
 use Rattle.grammar.specs.Text.{Utf8}
-use Rattle.grammar.specs.Sentence.{Any, Value, Prop, duoOf, Spelt, Property, property, Block}
+use Rattle.grammar.specs.Tables.{Form, u8, u16, u32, number, text, bytes, pair, Place}
+use Rattle.grammar.specs.Sentence.{Any, Value, Prop, Spelt, Property, property, Block}
 use Rattle.writing.specs.Lists.{Each, nil, _&_, Octet, Octets, total}
 use Rattle.writing.specs.Spell.{short, string, numeral, value}
-use Rattle.writing.specs.Size.{lenLen, most, withLength}
+use Rattle.writing.specs.Size.{lenLen, withLength}
 use Rattle.writing.specs.Refuse.{Short, Small}
 use Rattle.writing.proofs.Each.{each-head, each-tail, each-left, each-right}
 use Rattle.writing.proofs.Says.{length-wide, says-short}

@@ -1,32 +1,30 @@
 -- A row of a set that was read, handed over to be written: it belongs together, can be written, and takes no more bytes than the block
 -- that it was read from. Assumes nothing.
 use mathlib.Core.Path.{_≡_, refl, sym, ap, _∙_, subst}
-use mathlib.Core.Bool.{Bool, true, false, not}
+use mathlib.Core.Bool.{Bool, true, false}
 use mathlib.Core.Option.{Option, none, some}
-use mathlib.Core.List.{List, [], _∷_, _++_, map}
-use Prim.Native.Nat.{ℕ, suc, _+_, _%_, _≤_}
+use mathlib.Core.List.{List, [], _∷_, map}
+use Prim.Native.Nat.{ℕ, _+_, _%_, _≤_}
 use native.Mathlib.Omega.{arith}
-use lib.Dec.{eqb, eqb-refl}
-use lib.ListN.{length, take, drop, length-append}
+use lib.Dec.{eqb}
+use lib.ListN.{length, length-append}
 use lib.Seq.{take-append-seam, drop-append-seam}
-use Rattle.grammar.specs.Choice.{pick, lookup, isEmpty}
-use Rattle.grammar.specs.Tables.{Form, u8, u16, u32, number, text, bytes, pair, Place}
+use Rattle.grammar.specs.Choice.{pick, lookup}
+use Rattle.grammar.specs.Tables.{Form, number, bytes, pair, Place}
 use Rattle.grammar.specs.Record.{num, str, duo, lastFrom, lastOf, allOf}
 use Rattle.grammar.specs.Sentence.{Value, Prop}
-use Rattle.reading.proofs.Lists.{no-way, T-true, eq-of}
-use Rattle.writing.specs.Lists.{Each, nil, _&_, Octets, flat, all, total}
-use Rattle.writing.specs.Handed.{Given, one, lent, pairs, several, Givens, strings, duos, items, tag, entries}
-use Rattle.writing.specs.Spell.{value}
-use Rattle.writing.specs.Size.{most, withLength, givenSize, propsSize}
-use Rattle.writing.specs.Order.{word, stringField, givenFields, propsFields, orNone}
-use Rattle.writing.specs.Refuse.{AddsUp, Sorted, Nothing, InBlock, Sound, Small}
-use Rattle.writing.specs.Meant.{numeralOf, stringOf, Filled}
-use Rattle.writing.proofs.Each.{each-imp, each-flat, flat-each}
-use Rattle.writing.proofs.Tests.{and-left, and-right, not-true, eq-when, eq-not, same-test}
+use Rattle.reading.proofs.Lists.{no-way, eq-of}
+use Rattle.writing.specs.Lists.{Each, nil, _&_, Octets, flat}
+use Rattle.writing.specs.Handed.{Given, one, lent, pairs, several, strings, duos, items}
+use Rattle.writing.specs.Size.{givenSize}
+use Rattle.writing.specs.Order.{word, stringField, givenFields, orNone}
+use Rattle.writing.specs.Refuse.{AddsUp, Sorted, Nothing, Sound, Small}
+use Rattle.writing.specs.Meant.{numeralOf, stringOf}
+use Rattle.writing.proofs.Each.{flat-each}
 use Rattle.writing.proofs.Values.{Suits, a-number, a-pair}
 use Rattle.writing.proofs.Sizes.{weigh, weigh-given}
 use Rattle.tidy.specs.Tidy.{numIn, lentIn, numsIn, stringsIn, runOf}
-use Rattle.tidy.proofs.Has.{SuitsIn, sizeBy, propSize, withLength-mono}
+use Rattle.tidy.proofs.Has.{SuitsIn}
 
 -- ---- the values of a row
 

@@ -2,18 +2,17 @@
 use mathlib.Core.Path.{_≡_, refl, sym, ap, _∙_}
 use mathlib.Core.Bool.{Bool, true, false, not, _||_}
 use mathlib.Core.Option.{Option, none, some}
-use mathlib.Core.List.{List, [], _∷_, _++_}
-use Prim.Native.Nat.{ℕ, zero, suc, _+_, _/_, _%_, _≤_, _<_}
+use mathlib.Core.List.{List, [], _++_}
+use Prim.Native.Nat.{ℕ, zero, suc, _+_, _≤_, _<_}
 use native.Mathlib.Omega.{arith}
 use lib.Dec.{eqb}
 use lib.ListN.{length, length-append}
 use Rattle.grammar.specs.Choice.{pick, isIn, lookup}
-use Rattle.grammar.specs.Gram.{mapped, only, both, sized, done, more, Many, is, nothing}
+use Rattle.grammar.specs.Gram.{nothing, mapped, only, both, sized, is}
 use Rattle.grammar.specs.Number.{byte}
 use Rattle.grammar.specs.Text.{Utf8}
 use Rattle.grammar.specs.Tables.{publishPlace, subscribePlace, ackPlace, reasons, Layout, aPublish, anAck, aSubscribe, aPing, kinds}
-use Rattle.grammar.specs.Record as g
-use Rattle.grammar.specs.Record.{Filter, AckProps, kindOf, flagQos, mkFilter, Publish, Ack, Subscribe}
+use Rattle.grammar.specs.Record.{AckProps, Publish, Filter, Subscribe, Ack, kindOf, flagQos, mkFilter}
 use Rattle.grammar.specs.Sentence.{Any, publishOf, subscribeOf, ackOf, notThree, notZero, Ident, qosFine, ruleFine, FilterOf, someOf, AckRest, plain, coded, full, Packet, Fields, body, framed, Sentence}
 use Rattle.reading.proofs.Lists.{no-way}
 use Rattle.writing.specs.Lists.{Each, nil, _&_, Octets, total}
@@ -22,6 +21,7 @@ use Rattle.writing.specs.Refuse.{Short}
 use Rattle.writing.proofs.Each.{each-tail, each-left, each-right, rows-of, lookup-each}
 use Rattle.writing.proofs.Tests.{eq-not}
 use Rattle.tidy.proofs.Has.{has-many, has-big, has-number, has-string, FromList, has-block}
+use Rattle.grammar.specs.Record as g
 
 -- ---- each kind; n is what the block may take
 

@@ -1,10 +1,10 @@
 -- What the code of a writer goes by: the contract from the answer and the stores; for each kind its tests, its sums and its bytes one after
 -- the other; and a list's items by the index of a length and the place in the run. Assumes nothing.
 use mathlib.Core.Path.{_≡_, refl, sym, ap, _∙_}
-use mathlib.Core.Bool.{true, _&&_}
+use mathlib.Core.Bool.{Bool, true, false, _&&_}
 use mathlib.Core.Logic.{_⊎_, inl, inr}
 use mathlib.Core.Option.{Option}
-use mathlib.Core.List.{List, [], _∷_, _++_, map}
+use mathlib.Core.List.{List, [], _∷_, _++_, map, append-assoc, append-nil}
 use Prim.Native.Nat.{ℕ, _+_, _-_, _≤_, _<_}
 use native.Mathlib.Omega.{arith}
 use native.Mathlib.Numerals.{add-one}
@@ -14,20 +14,22 @@ use lib.Seq.{drop-cons, drop-drop, sets}
 use Rattle.grammar.specs.Choice.{pick}
 use Rattle.grammar.specs.Tables.{Form, u8, u16, u32, number, text, bytes, pair, publishPlace, subscribePlace, ackPlace}
 use Rattle.reading.specs.Refusal.{Refusal}
-use Rattle.reading.specs.Reader.{got, bad, _>>_}
+use Rattle.reading.specs.Reader.{Fit, got, bad, _>>_}
 use Rattle.reading.proofs.Lists.{leb-yes, leb-no, eq-of}
 use Rattle.writing.specs.Lists.{flat, sum, beside}
 use Rattle.writing.specs.Handed.{Run, PublishHanded, SubscribeHanded, AckHanded, Handed, publish, ack, subscribe, ping, one, lent, pairs, several, publishGiven, subscribeGiven, ackGiven, strings, filters, rowBelongs, blockBelongs, filtersBelong, belongs}
 use Rattle.writing.specs.Spell.{wide, short, string, numeral, value, rowBytes, propsBytes, counted, block, filterBytes}
 use Rattle.writing.specs.Size.{most, withLength, givenSize, propsSize, isPlain, restIs, sizeIs, cap}
-use Rattle.writing.specs.Order.{judge, word, fieldTests, permit}
+use Rattle.writing.specs.Order.{judge, Field, raw, word, fieldTests, filterField, fieldsOf, permit}
 use Rattle.writing.specs.Write.{firstByte, identBytes, bodyBytes, frameBytes, writeOf, answerOf, Written}
 use Rattle.writing.specs.Refuse.{Belongs}
+use Rattle.writing.proofs.Each.{flat-append}
 use Rattle.writing.proofs.Tests.{eq-when, eq-not, le-or, same-test}
 use Rattle.writing.proofs.Belong.{belongs-when}
 use Rattle.writing.proofs.Sizes.{length-props, length-body}
-use Rattle.writing.proofs.Judge.{fields-more}
+use Rattle.writing.proofs.Judge.{judge-append, fields-more}
 use Rattle.writing.proofs.Demand.{out-refused, out-sets}
+use Rattle.writing.proofs.Pins.{publish-order, subscribe-order, ack-order}
 
 -- ---- the contract
 
@@ -66,6 +68,54 @@ pub subscribe-belongs : (h : SubscribeHanded) → belongs (subscribe h)
 unfolding belongs blockBelongs subscribePlace subscribeGiven
 subscribe-belongs h = refl
 
+-- ---- 18, 9, 14 and 11: the fields of each kind, one after the other
+
+fields-append : (fs gs : List Field) → judge (flat fieldTests (fs ++ gs)) ≡ (judge (flat fieldTests fs) >> judge (flat fieldTests gs))
+fields-append fs gs = rw (flat-append fieldTests fs gs) (judge-append (flat fieldTests fs) (flat fieldTests gs))
+
+-- a string that may be absent
+abbrev pub judgeIf : Bool → Field → Fit (Unit {0})
+judgeIf on f = pick on (judge (fieldTests f)) (got tt)
+
+pub judge-if : (on : Bool) (f : Field) → judge (flat fieldTests (pick on (f ∷ []) [])) ≡ judgeIf on f
+unfolding judge
+judge-if true f = ap judge (append-nil (fieldTests f))
+judge-if false f = refl
+
+-- a list of texts
+abbrev pub judgeAll : Run → Fit (Unit {0})
+judgeAll r = judge (flat fieldTests (map word (strings r)))
+
+pub publish-tests : (h : PublishHanded) → judge (flat fieldTests (fieldsOf (publish h)))
+    ≡ (judge (fieldTests (raw (h .topic)))
+    >> (judgeIf (h .response .on) (word (h .response .bytes))
+    >> (judgeIf (h .correlation .on) (raw (h .correlation .bytes))
+    >> (judgeAll (h .user)
+    >> judgeIf (h .content .on) (word (h .content .bytes))))))
+publish-tests h =
+    rw (
+      publish-order h,
+      fields-more (raw (h .topic)) _,
+      fields-append (pick (h .response .on) (word (h .response .bytes) ∷ []) []) _,
+      fields-append (pick (h .correlation .on) (raw (h .correlation .bytes) ∷ []) []) _,
+      fields-append (map word (strings (h .user))) _,
+      append-nil (pick (h .content .on) (word (h .content .bytes) ∷ []) []),
+      judge-if (h .response .on) (word (h .response .bytes)),
+      judge-if (h .correlation .on) (raw (h .correlation .bytes)),
+      judge-if (h .content .on) (word (h .content .bytes)),
+    )
+
+pub ack-tests : (k : ℕ) (h : AckHanded) → judge (flat fieldTests (fieldsOf (ack k h))) ≡ (judgeIf (h .text .on) (word (h .text .bytes)) >> judgeAll (h .user))
+ack-tests k h = rw (
+  ack-order k h,
+  fields-append (pick (h .text .on) (word (h .text .bytes) ∷ []) []) _,
+  append-nil (map word (strings (h .user))),
+  judge-if (h .text .on) (word (h .text .bytes)),
+)
+
+pub subscribe-tests : (h : SubscribeHanded) → judge (flat fieldTests (fieldsOf (subscribe h))) ≡ (judgeAll (h .user) >> judge (flat fieldTests (map filterField (filters h))))
+subscribe-tests h = rw (subscribe-order h, append-nil (map word (strings (h .user))), fields-append (map word (strings (h .user))) (map filterField (filters h)))
+
 -- ---- L, for each kind
 
 pub publish-sum : (h : PublishHanded) → propsSize publishPlace (publishGiven h)
@@ -91,41 +141,35 @@ subscribe-sum h = refl
 
 -- ---- the bytes of each kind, one after the other, with R and L as sums
 
--- the bytes with their number n in front
-counted-sum : (b : List ℕ) (n : ℕ) → length b ≡ n → counted b ≡ short n ++ b
-unfolding counted
-counted-sum b n e = rw e
-
 frame-sum : (h : Handed) → Belongs h → frameBytes h ≡ firstByte h ∷ (short (restIs h) ++ bodyBytes h)
-unfolding frameBytes
-frame-sum h w = ap (λ (l : List ℕ). firstByte h ∷ l) (counted-sum (bodyBytes h) (restIs h) (length-body h w))
+unfolding frameBytes counted
+frame-sum h w = rw (length-body h w)
 
 pub publish-frame : (h : PublishHanded) → belongs (publish h) ≡ true → frameBytes (publish h)
     ≡ firstByte (publish h) ∷ (short (restIs (publish h)) ++ (string (h .topic) ++ (identBytes (h .qos) (h .ident)
-    ++ ((short (propsSize publishPlace (publishGiven h)) ++ propsBytes publishPlace (publishGiven h)) ++ h .payload))))
-unfolding bodyBytes block
+    ++ (short (propsSize publishPlace (publishGiven h)) ++ (propsBytes publishPlace (publishGiven h) ++ h .payload)))))
+unfolding bodyBytes block counted
 publish-frame h e =
     let w : Belongs (publish h) = belongs-when (publish h) .0 e in
-    frame-sum (publish h) w ∙ ap (λ (l : List ℕ). firstByte (publish h) ∷ (short (restIs (publish h)) ++ (string (h .topic) ++ (identBytes (h .qos) (h .ident) ++ (l ++ h .payload)))))
-    (counted-sum (propsBytes publishPlace (publishGiven h)) (propsSize publishPlace (publishGiven h)) (length-props publishPlace (h .block) (publishGiven h) w))
+    frame-sum (publish h) w
+    ∙ rw (length-props publishPlace (h .block) (publishGiven h) w, append-assoc (short (propsSize publishPlace (publishGiven h))) (propsBytes publishPlace (publishGiven h)) (h .payload))
 
 pub ack-frame : (k : ℕ) (h : AckHanded) → belongs (ack k h) ≡ true → frameBytes (ack k h)
     ≡ firstByte (ack k h) ∷ (short (restIs (ack k h)) ++ (wide 2 (h .ident)
     ++ pick (isPlain h) [] (h .reason ∷ (short (propsSize ackPlace (ackGiven h)) ++ propsBytes ackPlace (ackGiven h)))))
-unfolding bodyBytes block
+unfolding bodyBytes block counted
 ack-frame k h e =
     let w : Belongs (ack k h) = belongs-when (ack k h) .0 e in
-    frame-sum (ack k h) w ∙ ap (λ (l : List ℕ). firstByte (ack k h) ∷ (short (restIs (ack k h)) ++ (wide 2 (h .ident) ++ pick (isPlain h) [] (h .reason ∷ l))))
-    (counted-sum (propsBytes ackPlace (ackGiven h)) (propsSize ackPlace (ackGiven h)) (length-props ackPlace (h .block) (ackGiven h) w))
+    frame-sum (ack k h) w ∙ rw (length-props ackPlace (h .block) (ackGiven h) w)
 
 pub subscribe-frame : (h : SubscribeHanded) → belongs (subscribe h) ≡ true → frameBytes (subscribe h)
     ≡ firstByte (subscribe h) ∷ (short (restIs (subscribe h)) ++ (wide 2 (h .ident)
-    ++ ((short (propsSize subscribePlace (subscribeGiven h)) ++ propsBytes subscribePlace (subscribeGiven h)) ++ flat filterBytes (filters h))))
-unfolding bodyBytes block
+    ++ (short (propsSize subscribePlace (subscribeGiven h)) ++ (propsBytes subscribePlace (subscribeGiven h) ++ flat filterBytes (filters h)))))
+unfolding bodyBytes block counted
 subscribe-frame h e =
     let w : Belongs (subscribe h) = belongs-when (subscribe h) .0 e in
-    frame-sum (subscribe h) w ∙ ap (λ (l : List ℕ). firstByte (subscribe h) ∷ (short (restIs (subscribe h)) ++ (wide 2 (h .ident) ++ (l ++ flat filterBytes (filters h)))))
-    (counted-sum (propsBytes subscribePlace (subscribeGiven h)) (propsSize subscribePlace (subscribeGiven h)) (length-props subscribePlace (h .block) (subscribeGiven h) (w .0)))
+    frame-sum (subscribe h) w
+    ∙ rw (length-props subscribePlace (h .block) (subscribeGiven h) (w .0), append-assoc (short (propsSize subscribePlace (subscribeGiven h))) (propsBytes subscribePlace (subscribeGiven h)) (flat filterBytes (filters h)))
 
 pub ping-frame : (k : ℕ) → frameBytes (ping k) ≡ firstByte (ping k) ∷ (short 0 ++ [])
 unfolding frameBytes bodyBytes counted

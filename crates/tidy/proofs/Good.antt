@@ -1,0 +1,386 @@
+-- A packet that a sentence says, handed over to be written: the write is accepted, and what it means is that packet. Assumes nothing.
+use mathlib.Core.Path.{_≡_, refl, sym, ap, _∙_, subst}
+use mathlib.Core.Bool.{Bool, true, false, not}
+use mathlib.Core.Option.{Option, none, some}
+use mathlib.Core.List.{List, [], _∷_, map}
+use Prim.Native.Nat.{ℕ, _+_, _*_, _/_, _%_, _≤_, _<_}
+use native.Mathlib.Omega.{arith}
+use lib.ListN.{length, length-append, length-map}
+use Rattle.grammar.specs.Choice.{pick, isEmpty}
+use Rattle.grammar.specs.Tables.{Form, u8, u16, u32, number, text, bytes, pair, publishPlace, subscribePlace, ackPlace}
+use Rattle.grammar.specs.Record.{num, str, lastOf, allOf, PublishProps, publishProps, SubscribeProps, subscribeProps, AckProps, ackProps, Publish, Filter, Subscribe, Ack, mkFilter}
+use Rattle.grammar.specs.Sentence.{Value, Prop, asList, qosFine, ruleFine, someOf, Packet}
+use Rattle.reading.proofs.Lists.{no-way}
+use Rattle.writing.specs.Lists.{Each, nil, _&_, Octets, flat, total, beside}
+use Rattle.writing.specs.Handed.{PublishHanded, SubscribeHanded, AckHanded, Handed, publish, ack, subscribe, ping, publishGiven, subscribeGiven, ackGiven, filters}
+use Rattle.writing.specs.Size.{most, withLength, propsSize, isPlain, restIs, sizeIs}
+use Rattle.writing.specs.Order.{stringField, filterField, fieldsOf, orNone}
+use Rattle.writing.specs.Refuse.{Sound, Small, Accepts}
+use Rattle.writing.specs.Meant.{publishSet, subscribeSet, ackSet, thePublish, theAck, meant, Below, Typed, Plain}
+use Rattle.writing.proofs.Each.{each-append, rows-of}
+use Rattle.writing.proofs.Values.{Suits, an-u8, an-u16, an-u32, a-number, a-text, a-bytes, low-qos, low-rule, low-filter}
+use Rattle.tidy.specs.Tidy.{optionsOf, publishFrom, ackFrom, subscribeFrom, noPublish, noAck, noSubscribe, withSet, handedOf}
+use Rattle.tidy.proofs.Has.{SuitsIn}
+use Rattle.tidy.proofs.Said.{PublishSaid, AckSaid, FilterSaid, filterSize, SubscribeSaid, Said}
+use Rattle.tidy.proofs.Rows.{Perhaps, last-suits, all-suits, num-back, str-back, numbers-back, run-back, run-octets, run-adds, users-octets, users-back, Row, row-one, row-lent, row-pairs, row-several}
+use Rattle.tidy.proofs.Blocks.{Distinct, rows-belong, rows-sound, rows-light, rows-filled, with-list, set-list}
+use Rattle.grammar.specs.Record as g
+
+-- ---- values of a form
+
+abbrev Num : ℕ → Value → Type 0
+Num m v = (n : ℕ) × (v ≡ num n) × (n < m)
+
+u8-num : (v : Value) → Suits u8 v → Num 256 v
+u8-num _ (an-u8 {n} h) = (n, refl, h)
+
+u16-num : (v : Value) → Suits u16 v → Num 65536 v
+u16-num _ (an-u16 {n} h) = (n, refl, h)
+
+u32-num : (v : Value) → Suits u32 v → Num 4294967296 v
+u32-num _ (an-u32 {n} h) = (n, refl, h)
+
+number-num : (v : Value) → Suits number v → (n : ℕ) × (v ≡ num n) × Small n
+number-num _ (a-number {n} h) = (n, refl, h)
+
+abbrev Str : Form → Value → Type 0
+Str f v = (s : List ℕ) × (v ≡ str s) × Octets s × Sound (stringField f s)
+
+text-str : (v : Value) → Suits text v → Str text v
+text-str _ (a-text {s} o h) = (s, refl, o, h)
+
+bytes-str : (v : Value) → Suits bytes v → Str bytes v
+bytes-str _ (a-bytes {s} o h) = (s, refl, o, h)
+
+below : (m : ℕ) (o : Option ℕ) → Each (λ (n : ℕ). n < m) (orNone o) → Below m o
+below m none p = tt
+below m (some n) (p & nil) = p
+
+-- ---- what is handed over for a packet v, and can be written
+
+pub record Good (v : Packet) (h : Handed) : Type 0 where
+  pub accepts : Accepts none (sizeIs h) h
+  pub typed : Typed h
+  pub plain : Plain h
+  pub means : meant h ≡ v
+
+-- ---- Publish
+
+module _ (p : Publish (List ℕ) List) (ps : List Prop) (ss : Each (SuitsIn publishPlace) ps) where
+  abbrev publishIt : PublishHanded
+  publishIt = publishFrom p (not (isEmpty ps)) (publishProps (List ℕ) List asList ps)
+
+  -- what each row says
+  record PublishSet : Type 0 where
+    format : Perhaps (Suits u8) (lastOf 1 ps)
+    expiry : Perhaps (Suits u32) (lastOf 2 ps)
+    alias : Perhaps (Suits u16) (lastOf 35 ps)
+    response : Perhaps (Suits text) (lastOf 8 ps)
+    correlation : Perhaps (Suits bytes) (lastOf 9 ps)
+    user : Each (Suits pair) (allOf 38 ps)
+    subscriptions : Each (Suits number) (allOf 11 ps)
+    content : Perhaps (Suits text) (lastOf 3 ps)
+
+  publish-rows-say : PublishSet
+  unfolding publishPlace
+  publish-rows-say = record {
+    format = last-suits publishPlace 1 u8 refl ss;
+    expiry = last-suits publishPlace 2 u32 refl ss;
+    alias = last-suits publishPlace 35 u16 refl ss;
+    response = last-suits publishPlace 8 text refl ss;
+    correlation = last-suits publishPlace 9 bytes refl ss;
+    user = all-suits publishPlace 38 pair refl ss;
+    subscriptions = all-suits publishPlace 11 number refl ss;
+    content = last-suits publishPlace 3 text refl ss;
+  }
+
+  publish-rows : PublishSet → Each (λ r. Row (r .0) (r .1) ps (publishGiven publishIt (r .0))) publishPlace
+  unfolding publishPlace publishGiven publishProps
+  publish-rows w = rows-of (λ r. Row (r .0) (r .1) ps (publishGiven publishIt (r .0))) publishPlace
+      (row-one 1 u8 ps (num-back _ u8-num (w .format) .1)
+      & (row-one 2 u32 ps (num-back _ u32-num (w .expiry) .1)
+      & (row-one 35 u16 ps (num-back _ u16-num (w .alias) .1)
+      & (row-lent 8 text ps (str-back text-str (w .response) .1) (str-back text-str (w .response) .2)
+      & (row-lent 9 bytes ps (str-back bytes-str (w .correlation) .1) (str-back bytes-str (w .correlation) .2)
+      & (row-pairs 38 ps (w .user)
+      & (row-several 11 ps (w .subscriptions)
+      & (row-lent 3 text ps (str-back text-str (w .content) .1) (str-back text-str (w .content) .2)
+      & nil))))))))
+
+  publish-set-back : PublishSet → publishSet publishIt ≡ publishProps (List ℕ) List asList ps
+  unfolding publishProps
+  publish-set-back w = rw (
+    num-back _ u8-num (w .format) .1,
+    num-back _ u32-num (w .expiry) .1,
+    num-back _ u16-num (w .alias) .1,
+    str-back text-str (w .response) .2,
+    str-back bytes-str (w .correlation) .2,
+    users-back (w .user),
+    numbers-back (w .subscriptions) .1,
+    str-back text-str (w .content) .2,
+  )
+
+publish-distinct : Distinct publishPlace
+unfolding publishPlace
+publish-distinct = (refl, (refl, (refl, (refl, (refl, (refl, (refl, (refl, tt))))))))
+
+publish-none : publishProps (List ℕ) List asList [] ≡ noPublish
+unfolding publishProps lastOf allOf
+publish-none = refl
+
+publish-good : (p : Publish (List ℕ) List) (w : PublishSaid p) → Good (g.publish p) (publish (publishIt p (w .props .list) (w .props .suits)))
+unfolding restIs fieldsOf meant publishProps
+publish-good p w =
+    let ps : List Prop = w .props .list in
+    let h : PublishHanded = publishIt p ps (w .props .suits) in
+    let s = publish-rows-say p ps (w .props .suits) in
+    let rows = publish-rows p ps (w .props .suits) s in
+    let l = rows-light (publishGiven h) ps rows publish-distinct (w .size) (w .props .light) (omega (arith, w .light)) in
+    record {
+      accepts = record {
+        countable = record {
+          belongs = rows-belong (publishGiven h) ps rows;
+          fields = w .topic & rows-sound (publishGiven h) ps rows;
+          rest = omega (arith, w .light);
+        };
+        within = tt;
+        named = λ t. w .named (t .0) (t .1);
+        numbers = numbers-back (s .subscriptions) .0;
+        asked = λ f. f;
+        fits = omega arith;
+      };
+      typed = record {
+        dup = w .dup;
+        qos = w .qos;
+        retain = w .retain;
+        topic = w .octets;
+        ident = w .ident;
+        format = below 256 (h .format) (num-back _ u8-num (s .format) .0);
+        expiry = below 4294967296 (h .expiry) (num-back _ u32-num (s .expiry) .0);
+        alias = below 65536 (h .alias) (num-back _ u16-num (s .alias) .0);
+        response = str-back text-str (s .response) .0;
+        correlation = str-back bytes-str (s .correlation) .0;
+        user = users-octets (s .user);
+        content = str-back text-str (s .content) .0;
+        payload = w .payload;
+      };
+      plain = (w .unnamed, rows-filled (publishGiven h) ps rows (w .props .suits));
+      means = ap (λ (o : Option (PublishProps (List ℕ) List)). thePublish h (p .ident) o) (set-list (publishProps (List ℕ) List asList) ps (publishSet h) (publish-set-back p ps (w .props .suits) s) ∙ sym (w .props .is));
+    }
+
+-- ---- acknowledgements
+
+module _ (p : Ack (List ℕ) List) (ps : List Prop) (ss : Each (SuitsIn ackPlace) ps) where
+  abbrev ackIt : AckHanded
+  ackIt = ackFrom p (not (isEmpty ps)) (ackProps (List ℕ) List asList ps)
+
+  ack-text : Perhaps (Suits text) (lastOf 31 ps)
+  unfolding ackPlace
+  ack-text = last-suits ackPlace 31 text refl ss
+
+  ack-user : Each (Suits pair) (allOf 38 ps)
+  unfolding ackPlace
+  ack-user = all-suits ackPlace 38 pair refl ss
+
+  ack-rows : Each (λ r. Row (r .0) (r .1) ps (ackGiven ackIt (r .0))) ackPlace
+  unfolding ackPlace ackGiven ackProps
+  ack-rows = rows-of (λ r. Row (r .0) (r .1) ps (ackGiven ackIt (r .0))) ackPlace
+      (row-lent 31 text ps (str-back text-str ack-text .1) (str-back text-str ack-text .2)
+      & (row-pairs 38 ps ack-user
+      & nil))
+
+  ack-set-back : ackSet ackIt ≡ ackProps (List ℕ) List asList ps
+  unfolding ackProps
+  ack-set-back = rw (str-back text-str ack-text .2, users-back ack-user)
+
+ack-distinct : Distinct ackPlace
+unfolding ackPlace
+ack-distinct = (refl, (refl, tt))
+
+ack-none : ackProps (List ℕ) List asList [] ≡ noAck
+unfolding ackProps lastOf allOf
+ack-none = refl
+
+plain-small : (t : Bool) (n : ℕ) → 3 + n ≤ most → pick t 2 (3 + n) ≤ most
+plain-small true n h = omega arith
+plain-small false n h = h
+
+ack-good : (k : ℕ) (p : Ack (List ℕ) List) (w : AckSaid k p) → Good (g.ack k p) (ack k (ackIt p (w .props .list) (w .props .suits)))
+unfolding restIs fieldsOf meant ackProps
+ack-good k p w =
+    let ps : List Prop = w .props .list in
+    let h : AckHanded = ackIt p ps (w .props .suits) in
+    let rows = ack-rows p ps (w .props .suits) in
+    let l = rows-light (ackGiven h) ps rows ack-distinct (w .size) (w .props .light) (omega (arith, w .light)) in
+    record {
+      accepts = record {
+        countable = record {
+          belongs = rows-belong (ackGiven h) ps rows;
+          fields = rows-sound (ackGiven h) ps rows;
+          rest = plain-small (isPlain h) (withLength (propsSize ackPlace (ackGiven h))) (omega (arith, w .light));
+        };
+        within = tt;
+        named = λ f. f;
+        numbers = nil;
+        asked = λ f. f;
+        fits = omega arith;
+      };
+      typed = record {
+        reasons = w .reasons;
+        kind = w .kind;
+        reason = w .reason;
+        ident = w .ident;
+        text = str-back text-str (ack-text p ps (w .props .suits)) .0;
+        user = users-octets (ack-user p ps (w .props .suits));
+      };
+      plain = rows-filled (ackGiven h) ps rows (w .props .suits);
+      means = ap (λ (o : Option (AckProps (List ℕ) List)). theAck k h o) (set-list (ackProps (List ℕ) List asList) ps (ackSet h) (ack-set-back p ps (w .props .suits)) ∙ sym (w .props .is));
+    }
+
+-- ---- Subscribe
+
+module _ (p : Subscribe (List ℕ) List) (ps : List Prop) (ss : Each (SuitsIn subscribePlace) ps) where
+  abbrev subscribeIt : SubscribeHanded
+  subscribeIt = subscribeFrom p (not (isEmpty ps)) (subscribeProps (List ℕ) List asList ps)
+
+  subscribe-ident : Perhaps (Suits number) (lastOf 11 ps)
+  unfolding subscribePlace
+  subscribe-ident = last-suits subscribePlace 11 number refl ss
+
+  subscribe-user : Each (Suits pair) (allOf 38 ps)
+  unfolding subscribePlace
+  subscribe-user = all-suits subscribePlace 38 pair refl ss
+
+  subscribe-rows : Each (λ r. Row (r .0) (r .1) ps (subscribeGiven subscribeIt (r .0))) subscribePlace
+  unfolding subscribePlace subscribeGiven subscribeProps
+  subscribe-rows = rows-of (λ r. Row (r .0) (r .1) ps (subscribeGiven subscribeIt (r .0))) subscribePlace
+      (row-one 11 number ps (num-back Small number-num subscribe-ident .1)
+      & (row-pairs 38 ps subscribe-user
+      & nil))
+
+  subscribe-set-back : subscribeSet subscribeIt ≡ subscribeProps (List ℕ) List asList ps
+  unfolding subscribeProps
+  subscribe-set-back = rw (num-back Small number-num subscribe-ident .1, users-back subscribe-user)
+
+subscribe-distinct : Distinct subscribePlace
+unfolding subscribePlace
+subscribe-distinct = (refl, (refl, tt))
+
+subscribe-none : subscribeProps (List ℕ) List asList [] ≡ noSubscribe
+unfolding subscribeProps lastOf allOf
+subscribe-none = refl
+
+-- the options that a filter is handed over with are those that were read, with the two high bits 0
+bits-3 : (o : ℕ) → o % 4 + 4 * (o / 4 % 2) ≡ o % 8
+bits-3 o = omega arith
+
+bits-4 : (o : ℕ) → o % 8 + 8 * (o / 8 % 2) ≡ o % 16
+bits-4 o = omega arith
+
+bits-6 : (o : ℕ) → o % 16 + 16 * (o / 16 % 4) ≡ o % 64
+bits-6 o = omega arith
+
+options-back : (s : List ℕ) (o : ℕ) → optionsOf (mkFilter (s, o)) ≡ o % 64
+options-back s o = rw (bits-3 o, bits-4 o, bits-6 o)
+
+options-are : (f : Filter (List ℕ)) (w : FilterSaid f) → optionsOf f ≡ w .options % 64
+options-are f w = ap optionsOf (w .filter) ∙ options-back (f .path) (w .options)
+
+filter-back : (f : Filter (List ℕ)) → FilterSaid f → mkFilter (f .path, optionsOf f) ≡ f
+filter-back f w = ap (λ (n : ℕ). mkFilter (f .path, n)) (options-are f w) ∙ low-filter (w .options) (f .path) ∙ sym (w .filter)
+
+filter-sound : (f : Filter (List ℕ)) → FilterSaid f → Sound (filterField (f .path, optionsOf f))
+filter-sound f w =
+    let e = options-are f w in
+    let r : ruleFine (optionsOf f) ≡ true = rw (e, low-rule (w .options)) (w .rule) in
+    let q : qosFine (optionsOf f) ≡ true = rw (e, low-qos (w .options)) (w .qos) in
+    (w .path, w .text, r, q)
+
+abbrev pathsOf : List (Filter (List ℕ)) → List (List ℕ)
+pathsOf fs = map (λ f. f .path) fs
+
+-- the filters that are handed over
+record FiltersBack (fs : List (Filter (List ℕ))) : Type 0 where
+  sound : Each Sound (map filterField (beside (pathsOf fs) (map optionsOf fs)))
+  octets : Each Octets (pathsOf fs)
+  back : map mkFilter (beside (pathsOf fs) (map optionsOf fs)) ≡ fs
+  sum : length (flat (λ s. s) (pathsOf fs)) + 3 * length (map optionsOf fs) ≡ total filterSize fs
+
+filters-back : {fs : List (Filter (List ℕ))} → Each FilterSaid fs → FiltersBack fs
+filters-back nil = record { sound = nil; octets = nil; back = refl; sum = refl }
+filters-back (_&_ {a = f} {l = fs} w ws) =
+    let r = filters-back ws in
+    record {
+      sound = filter-sound f w & r .sound;
+      octets = w .octets & r .octets;
+      back = ap (λ (x : Filter (List ℕ)). x ∷ map mkFilter (beside (pathsOf fs) (map optionsOf fs))) (filter-back f w) ∙ ap (λ (l : List (Filter (List ℕ))). f ∷ l) (r .back);
+      sum = rw (length-append (f .path) (flat (λ s. s) (pathsOf fs))) (omega (arith, r .sum));
+    }
+
+some-filters : (fs : List (Filter (List ℕ))) → someOf fs ≡ true → beside (pathsOf fs) (map optionsOf fs) ≡ [] → ⊥
+some-filters [] t e = no-way t
+some-filters (f ∷ fs) t e = let z : _≡_ {A = ℕ} 0 1 = cc in omega arith
+
+subscribe-good : (p : Subscribe (List ℕ) List) (w : SubscribeSaid p) → Good (g.subscribe p) (subscribe (subscribeIt p (w .props .list) (w .props .suits)))
+unfolding restIs fieldsOf meant subscribeProps filters
+subscribe-good p w =
+    let ps : List Prop = w .props .list in
+    let h : SubscribeHanded = subscribeIt p ps (w .props .suits) in
+    let rows = subscribe-rows p ps (w .props .suits) in
+    let l = rows-light (subscribeGiven h) ps rows subscribe-distinct (w .size) (w .props .light) (omega (arith, w .light)) in
+    let b = filters-back (w .filters) in
+    let e : filters h ≡ beside (pathsOf (p .filters)) (map optionsOf (p .filters)) = ap (λ (ss : List (List ℕ)). beside ss (map optionsOf (p .filters))) (run-back (pathsOf (p .filters))) in
+    let c : length (map length (pathsOf (p .filters))) ≡ length (map optionsOf (p .filters)) = simp length-map in
+    record {
+      accepts = record {
+        countable = record {
+          belongs = (rows-belong (subscribeGiven h) ps rows, (run-adds (pathsOf (p .filters)), c));
+          fields = each-append (rows-sound (subscribeGiven h) ps rows) (rw e (b .sound));
+          rest = omega (arith, w .light, b .sum);
+        };
+        within = tt;
+        named = λ f. f;
+        numbers = num-back Small number-num (subscribe-ident p ps (w .props .suits)) .0;
+        asked = λ q. some-filters (p .filters) (w .asked) (sym e ∙ q);
+        fits = omega arith;
+      };
+      typed = record { ident = w .ident; user = users-octets (subscribe-user p ps (w .props .suits)); filters = run-octets (b .octets) };
+      plain = rows-filled (subscribeGiven h) ps rows (w .props .suits);
+      means =
+          ap (λ (fs : List (Filter (List ℕ))). g.subscribe (record { ident = p .ident; props = pick (not (isEmpty ps)) (some (subscribeSet h)) none; filters = fs })) (ap (map mkFilter) e ∙ b .back)
+          ∙ ap (λ (o : Option (SubscribeProps (List ℕ) List)). g.subscribe (record { ident = p .ident; props = o; filters = p .filters })) (set-list (subscribeProps (List ℕ) List asList) ps (subscribeSet h) (subscribe-set-back p ps (w .props .suits)) ∙ sym (w .props .is));
+    }
+
+-- ---- every packet that a sentence says
+
+ping-good : (k : ℕ) → Said (g.ping k) → Good (g.ping k) (ping k)
+unfolding restIs fieldsOf meant
+ping-good k w = record {
+  accepts = record {
+    countable = record { belongs = tt; fields = nil; rest = omega arith };
+    within = tt;
+    named = λ f. f;
+    numbers = nil;
+    asked = λ f. f;
+    fits = omega arith;
+  };
+  typed = w;
+  plain = tt;
+  means = refl;
+}
+
+pub good : (v : Packet) → Said v → Good v (handedOf v)
+unfolding handedOf
+good (g.publish p) w =
+    subst (λ (h : PublishHanded). Good (g.publish p) (publish h))
+    (sym (ap (withSet (publishFrom p) noPublish) (w .props .is) ∙ with-list (publishProps (List ℕ) List asList) (publishFrom p) noPublish publish-none (w .props .list)))
+    (publish-good p w)
+good (g.ack k p) w =
+    subst (λ (h : AckHanded). Good (g.ack k p) (ack k h))
+    (sym (ap (withSet (ackFrom p) noAck) (w .props .is) ∙ with-list (ackProps (List ℕ) List asList) (ackFrom p) noAck ack-none (w .props .list)))
+    (ack-good k p w)
+good (g.subscribe p) w =
+    subst (λ (h : SubscribeHanded). Good (g.subscribe p) (subscribe h))
+    (sym (ap (withSet (subscribeFrom p) noSubscribe) (w .props .is) ∙ with-list (subscribeProps (List ℕ) List asList) (subscribeFrom p) noSubscribe subscribe-none (w .props .list)))
+    (subscribe-good p w)
+good (g.ping k) w = ping-good k w
