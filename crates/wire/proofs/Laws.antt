@@ -2,5 +2,4 @@ pub mod Fixed
 pub mod Put
 pub mod Length
 pub mod Property
-pub mod Text
 pub mod Strings

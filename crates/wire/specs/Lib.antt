@@ -2,4 +2,3 @@ pub mod Told
 pub mod Length
 pub mod Property
 pub mod Qos
-pub mod Text

@@ -5,4 +5,3 @@ pub mod length;
 pub mod property;
 pub mod qos;
 pub mod string;
-pub mod text;

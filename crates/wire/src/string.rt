@@ -3,7 +3,6 @@
 use crate::fixed;
 use crate::got::GotSpan;
 use crate::got::GotU16;
-use crate::text;
 use records::error::Error;
 use records::span::Span;
 ghost use mathlib.Core.Path.{_≡_};
@@ -38,7 +37,7 @@ pub fn read_mqtt_string(s: &[u8], at: usize) -> GotSpan
     match read_mqtt_bytes(s, at) {
         GotSpan::Refused(e) => GotSpan::Refused(e),
         GotSpan::Value(p, next) => {
-            if text::is_utf8(part(s, p)) {
+            if utf8::is_utf8(part(s, p)) {
                 return GotSpan::Value(p, next);
             }
             GotSpan::Refused(Error::TopicNotUtf8)

@@ -1,11 +1,11 @@
--- `wire::text::pass_chars` meets its contract. The loop's invariant: the text goes on at `i`. Assumes nothing.
+-- `utf8::pass_chars` meets its contract. The loop's invariant: the text goes on at `i`. Assumes nothing.
 use Prim.Native.Nat.{_-_}
 use native.Mathlib.Omega.{arith}
 use lib.ListN.{length}
 use denote.Ref.{now}
-use Rattle.wire.proofs.Laws.Text.{stuck, went, Going, going-start, going-next, going-stuck}
-use Rattle.wire.proofs.text.pass_chars.Statement.{statement}
-use Rattle.wire.proofs.text.pass_chars.Tie as tie
+use Rattle.utf8.proofs.Laws.Text.{stuck, went, Going, going-start, going-next, going-stuck}
+use Rattle.utf8.proofs.pass_chars.Statement.{statement}
+use Rattle.utf8.proofs.pass_chars.Tie as tie
 
 abbrev Inv-loop : tie.InvT-loop
 Inv-loop s at end i₀ i = Going s at i

@@ -21,7 +21,7 @@ use Rattle.reading.specs.Read.{byteOf, followOf, restOf, charOf, isText}
 use Rattle.reading.proofs.Reading.{less, solid-map, solid-then}
 use Rattle.reading.proofs.Fields.{byte-solid, reads-char}
 use Rattle.positions.proofs.Walk.{Less, chain-nil, chain-bad, chain-next}
-use Rattle.wire.specs.Text.{dueOf, textAfter, Followed, Passed}
+use Rattle.utf8.specs.Text.{dueOf, textAfter, Followed, Passed}
 
 -- ---- a row of the table
 

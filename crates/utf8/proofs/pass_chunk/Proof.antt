@@ -1,13 +1,13 @@
--- `wire::text::pass_chunk` meets its contract: a chunk is passed at once if `is_ascii` says so, else by `pass_chars`. Assumes nothing.
+-- `utf8::pass_chunk` meets its contract: a chunk is passed at once if `is_ascii` says so, else by `pass_chars`. Assumes nothing.
 use mathlib.Core.Logic.{⊎-elim}
 use Prim.Native.Nat.{_≤_, _<_}
 use native.Mathlib.Omega.{arith}
 use borrow.Author.Needs.{needs}
 use lib.ListN.{length}
 use denote.Ref.{now}
-use Rattle.wire.proofs.Laws.Text.{went}
-use Rattle.wire.proofs.text.pass_chunk.Statement.{statement}
-use Rattle.wire.proofs.text.pass_chunk.Tie as tie
+use Rattle.utf8.proofs.Laws.Text.{went}
+use Rattle.utf8.proofs.pass_chunk.Statement.{statement}
+use Rattle.utf8.proofs.pass_chunk.Tie as tie
 
 sub-if1 : tie.Need-sub-if1
 sub-if1 c = search needs

@@ -1,4 +1,4 @@
--- `wire::text::is_ascii` meets its contract. The loop's invariant: if no byte so far has its top bit set, the text goes on at `i`.
+-- `utf8::is_ascii` meets its contract. The loop's invariant: if no byte so far has its top bit set, the text goes on at `i`.
 -- Assumes nothing.
 use mathlib.Core.Path.{_≡_, refl, _∙_}
 use Prim.Native.Nat.{_≤_, _<_, _-_}
@@ -7,9 +7,9 @@ use lib.ListN.{drop}
 use denote.Ref.{now}
 use borrow.Author.Tests.{ltb-true}
 use Rattle.reading.specs.Read.{isText}
-use Rattle.wire.proofs.Laws.Text.{ascii, both-low}
-use Rattle.wire.proofs.text.is_ascii.Statement.{statement}
-use Rattle.wire.proofs.text.is_ascii.Tie as tie
+use Rattle.utf8.proofs.Laws.Text.{ascii, both-low}
+use Rattle.utf8.proofs.is_ascii.Statement.{statement}
+use Rattle.utf8.proofs.is_ascii.Tie as tie
 
 abbrev Inv-loop : tie.InvT-loop
 Inv-loop s at end all₀ i₀ all i = (at ≤ i) × (i ≤ end) × (all < 128 → isText (drop at s) ≡ isText (drop i s))

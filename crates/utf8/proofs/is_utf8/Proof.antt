@@ -1,12 +1,12 @@
--- `wire::text::is_utf8` meets its contract. The loop's invariant: the text goes on at `i`; nothing is left at the end. Assumes nothing.
+-- `utf8::is_utf8` meets its contract. The loop's invariant: the text goes on at `i`; nothing is left at the end. Assumes nothing.
 use mathlib.Core.Path.{sym}
 use Prim.Native.Nat.{_-_}
 use native.Mathlib.Omega.{arith}
 use lib.ListN.{length}
 use denote.Ref.{now}
-use Rattle.wire.proofs.Laws.Text.{Going, going-start, going-next, going-stuck, going-end}
-use Rattle.wire.proofs.text.is_utf8.Statement.{statement}
-use Rattle.wire.proofs.text.is_utf8.Tie as tie
+use Rattle.utf8.proofs.Laws.Text.{Going, going-start, going-next, going-stuck, going-end}
+use Rattle.utf8.proofs.is_utf8.Statement.{statement}
+use Rattle.utf8.proofs.is_utf8.Tie as tie
 
 abbrev Inv-loop : tie.InvT-loop
 Inv-loop s i₀ i = Going s 0 i

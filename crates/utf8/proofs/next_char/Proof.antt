@@ -1,13 +1,13 @@
--- `wire::text::next_char` meets its contract: the first byte's row says what is to follow, and `follows` whether it does.
+-- `utf8::next_char` meets its contract: the first byte's row says what is to follow, and `follows` whether it does.
 -- Assumes nothing.
 use mathlib.Core.Path.{ap, sym, _∙_}
 use native.Mathlib.Omega.{arith}
 use borrow.Author.Needs.{needs}
 use denote.Ref.{now}
-use Rattle.wire.specs.Text.{toldLead}
-use Rattle.wire.proofs.Laws.Text.{no-char, char-whole, char-broken}
-use Rattle.wire.proofs.text.next_char.Statement.{statement}
-use Rattle.wire.proofs.text.next_char.Tie as tie
+use Rattle.utf8.specs.Text.{toldLead}
+use Rattle.utf8.proofs.Laws.Text.{no-char, char-whole, char-broken}
+use Rattle.utf8.proofs.next_char.Statement.{statement}
+use Rattle.utf8.proofs.next_char.Tie as tie
 
 shared-slice-read-begin : tie.Need-shared-slice-read-begin
 shared-slice-read-begin c = search needs

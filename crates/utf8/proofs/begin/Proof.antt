@@ -1,11 +1,11 @@
--- `wire::text::begin` meets its contract: each arm names the row of the table that its bytes lie in, and the gaps lie between rows.
+-- `utf8::begin` meets its contract: each arm names the row of the table that its bytes lie in, and the gaps lie between rows.
 -- Assumes nothing.
 use mathlib.Core.Path.{sym}
 use native.Mathlib.Omega.{arith}
 use Rattle.grammar.specs.Text.{rows}
-use Rattle.wire.proofs.Laws.Text.{row-at, no-row}
-use Rattle.wire.proofs.text.begin.Statement.{statement}
-use Rattle.wire.proofs.text.begin.Tie as tie
+use Rattle.utf8.proofs.Laws.Text.{row-at, no-row}
+use Rattle.utf8.proofs.begin.Statement.{statement}
+use Rattle.utf8.proofs.begin.Tie as tie
 
 returns : tie.Need-returns
 unfolding rows

@@ -8,8 +8,8 @@ use lib.ListN.{length, drop, replicate}
 use Rattle.grammar.specs.Text.{Range}
 use Rattle.reading.specs.Reader.{thenFit, manyFit, isGot}
 use Rattle.reading.specs.Read.{followOf, charOf, isText}
-use Rattle.wire.specs.declared.text.Lead.{Lead}
-use Rattle.wire.specs.declared.text.Lead.the-variants.{More, Nowhere}
+use Rattle.utf8.specs.declared.Lead.{Lead}
+use Rattle.utf8.specs.declared.Lead.the-variants.{More, Nowhere}
 
 -- n bytes, the first of them from low to high, and the others any that continue a character
 abbrev pub dueOf : ℕ → ℕ → ℕ → List Range

@@ -1,11 +1,11 @@
--- `wire::text::follows` meets its contract. The loop's invariant is `Following` of the laws, which has a law for each way that a turn
+-- `utf8::follows` meets its contract. The loop's invariant is `Following` of the laws, which has a law for each way that a turn
 -- can go. Assumes nothing.
 use Prim.Native.Nat.{_-_}
 use native.Mathlib.Omega.{arith}
 use denote.Ref.{now}
-use Rattle.wire.proofs.Laws.Text.{Following, follow-short, follow-start, follow-low, follow-high, follow-next, follow-end}
-use Rattle.wire.proofs.text.follows.Statement.{statement}
-use Rattle.wire.proofs.text.follows.Tie as tie
+use Rattle.utf8.proofs.Laws.Text.{Following, follow-short, follow-start, follow-low, follow-high, follow-next, follow-end}
+use Rattle.utf8.proofs.follows.Statement.{statement}
+use Rattle.utf8.proofs.follows.Tie as tie
 
 abbrev Inv-loop : tie.InvT-loop
 Inv-loop s at n low high lo₀ hi₀ i₀ lo hi i = Following s at n low high lo hi i

@@ -6,7 +6,7 @@ ghost use Prim.Native.Nat.{_+_, _≤_, _<_};
 ghost use lib.ListN.{length, drop};
 ghost use Rattle.grammar.specs.Text.{rows, rowAt};
 ghost use Rattle.reading.specs.Read.{isText};
-ghost use Rattle.wire.specs.Text.{toldLead, Followed, Passed};
+ghost use Rattle.utf8.specs.Text.{toldLead, Followed, Passed};
 
 // What is to follow a byte that begins a character.
 enum Lead {
