@@ -1,1 +1,2 @@
 pub mod Belong
+pub mod Size

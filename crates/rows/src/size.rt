@@ -5,10 +5,10 @@ use records::span::MaybeU16;
 use records::span::MaybeU32;
 use wire::length::len_len;
 ghost use mathlib.Core.Path.{_≡_};
-ghost use Prim.Native.Nat.{_+_};
+ghost use Prim.Native.Nat.{_+_, _≤_};
 ghost use Rattle.grammar.specs.Tables.{Form, u8, u16, u32, number, pair};
 ghost use Rattle.writing.specs.Handed.{several};
-ghost use Rattle.writing.specs.Size.{withLength, givenSize, cap};
+ghost use Rattle.writing.specs.Size.{lenLen, withLength, givenSize, cap};
 ghost use Rattle.rows.specs.Given.{givenU8, givenU16, givenU32, givenLent, givenPairs};
 
 const MOST: usize = 268435455;
@@ -30,6 +30,13 @@ pub fn with_length(n: usize) -> usize
     ensures { λ r. ⌜ r ≡ cap (withLength n) ⌝ }
 {
     add(len_len(n), n)
+}
+
+// An identifier byte, and the shortest spelling.
+fn number_size(n: u32) -> usize
+    ensures { λ r. ⌜ (r ≡ 1 + lenLen n) × (r ≤ 5) ⌝ }
+{
+    1 + len_len(n as usize)
 }
 
 pub fn one_size_u8(v: MaybeU8) -> usize
@@ -64,7 +71,7 @@ pub fn one_size_number(v: MaybeU32) -> usize
 {
     match v {
         MaybeU32::Absent => 0,
-        MaybeU32::Present(n) => add(1, len_len(n as usize)),
+        MaybeU32::Present(n) => number_size(n),
     }
 }
 
@@ -90,7 +97,7 @@ pub fn ids_size(ids: &[u32]) -> usize
     let mut n: usize = 0;
     let mut i: usize = 0;
     while i < ids.len() {
-        n = add(n, 1 + len_len(ids[i] as usize));
+        n = add(n, number_size(ids[i]));
         i = i + 1;
     }
     n

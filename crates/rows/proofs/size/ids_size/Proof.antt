@@ -1,59 +1,45 @@
+-- `rows::size::ids_size` is right since after each turn the identifiers before the i-th are counted. Assumes nothing.
+use Prim.Native.Nat.{_-_}
+use native.Mathlib.Omega.{arith}
+use borrow.Author.Needs.{needs}
+use lib.ListN.{length}
+use Rattle.rows.proofs.Laws.Size.{Counted, none-counted, one-counted, all-counted}
 use Rattle.rows.proofs.size.ids_size.Statement.{statement}
 use Rattle.rows.proofs.size.ids_size.Tie as tie
-use Rattle.rows.proofs.size.ids_size.Reads as reads
-use Rattle.rows.proofs.size.ids_size.Lts as lts
-use Rattle.rows.proofs.size.add.Reads as add-reads
-use Rattle.wire.proofs.length.len_len.Reads as len-len-reads
 
 abbrev Inv-loop : tie.InvT-loop
-Inv-loop ids n₀ i₀ n i = ?
+Inv-loop ids n₀ i₀ n i = Counted ids n i
 
 abbrev μ-loop : tie.MeasureT-loop
-μ-loop ids n₀ i₀ n i = ?
+μ-loop ids n₀ i₀ n i = length ids - i
 
--- src/size.rt:92:5
 loop-holds : tie.Need-loop-holds Inv-loop μ-loop
-loop-holds c = ?
+loop-holds c = none-counted _
 
--- src/size.rt:93:32
-mul-len-len : tie.Need-mul-len-len Inv-loop μ-loop
-mul-len-len c = ?
+mul-number-size : tie.Need-mul-number-size Inv-loop μ-loop
+mul-number-size c = omega arith
 
--- src/size.rt:93:32
-shared-slice-read-len-len : tie.Need-shared-slice-read-len-len Inv-loop μ-loop
-shared-slice-read-len-len c = ?
+shared-slice-read-number-size : tie.Need-shared-slice-read-number-size Inv-loop μ-loop
+shared-slice-read-number-size c = omega arith
 
--- src/size.rt:93:32
-cast-len-len : tie.Need-cast-len-len Inv-loop μ-loop
-cast-len-len c = ?
+number-size-requires : tie.Need-number-size-requires Inv-loop μ-loop
+number-size-requires c κs = search needs
 
--- src/size.rt:93:24
-len-len-requires : tie.Need-len-len-requires Inv-loop μ-loop
-len-len-requires c κs = ?
-
--- src/size.rt:93:20
-add-add : tie.Need-add-add Inv-loop μ-loop
-add-add c = ?
-
--- src/size.rt:93:9
 add-requires : tie.Need-add-requires Inv-loop μ-loop
-add-requires c κs = ?
+add-requires c κs = search needs
 
--- src/size.rt:94:13
 add-i : tie.Need-add-i Inv-loop μ-loop
-add-i c = ?
+add-i c = omega arith
 
--- src/size.rt:92:5
 loop-less : tie.Need-loop-less Inv-loop μ-loop
-loop-less c = ?
+loop-less c = omega arith
 
--- src/size.rt:92:5
 loop-again : tie.Need-loop-again Inv-loop μ-loop
-loop-again c = ?
+loop-again c =
+    one-counted (c .before .before .before .before .loop .inv) (c .before .before .before .loop-test .taken) _ _ (c .before .number-size .ensures .0) (c .add .ensures)
 
--- src/size.rt:87:1
 returns : tie.Need-returns Inv-loop μ-loop
-returns c = ?
+returns c = all-counted (c .before .loop .inv) (c .loop-test .left)
 
 pub ids-size-spec : {M : Type 1} → statement M
 ids-size-spec =
@@ -62,11 +48,9 @@ ids-size-spec =
     Inv-loop
     μ-loop
     loop-holds
-    mul-len-len
-    shared-slice-read-len-len
-    cast-len-len
-    len-len-requires
-    add-add
+    mul-number-size
+    shared-slice-read-number-size
+    number-size-requires
     add-requires
     add-i
     loop-less

@@ -1,40 +1,26 @@
+-- `rows::size::one_size_number` is right since it is the size of one identifier, or of none. Assumes nothing.
+use mathlib.Core.Path.{sym, _∙_}
+use native.Mathlib.Omega.{arith}
 use borrow.Author.Needs.{needs}
+use Rattle.writing.proofs.ForCode.{cap-small}
 use Rattle.rows.proofs.size.one_size_number.Statement.{statement}
 use Rattle.rows.proofs.size.one_size_number.Tie as tie
-use Rattle.rows.proofs.size.one_size_number.Reads as reads
-use Rattle.rows.proofs.size.one_size_number.Lts as lts
-use Rattle.rows.proofs.size.add.Reads as add-reads
-use Rattle.wire.proofs.length.len_len.Reads as len-len-reads
 
--- src/size.rt:66:29
 enum-told : tie.Need-enum-told
 enum-told c = search needs
 
--- src/size.rt:67:27
 enum-known-v : tie.Need-enum-known-v
 enum-known-v c = search needs
 
--- src/size.rt:67:48
-cast-len-len : tie.Need-cast-len-len
-cast-len-len c = search needs
+number-size-requires : tie.Need-number-size-requires
+number-size-requires c κs = search needs
 
--- src/size.rt:67:40
-len-len-requires : tie.Need-len-len-requires
-len-len-requires c κs = search needs
-
--- src/size.rt:67:33
-add-requires : tie.Need-add-requires
-add-requires c κs = search needs
-
--- src/size.rt:62:1
 returns : tie.Need-returns
-returns c = ?
+returns c = rw (c .enum-told .given .1)
 
--- src/size.rt:62:1
 returns-2 : tie.Need-returns-2
-returns-2 c = ?
+returns-2 c = rw (c .before .before .v .given .1, ← c .number-size .ensures .0) (sym (cap-small (c .number-size .result) (omega arith)))
 
 pub one-size-number-spec : {M : Type 1} → statement M
 one-size-number-spec =
-    tie.close
-    (tie.spec enum-told enum-known-v cast-len-len len-len-requires add-requires returns returns-2)
+    tie.close (tie.spec enum-told enum-known-v number-size-requires returns returns-2)

@@ -1,22 +1,22 @@
+-- `rows::size::with_length` is right since `len_len` counts the bytes of the number. Assumes nothing.
+use mathlib.Core.Path.{ap, _∙_}
+use Prim.Native.Nat.{ℕ, _+_}
 use borrow.Author.Needs.{needs}
+use Rattle.writing.specs.Size.{cap}
+use Rattle.writing.proofs.Sizes.{length-short}
 use Rattle.rows.proofs.size.with_length.Statement.{statement}
 use Rattle.rows.proofs.size.with_length.Tie as tie
-use Rattle.rows.proofs.size.with_length.Reads as reads
-use Rattle.rows.proofs.size.with_length.Lts as lts
-use Rattle.rows.proofs.size.add.Reads as add-reads
-use Rattle.wire.proofs.length.len_len.Reads as len-len-reads
 
--- src/size.rt:32:9
 len-len-requires : tie.Need-len-len-requires
 len-len-requires c κs = search needs
 
--- src/size.rt:32:5
 add-requires : tie.Need-add-requires
 add-requires c κs = search needs
 
--- src/size.rt:29:1
 returns : tie.Need-returns
-returns c = ?
+returns c =
+    let n : ℕ = c .before .before .args .n in
+    c .add .ensures ∙ ap (λ (k : ℕ). cap (k + n)) (c .before .len-len .ensures ∙ length-short n)
 
 pub with-length-spec : {M : Type 1} → statement M
 with-length-spec = tie.close (tie.spec len-len-requires add-requires returns)
