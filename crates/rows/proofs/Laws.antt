@@ -1,2 +1,4 @@
 pub mod Belong
 pub mod Size
+pub mod Run
+pub mod Test
