@@ -2,3 +2,4 @@ pub mod Belong
 pub mod Size
 pub mod Run
 pub mod Test
+pub mod Put

@@ -6,7 +6,7 @@ use mathlib.Core.List.{List, [], _∷_}
 use Prim.Native.Nat.{ℕ, _+_, _-_, _≤_, _<_, min}
 use native.Mathlib.Omega.{arith}
 use native.Mathlib.Numerals.{add-one}
-use lib.ListN.{length, take, drop, getD, length-drop, drop-of-length-le}
+use lib.ListN.{length, take, drop, getD, length-take, length-drop, drop-of-length-le}
 use lib.Seq.{take-all, take-nil, drop-cons}
 use Rattle.writing.specs.Lists.{beside}
 use Rattle.writing.specs.Handed.{Run, strings}
@@ -32,6 +32,13 @@ module _ (s : List ℕ) (at n : ℕ) where
       go : (at + n ≤ length s) ⊎ (length s < at + n) → take (end - at) (drop at s) ≡ take n (drop at s)
       go (inl l) = let f : end - at ≡ n = omega arith in rw f
       go (inr l) = rw (take-all (end - at) (drop at s) (omega (arith, length-drop at s)), take-all n (drop at s) (omega (arith, length-drop at s)))
+
+  module _ (h : at ≤ length s) where
+    pub piece-ends : (end : ℕ) → end ≡ min (at + n) (length s) → at + length (take n (drop at s)) ≡ end
+    piece-ends end e = omega (arith, length-take n (drop at s), length-drop at s)
+
+    pub piece-within : at + length (take n (drop at s)) ≤ length s
+    piece-within = omega (arith, length-take n (drop at s), length-drop at s)
 
 -- ---- the string at index i and place p; the rest of the run is from place q on
 
