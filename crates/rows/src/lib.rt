@@ -2,6 +2,6 @@
 // its size and its bytes. Writers are straight lines over these.
 pub mod belong;
 pub mod put;
-mod run;
+pub mod run;
 pub mod size;
 pub mod test;

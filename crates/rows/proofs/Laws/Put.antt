@@ -22,7 +22,7 @@ use Rattle.rows.specs.Put.{Put}
 use Rattle.rows.proofs.Laws.Run.{strings-cut}
 
 -- a place past the end is as good as the end
-sets-min : (l xs : List ℕ) (k : ℕ) → sets l (min k (length l)) xs ≡ sets l k xs
+pub sets-min : (l xs : List ℕ) (k : ℕ) → sets l (min k (length l)) xs ≡ sets l k xs
 sets-min l xs k = go (le-or k (length l))
   where
     go : (k ≤ length l) ⊎ (length l < k) → sets l (min k (length l)) xs ≡ sets l k xs
