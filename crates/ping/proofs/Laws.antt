@@ -1,7 +1,7 @@
 -- What is found of a ping, and its frame. Assumes nothing.
-use mathlib.Core.Path.{_≡_, refl, _∙_}
+use mathlib.Core.Path.{_≡_, refl}
 use mathlib.Core.Bool.{true}
-use mathlib.Core.List.{List, [], _∷_, append-nil}
+use mathlib.Core.List.{_∷_, append-nil}
 use Prim.Native.Nat.{ℕ}
 use Rattle.reading.specs.Reader.{got}
 use Rattle.writing.specs.Handed.{ping, belongs}

@@ -9,13 +9,13 @@ use lib.ListN.{length}
 use lib.Seq.{sets}
 use Rattle.grammar.specs.Choice.{pick}
 use Rattle.grammar.specs.Tables.{text, pair, ackPlace}
-use Rattle.reading.specs.Refusal.{Refusal, nr}
-use Rattle.reading.specs.Reader.{Fit, got, bad, _>>_, guard}
+use Rattle.reading.specs.Refusal.{Refusal}
+use Rattle.reading.specs.Reader.{got, bad, _>>_}
 use Rattle.writing.specs.Lists.{flat}
 use Rattle.writing.specs.Handed.{AckHanded, ack, lent, pairs, ackGiven, rowBelongs, belongs}
 use Rattle.writing.specs.Size.{most, withLength, givenSize, propsSize, isPlain, restIs, cap}
 use Rattle.writing.specs.Spell.{wide, short, rowBytes, propsBytes}
-use Rattle.writing.specs.Order.{judge, word, fieldTests, givenFields, fieldsOf}
+use Rattle.writing.specs.Order.{judge, word, fieldTests, givenFields}
 use Rattle.writing.specs.Write.{firstByte, frameBytes}
 use Rattle.writing.proofs.ForCode.{judgeAll, judge-if, ack-belongs, ack-tests, ack-sum, ack-frame, cap-small, cap-length}
 use Rattle.writing.proofs.Pins.{ack-props, first-bytes}
@@ -23,8 +23,8 @@ use Rattle.records.specs.declared.puback.PubAckReason.{PubAckReason}
 use Rattle.records.specs.Told.{toldReason}
 use Rattle.wire.proofs.Laws.Put.{length-wide, wide-one}
 use Rattle.rows.specs.Put.{Put}
-use Rattle.settle.specs.Found.{earlyOf, lateOf, Found}
-use Rattle.settle.proofs.Laws.{cap-left, cap-both, Upto, upto-start, upto-sets, upto-put, upto-last}
+use Rattle.settle.specs.Found.{earlyOf, lateOf}
+use Rattle.settle.proofs.Laws.{cap-left, cap-last, Upto, upto-start, upto-sets, upto-put, upto-last}
 
 and-true : (c : Bool) → (c && true) ≡ c
 and-true true = refl
@@ -38,10 +38,7 @@ module _ (h : AckHanded) where
   ack-both b c e f g = sym (ack-belongs 4 h ∙ rw (← e, f, ← g) (and-true c))
 
   pub ack-length : (a b r : ℕ) → a ≡ cap (givenSize text (lent (h .text))) → b ≡ cap (givenSize pair (pairs (h .user))) → r ≡ cap (a + b) → r ≡ cap (propsSize ackPlace (ackGiven h))
-  ack-length a b r e f g =
-      let z : givenSize pair (pairs (h .user)) + 0 ≡ givenSize pair (pairs (h .user)) = omega arith in
-      let q : propsSize ackPlace (ackGiven h) ≡ givenSize text (lent (h .text)) + givenSize pair (pairs (h .user)) = ack-sum h ∙ rw z in
-      g ∙ cap-both a b (givenSize text (lent (h .text))) (givenSize pair (pairs (h .user))) e f ∙ ap cap (sym q)
+  ack-length a b r e f g = g ∙ cap-last a b (givenSize text (lent (h .text))) (givenSize pair (pairs (h .user))) e f ∙ ap cap (sym (ack-sum h))
 
   -- ---- R
 
@@ -58,9 +55,6 @@ module _ (h : AckHanded) where
       i ∙ cap-left w (withLength n) 3 j ∙ rw (e, k)
 
   -- ---- 20 and the fields
-
-  pub early-foreign : (b : Bool) → b ≡ belongs (ack 4 h) → b ≡ false → bad (nr 20 []) ≡ earlyOf (ack 4 h)
-  early-foreign b e f = rw (← e, f)
 
   module _ (b : Bool) (e : b ≡ belongs (ack 4 h)) (f : b ≡ true) where
     tests : earlyOf (ack 4 h) ≡ (judge (flat fieldTests (givenFields text (lent (h .text)))) >> judgeAll (h .user))

@@ -23,7 +23,7 @@ ghost use Rattle.grammar.specs.Tables.{ackPlace};
 ghost use Rattle.writing.specs.Handed.{ack, ackGiven, belongs as belongsOf};
 ghost use Rattle.writing.specs.Spell.{short, propsBytes};
 ghost use Rattle.writing.specs.Size.{most, propsSize, isPlain, restIs, cap};
-ghost use Rattle.writing.specs.Write.{frameBytes, sizeOf, answerOf, Written as WrittenOf};
+ghost use Rattle.writing.specs.Write.{frameBytes, sizeOf, Written as WrittenOf};
 ghost use Rattle.records.specs.Told.{limitOf, toldReason};
 ghost use Rattle.records.specs.Answered.{toldSized, toldWritten};
 ghost use Rattle.rows.specs.Tested.{toldTested};

@@ -2,7 +2,7 @@
 use mathlib.Core.Path.{_≡_, refl, sym, ap, _∙_}
 use mathlib.Core.Bool.{Bool, true, false}
 use mathlib.Core.Option.{Option}
-use mathlib.Core.List.{List, [], _∷_, _++_}
+use mathlib.Core.List.{List, [], _++_}
 use Prim.Native.Nat.{ℕ, _+_, _≤_, _<_, min}
 use native.Mathlib.Omega.{arith}
 use lib.Dec.{leb}
@@ -64,6 +64,10 @@ module _ (h : Handed) where
     size-counted l =
         let i : m ≡ restIs h = rest-small (restIs h) m r l in
         rw (← e, ← i, leb-yes m most l)
+
+-- what does not belong together is refused before any field is tested
+pub early-foreign : (h : Handed) (b : Bool) → b ≡ belongs h → b ≡ false → bad (nr 20 []) ≡ earlyOf h
+early-foreign h b e f = rw (← e, f)
 
 module _ (limit : Option ℕ) (room : ℕ) (h : Handed) where
   -- what is left once R is known to be small
@@ -184,3 +188,9 @@ cap-both a b m n e f =
     let i : m + b ≡ b + m = omega arith in
     let j : n + m ≡ m + n = omega arith in
     cap-left a m b e ∙ ap cap i ∙ cap-left b n m f ∙ ap cap j
+
+-- the last of several
+pub cap-last : (a b m n : ℕ) → a ≡ cap m → b ≡ cap n → cap (a + b) ≡ cap (m + (n + 0))
+cap-last a b m n e f =
+    let i : n + 0 ≡ n = omega arith in
+    rw i (cap-both a b m n e f)

@@ -1,23 +1,23 @@
 -- What is found of a Subscribe, and its bytes. Assumes nothing.
 use mathlib.Core.Path.{_≡_, refl, sym, ap, _∙_}
 use mathlib.Core.Bool.{Bool, true, false, not, _&&_}
-use mathlib.Core.Option.{Option, none, some}
-use mathlib.Core.List.{List, [], _∷_, _++_, map, append-nil, append-assoc}
+use mathlib.Core.Option.{some}
+use mathlib.Core.List.{List, [], _∷_, _++_, map, append-assoc}
 use Prim.Native.Nat.{ℕ, _+_, _*_, _≤_, _<_, min}
 use native.Mathlib.Omega.{arith}
-use lib.Dec.{eqb, leb}
-use lib.ListN.{length, length-append}
-use lib.Seq.{sets, length-sets}
+use lib.Dec.{eqb}
+use lib.ListN.{length}
+use lib.Seq.{sets}
 use Rattle.grammar.specs.Choice.{isEmpty}
 use Rattle.grammar.specs.Tables.{number, pair, subscribePlace}
 use Rattle.reading.specs.Refusal.{Refusal, nr}
-use Rattle.reading.specs.Reader.{Fit, got, bad, _>>_, guard}
+use Rattle.reading.specs.Reader.{got, bad, _>>_, guard}
 use Rattle.reading.proofs.Lists.{leb-yes, leb-no}
 use Rattle.writing.specs.Lists.{flat}
 use Rattle.writing.specs.Handed.{SubscribeHanded, subscribe, one, pairs, addsUp, subscribeGiven, filters, filtersBelong, rowBelongs, belongs}
 use Rattle.writing.specs.Size.{most, withLength, givenSize, propsSize, restIs, cap}
 use Rattle.writing.specs.Spell.{wide, short, rowBytes, propsBytes, filterBytes}
-use Rattle.writing.specs.Order.{judge, fieldTests, filterField, fieldsOf, small, orNone}
+use Rattle.writing.specs.Order.{judge, fieldTests, filterField, small, orNone}
 use Rattle.writing.specs.Write.{firstByte, frameBytes}
 use Rattle.writing.proofs.ForCode.{judgeAll, subscribe-belongs, subscribe-tests, subscribe-sum, subscribe-frame, cap-small, cap-length}
 use Rattle.writing.proofs.Pins.{subscribe-props, first-bytes}
@@ -26,9 +26,9 @@ use Rattle.wire.proofs.Laws.Put.{length-wide}
 use Rattle.rows.specs.Given.{givenU32, filtersOf}
 use Rattle.rows.specs.Put.{Put}
 use Rattle.settle.specs.Behind.{Behind}
-use Rattle.settle.specs.Found.{earlyOf, lateOf, Found}
+use Rattle.settle.specs.Found.{earlyOf, lateOf}
 use Rattle.settle.specs.Number.{numberU32}
-use Rattle.settle.proofs.Laws.{cap-left, cap-both, Upto, upto-start, upto-sets, upto-put, upto-last, upto-behind}
+use Rattle.settle.proofs.Laws.{cap-left, cap-both, cap-last, Upto, upto-start, upto-sets, upto-put, upto-last, upto-behind}
 
 -- the identifier, as a row has it
 pub given-number : (v : MaybeU32) → givenU32 v ≡ one (numberU32 v)
@@ -101,10 +101,7 @@ module _ (h : SubscribeHanded) where
   -- ---- L and R
 
   pub subscribe-length : (a b r : ℕ) → a ≡ cap (givenSize number (one (h .subscription))) → b ≡ cap (givenSize pair (pairs (h .user))) → r ≡ cap (a + b) → r ≡ cap (propsSize subscribePlace (subscribeGiven h))
-  subscribe-length a b r e f g =
-      let z : givenSize pair (pairs (h .user)) + 0 ≡ givenSize pair (pairs (h .user)) = omega arith in
-      let q : propsSize subscribePlace (subscribeGiven h) ≡ givenSize number (one (h .subscription)) + givenSize pair (pairs (h .user)) = subscribe-sum h ∙ rw z in
-      g ∙ cap-both a b (givenSize number (one (h .subscription))) (givenSize pair (pairs (h .user))) e f ∙ ap cap (sym q)
+  subscribe-length a b r e f g = g ∙ cap-last a b (givenSize number (one (h .subscription))) (givenSize pair (pairs (h .user))) e f ∙ ap cap (sym (subscribe-sum h))
 
   pub subscribe-rest : (l w f a r : ℕ) → l ≡ cap (propsSize subscribePlace (subscribeGiven h)) → w ≡ cap (withLength l) → f ≡ cap (length (h .filters .bytes) + 3 * length (h .options))
       → a ≡ cap (w + f) → r ≡ cap (a + 2) → r ≡ cap (restIs (subscribe h))
@@ -117,9 +114,6 @@ module _ (h : SubscribeHanded) where
       k ∙ cap-left a (withLength n + t) 2 (j ∙ cap-both w f (withLength n) t p i) ∙ rw q
 
   -- ---- 20 and the fields
-
-  pub early-foreign : (b : Bool) → b ≡ belongs (subscribe h) → b ≡ false → bad (nr 20 []) ≡ earlyOf (subscribe h)
-  early-foreign b e f = rw (← e, f)
 
   module _ (b : Bool) (e : b ≡ belongs (subscribe h)) (f : b ≡ true) where
     tests : earlyOf (subscribe h) ≡ (judgeAll (h .user) >> judge (flat fieldTests (map filterField (filters h))))

@@ -4,10 +4,6 @@ use Rattle.reading.proofs.Lists.{not-true, not-false}
 use Rattle.puback_write.specs.Handed.{handed}
 use Rattle.puback_write.proofs.Laws.{ack-foreign, ack-both}
 use borrow.Author.Needs.{needs}
-use denote.Ref.{now}
-use Rattle.reading.proofs.Lists.{not-true, not-false}
-use Rattle.puback_write.specs.Handed.{handed}
-use Rattle.puback_write.proofs.Laws.{ack-foreign, ack-both}
 use Rattle.puback_write.proofs.belongs.Statement.{statement}
 use Rattle.puback_write.proofs.belongs.Tie as tie
 

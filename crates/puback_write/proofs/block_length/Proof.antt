@@ -4,10 +4,6 @@ use Rattle.grammar.specs.Tables.{text}
 use Rattle.puback_write.specs.Handed.{handed}
 use Rattle.puback_write.proofs.Laws.{ack-length}
 use borrow.Author.Needs.{needs}
-use denote.Ref.{now}
-use Rattle.grammar.specs.Tables.{text}
-use Rattle.puback_write.specs.Handed.{handed}
-use Rattle.puback_write.proofs.Laws.{ack-length}
 use Rattle.puback_write.proofs.block_length.Statement.{statement}
 use Rattle.puback_write.proofs.block_length.Tie as tie
 

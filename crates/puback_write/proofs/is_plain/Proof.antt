@@ -2,8 +2,6 @@
 use Rattle.records.specs.Told.{toldReason}
 use Rattle.puback_write.proofs.Laws.{plain-block, plain-reason}
 use borrow.Author.Needs.{needs}
-use Rattle.records.specs.Told.{toldReason}
-use Rattle.puback_write.proofs.Laws.{plain-block, plain-reason}
 use Rattle.puback_write.proofs.is_plain.Statement.{statement}
 use Rattle.puback_write.proofs.is_plain.Tie as tie
 

@@ -5,11 +5,6 @@ use Rattle.reading.proofs.Lists.{not-true, not-false}
 use Rattle.puback_write.specs.Handed.{handed}
 use Rattle.puback_write.proofs.Laws.{length-small, put-plain, put-full}
 use borrow.Author.Needs.{needs}
-use mathlib.Core.Path.{sym, _∙_}
-use denote.Ref.{now}
-use Rattle.reading.proofs.Lists.{not-true, not-false}
-use Rattle.puback_write.specs.Handed.{handed}
-use Rattle.puback_write.proofs.Laws.{length-small, put-plain, put-full}
 use Rattle.puback_write.proofs.put.Statement.{statement}
 use Rattle.puback_write.proofs.put.Tie as tie
 
@@ -38,7 +33,8 @@ same-length : tie.Need-same-length
 same-length c = search needs
 
 returns : tie.Need-returns
-returns c = let a = c .before .before .before .before .before .before .before .before .before .before .before .before .before .before .before .before .before .before .before .before .before .args in
+returns c =
+    let a = c .before .before .before .before .before .before .before .before .before .before .before .before .before .before .before .before .before .before .before .before .before .args in
     let p = sym (c .before .before .before .before .before .before .is-plain .ensures) ∙ not-true _ (c .before .before .before .before .before .if1 .taken) in
     λ e s. put-full (handed (a .m) (now (a .reason-string)) (now (a .user)) (now (a .user-lengths))) (now (a .out)) _ _ _ _ _ (c .before .before .before .before .before .before .before .before .before .before .before .before .before .before .before .before .rest .ensures) (c .before .before .before .before .before .before .before .before .before .before .before .before .before .before .put-header .ensures) (c .before .before .before .before .before .before .before .before .before .before .before .after .ensures) (c .before .before .before .before .before .before .before .before .before .put-u16 .ensures) e s
     p _ _ (c .before .before .before .before .after2 .ensures) (c .before .before .put-block .ensures (length-small (handed (a .m) (now (a .reason-string)) (now (a .user)) (now (a .user-lengths))) p s))
@@ -47,7 +43,8 @@ same-length-2 : tie.Need-same-length-2
 same-length-2 c = search needs
 
 returns-2 : tie.Need-returns-2
-returns-2 c = let a = c .before .before .before .before .before .before .before .before .before .before .before .before .before .before .before .before .args in
+returns-2 c =
+    let a = c .before .before .before .before .before .before .before .before .before .before .before .before .before .before .before .before .args in
     λ e s. put-plain (handed (a .m) (now (a .reason-string)) (now (a .user)) (now (a .user-lengths))) (now (a .out)) _ _ _ _ _ (c .before .before .before .before .before .before .before .before .before .before .before .rest .ensures) (c .before .before .before .before .before .before .before .before .before .put-header .ensures) (c .before .before .before .before .before .before .after .ensures) (c .before .before .before .before .put-u16 .ensures) e s
     (sym (c .before .is-plain .ensures) ∙ not-false _ (c .if1 .left))
 

@@ -1,6 +1,5 @@
 -- `puback_write::put_block` is right since each row is put behind the one before it. Assumes nothing.
 use mathlib.Core.Path.{ap, _∙_}
-use mathlib.Core.List.{List}
 use Prim.Native.Nat.{ℕ}
 use lib.Seq.{sets}
 use denote.Ref.{now}
@@ -9,15 +8,6 @@ use Rattle.writing.specs.Spell.{wide}
 use Rattle.puback_write.specs.Handed.{handed}
 use Rattle.puback_write.proofs.Laws.{put-behind, reason-small}
 use borrow.Author.Needs.{needs}
-use mathlib.Core.Path.{ap, _∙_}
-use mathlib.Core.List.{List}
-use Prim.Native.Nat.{ℕ}
-use lib.Seq.{sets}
-use denote.Ref.{now}
-use Rattle.grammar.specs.Tables.{text}
-use Rattle.writing.specs.Spell.{wide}
-use Rattle.puback_write.specs.Handed.{handed}
-use Rattle.puback_write.proofs.Laws.{put-behind, reason-small}
 use Rattle.puback_write.proofs.put_block.Statement.{statement}
 use Rattle.puback_write.proofs.put_block.Tie as tie
 
@@ -52,7 +42,8 @@ same-length : tie.Need-same-length
 same-length c = search needs
 
 returns : tie.Need-returns
-returns c = let a = c .before .before .before .before .before .before .before .before .before .before .before .before .before .before .before .before .before .before .before .before .before .before .before .before .before .args in
+returns c =
+    let a = c .before .before .before .before .before .before .before .before .before .before .before .before .before .before .before .before .before .before .before .before .before .before .before .before .before .args in
     put-behind (handed (a .m) (now (a .reason-string)) (now (a .user)) (now (a .user-lengths))) (now (a .out)) _ _ _ _ (a .at) _ _ _ _ _ _ _ (c .before .before .before .before .before .before .before .before .before .before .before .before .before .before .before .before .before .before .before .before .block-length .ensures) (reason-small (a .m .reason))
     (c .before .before .before .before .before .before .before .before .before .before .before .before .before .before .before .before .before .put-u8 .ensures ∙ ap (λ (n : ℕ). sets (now (a .out)) (a .at) (wide 1 n)) (c .before .before .before .before .before .before .before .before .before .before .before .before .before .before .before .before .before .before .reason-code .ensures)) (c .before .before .before .before .before .before .before .before .before .before .before .before .before .before .after .ensures)
     (c .before .before .before .before .before .before .before .before .before .before .before .before .write-remaining-length .ensures) (c .before .before .before .before .before .before .before .before .before .after2 .ensures)

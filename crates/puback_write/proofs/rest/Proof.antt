@@ -4,10 +4,6 @@ use denote.Ref.{now}
 use Rattle.puback_write.specs.Handed.{handed}
 use Rattle.puback_write.proofs.Laws.{rest-plain, rest-full}
 use borrow.Author.Needs.{needs}
-use mathlib.Core.Path.{sym, _∙_}
-use denote.Ref.{now}
-use Rattle.puback_write.specs.Handed.{handed}
-use Rattle.puback_write.proofs.Laws.{rest-plain, rest-full}
 use Rattle.puback_write.proofs.rest.Statement.{statement}
 use Rattle.puback_write.proofs.rest.Tie as tie
 

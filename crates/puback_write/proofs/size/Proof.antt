@@ -3,9 +3,6 @@ use denote.Ref.{now}
 use Rattle.writing.specs.Handed.{ack}
 use Rattle.puback_write.specs.Handed.{handed}
 use borrow.Author.Needs.{needs}
-use denote.Ref.{now}
-use Rattle.writing.specs.Handed.{ack}
-use Rattle.puback_write.specs.Handed.{handed}
 use Rattle.puback_write.proofs.size.Statement.{statement}
 use Rattle.puback_write.proofs.size.Tie as tie
 

@@ -13,17 +13,20 @@ len-len-requires : tie.Need-len-len-requires
 len-len-requires c κs = search needs
 
 add-result : tie.Need-add-result
-add-result c = let n : ℕ = c .before .args .rest in
+add-result c =
+    let n : ℕ = c .before .args .rest in
     let e : c .len-len .result ≡ lenLen n = c .len-len .ensures ∙ length-short n in
     omega (arith, len-len-most n)
 
 add-result-2 : tie.Need-add-result-2
-add-result-2 c = let n : ℕ = c .before .args .rest in
+add-result-2 c =
+    let n : ℕ = c .before .args .rest in
     let e : c .len-len .result ≡ lenLen n = c .len-len .ensures ∙ length-short n in
     omega (arith, len-len-most n)
 
 returns : tie.Need-returns
-returns c = let n : ℕ = c .before .args .rest in
+returns c =
+    let n : ℕ = c .before .args .rest in
     let e : c .len-len .result ≡ lenLen n = c .len-len .ensures ∙ length-short n in
     omega (arith, len-len-most n)
 

@@ -1,8 +1,7 @@
 -- `settle::size` is right since it makes the two tests of a size asked alone. Assumes nothing.
-use mathlib.Core.Path.{sym, ap, _∙_}
+use mathlib.Core.Path.{sym, _∙_}
 use native.Mathlib.Omega.{arith}
 use Rattle.reading.proofs.Lists.{not-true, not-false}
-use Rattle.records.specs.Told.{limitOf}
 use Rattle.settle.proofs.Laws.{size-foreign, size-long, size-counted}
 use borrow.Author.Needs.{needs}
 use Rattle.settle.proofs.size.Statement.{statement}

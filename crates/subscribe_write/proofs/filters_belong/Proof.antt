@@ -1,11 +1,7 @@
 -- `subscribe_write::filters_belong` is right since the lengths add up to the bytes, and there are as many as options. Assumes nothing.
-use denote.Ref.{now}
 use Rattle.reading.proofs.Lists.{not-true, not-false}
 use Rattle.subscribe_write.proofs.Laws.{and-no, and-yes}
 use borrow.Author.Needs.{needs}
-use denote.Ref.{now}
-use Rattle.reading.proofs.Lists.{not-true, not-false}
-use Rattle.subscribe_write.proofs.Laws.{and-no, and-yes}
 use Rattle.subscribe_write.proofs.filters_belong.Statement.{statement}
 use Rattle.subscribe_write.proofs.filters_belong.Tie as tie
 

@@ -3,9 +3,6 @@ use lib.ListN.{length}
 use denote.Ref.{now}
 use Rattle.subscribe_write.proofs.Laws.{filters-sum}
 use borrow.Author.Needs.{needs}
-use lib.ListN.{length}
-use denote.Ref.{now}
-use Rattle.subscribe_write.proofs.Laws.{filters-sum}
 use Rattle.subscribe_write.proofs.filters_size.Statement.{statement}
 use Rattle.subscribe_write.proofs.filters_size.Tie as tie
 

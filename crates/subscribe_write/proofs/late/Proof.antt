@@ -5,11 +5,6 @@ use Rattle.rows.specs.Tested.{toldTested}
 use Rattle.subscribe_write.specs.Handed.{handed}
 use Rattle.subscribe_write.proofs.Laws.{late-number, late-asked}
 use borrow.Author.Needs.{needs}
-use mathlib.Core.Path.{sym, ap, _∙_}
-use denote.Ref.{now}
-use Rattle.rows.specs.Tested.{toldTested}
-use Rattle.subscribe_write.specs.Handed.{handed}
-use Rattle.subscribe_write.proofs.Laws.{late-number, late-asked}
 use Rattle.subscribe_write.proofs.late.Statement.{statement}
 use Rattle.subscribe_write.proofs.late.Tie as tie
 
@@ -26,11 +21,13 @@ test-asked-requires : tie.Need-test-asked-requires
 test-asked-requires c κs = search needs
 
 returns : tie.Need-returns
-returns c = let a = c .before .before .before .before .before .before .args in
+returns c =
+    let a = c .before .before .before .before .before .before .args in
     λ us ls fs. late-number (handed (a .m) us ls fs (now (a .filter-lengths)) (now (a .options))) _ (sym (ap toldTested (c .before .e .given .1)) ∙ c .before .before .before .test-id .ensures)
 
 returns-2 : tie.Need-returns-2
-returns-2 c = let a = c .before .before .before .before .before .before .args in
+returns-2 c =
+    let a = c .before .before .before .before .before .before .args in
     λ us ls fs. c .test-asked .ensures fs ∙ late-asked (handed (a .m) us ls fs (now (a .filter-lengths)) (now (a .options))) (sym (ap toldTested (c .before .enum-told .given .1)) ∙ c .before .before .before .test-id .ensures)
 
 pub late-spec : {M : Type 1} → statement M

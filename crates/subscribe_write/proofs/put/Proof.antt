@@ -3,9 +3,6 @@ use denote.Ref.{now}
 use Rattle.subscribe_write.specs.Handed.{handed}
 use Rattle.subscribe_write.proofs.Laws.{put-frame}
 use borrow.Author.Needs.{needs}
-use denote.Ref.{now}
-use Rattle.subscribe_write.specs.Handed.{handed}
-use Rattle.subscribe_write.proofs.Laws.{put-frame}
 use Rattle.subscribe_write.proofs.put.Statement.{statement}
 use Rattle.subscribe_write.proofs.put.Tie as tie
 
@@ -34,7 +31,8 @@ same-length : tie.Need-same-length
 same-length c = search needs
 
 returns : tie.Need-returns
-returns c = let a = c .before .before .before .before .before .before .before .before .before .before .before .before .before .before .before .before .before .before .before .before .before .before .before .before .before .args in
+returns c =
+    let a = c .before .before .before .before .before .before .before .before .before .before .before .before .before .before .before .before .before .before .before .before .before .before .before .before .before .args in
     put-frame (handed (a .m) (now (a .user)) (now (a .user-lengths)) (now (a .filters)) (now (a .filter-lengths)) (now (a .options))) (now (a .out)) _ _ _ _ _ _ _ _ _ _ (c .before .before .before .before .before .before .before .before .before .before .before .before .before .before .before .before .before .before .rest .ensures (now (a .filter-lengths)))
     (c .before .before .before .before .before .before .before .before .before .before .before .before .before .before .before .before .put-header .ensures) (c .before .before .before .before .before .before .before .before .before .before .before .before .before .after .ensures)
     (c .before .before .before .before .before .before .before .before .before .before .before .put-u16 .ensures) (c .before .before .before .before .before .before .before .before .after2 .ensures)

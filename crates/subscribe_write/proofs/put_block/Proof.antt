@@ -3,9 +3,6 @@ use denote.Ref.{now}
 use Rattle.subscribe_write.specs.Handed.{handed}
 use Rattle.subscribe_write.proofs.Laws.{put-given, put-rows}
 use borrow.Author.Needs.{needs}
-use denote.Ref.{now}
-use Rattle.subscribe_write.specs.Handed.{handed}
-use Rattle.subscribe_write.proofs.Laws.{put-given, put-rows}
 use Rattle.subscribe_write.proofs.put_block.Statement.{statement}
 use Rattle.subscribe_write.proofs.put_block.Tie as tie
 
@@ -34,7 +31,8 @@ same-length : tie.Need-same-length
 same-length c = search needs
 
 returns : tie.Need-returns
-returns c = let a = c .before .before .before .before .before .before .before .before .before .before .before .before .before .before .before .before .before .before .before .args in
+returns c =
+    let a = c .before .before .before .before .before .before .before .before .before .before .before .before .before .before .before .before .before .before .before .args in
     λ fs ns os. put-rows (handed (a .m) (now (a .user)) (now (a .user-lengths)) fs ns os) (now (a .out)) _ _ _ (a .at) _ _ _ _ _ _ _ (c .before .before .before .before .before .before .before .before .before .before .before .before .before .before .before .block-length .ensures fs ns os)
     (c .before .before .before .before .before .before .before .before .before .before .before .before .before .write-remaining-length .ensures) (c .before .before .before .before .before .before .before .before .before .before .after .ensures)
     (put-given (a .m .id) _ _ _ 11 _ (c .before .before .before .before .before .before .before .before .put-number-if .ensures)) (c .before .before .before .before .before .after2 .ensures)

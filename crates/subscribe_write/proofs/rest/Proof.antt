@@ -3,9 +3,6 @@ use denote.Ref.{now}
 use Rattle.subscribe_write.specs.Handed.{handed}
 use Rattle.subscribe_write.proofs.Laws.{subscribe-rest}
 use borrow.Author.Needs.{needs}
-use denote.Ref.{now}
-use Rattle.subscribe_write.specs.Handed.{handed}
-use Rattle.subscribe_write.proofs.Laws.{subscribe-rest}
 use Rattle.subscribe_write.proofs.rest.Statement.{statement}
 use Rattle.subscribe_write.proofs.rest.Tie as tie
 
@@ -25,7 +22,8 @@ add-requires-2 : tie.Need-add-requires-2
 add-requires-2 c κs = search needs
 
 returns : tie.Need-returns
-returns c = let a = c .before .before .before .before .before .before .before .before .before .args in
+returns c =
+    let a = c .before .before .before .before .before .before .before .before .before .args in
     λ ns. subscribe-rest (handed (a .m) (now (a .user)) (now (a .user-lengths)) (now (a .filters)) ns (now (a .options))) _ _ _ _ _ (c .before .before .before .before .block-length .ensures (now (a .filters)) ns (now (a .options))) (c .before .before .before .with-length .ensures) (c .before .before .filters-size .ensures) (c .before .add .ensures) (c .add2 .ensures)
 
 pub rest-spec : {M : Type 1} → statement M

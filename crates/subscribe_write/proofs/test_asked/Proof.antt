@@ -1,8 +1,6 @@
 -- `subscribe_write::test_asked` is right since a filter has a length and an options byte. Assumes nothing.
 use denote.Ref.{now}
 use Rattle.subscribe_write.proofs.Laws.{no-lengths, no-options, some-filter}
-use denote.Ref.{now}
-use Rattle.subscribe_write.proofs.Laws.{no-lengths, no-options, some-filter}
 use Rattle.subscribe_write.proofs.test_asked.Statement.{statement}
 use Rattle.subscribe_write.proofs.test_asked.Tie as tie
 

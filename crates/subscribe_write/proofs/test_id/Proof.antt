@@ -3,9 +3,6 @@ use native.Mathlib.Omega.{arith}
 use Rattle.writing.specs.Order.{judge}
 use Rattle.subscribe_write.proofs.Laws.{number-large, number-fine}
 use borrow.Author.Needs.{needs}
-use native.Mathlib.Omega.{arith}
-use Rattle.writing.specs.Order.{judge}
-use Rattle.subscribe_write.proofs.Laws.{number-large, number-fine}
 use Rattle.subscribe_write.proofs.test_id.Statement.{statement}
 use Rattle.subscribe_write.proofs.test_id.Tie as tie
 

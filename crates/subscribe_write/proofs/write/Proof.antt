@@ -7,13 +7,6 @@ use Rattle.records.specs.Answered.{toldWritten}
 use Rattle.settle.proofs.Laws.{none-written, all-written}
 use Rattle.subscribe_write.specs.Handed.{handed}
 use borrow.Author.Needs.{needs}
-use mathlib.Core.Path.{sym, ap, _∙_}
-use denote.Ref.{now}
-use Rattle.writing.specs.Handed.{subscribe}
-use Rattle.records.specs.Told.{limitOf}
-use Rattle.records.specs.Answered.{toldWritten}
-use Rattle.settle.proofs.Laws.{none-written, all-written}
-use Rattle.subscribe_write.specs.Handed.{handed}
 use Rattle.subscribe_write.proofs.write.Statement.{statement}
 use Rattle.subscribe_write.proofs.write.Tie as tie
 
@@ -39,7 +32,8 @@ put-requires : tie.Need-put-requires
 put-requires c κs = search needs
 
 returns : tie.Need-returns
-returns c = let a = c .before .before .before .before .before .before .before .before .before .before .before .before .before .args in
+returns c =
+    let a = c .before .before .before .before .before .before .before .before .before .before .before .before .before .args in
     none-written (limitOf (a .limit)) (subscribe (handed (a .m) (now (a .user)) (now (a .user-lengths)) (now (a .filters)) (now (a .filter-lengths)) (now (a .options)))) (now (a .out)) _
     (sym (ap toldWritten (c .before .e .given .1)) ∙ c .before .before .before .settle .ensures (subscribe (handed (a .m) (now (a .user)) (now (a .user-lengths)) (now (a .filters)) (now (a .filter-lengths)) (now (a .options)))) (record { early = c .before .before .before .before .before .before .early .ensures; rest = c .before .before .before .before .before .rest .ensures (now (a .filter-lengths)); late = c .before .before .before .before .late .ensures (now (a .user)) (now (a .user-lengths)) (now (a .filters)) }))
 
@@ -47,7 +41,8 @@ same-length : tie.Need-same-length
 same-length c = search needs
 
 returns-2 : tie.Need-returns-2
-returns-2 c = let a = c .before .before .before .before .before .before .before .before .before .before .before .before .before .before .before .before .before .args in
+returns-2 c =
+    let a = c .before .before .before .before .before .before .before .before .before .before .before .before .before .before .before .before .before .args in
     all-written (limitOf (a .limit)) (subscribe (handed (a .m) (now (a .user)) (now (a .user-lengths)) (now (a .filters)) (now (a .filter-lengths)) (now (a .options)))) (now (a .out)) _
     (sym (ap toldWritten (c .before .before .before .before .before .n .given .1)) ∙ c .before .before .before .before .before .before .before .settle .ensures (subscribe (handed (a .m) (now (a .user)) (now (a .user-lengths)) (now (a .filters)) (now (a .filter-lengths)) (now (a .options)))) (record { early = c .before .before .before .before .before .before .before .before .before .before .early .ensures; rest = c .before .before .before .before .before .before .before .before .before .rest .ensures (now (a .filter-lengths)); late = c .before .before .before .before .before .before .before .before .late .ensures (now (a .user)) (now (a .user-lengths)) (now (a .filters)) })) _ (c .before .before .put .ensures)
 
