@@ -1,0 +1,18 @@
+-- `ping::write_ping_resp` is right since its first byte is that of a PingResp. Assumes nothing.
+use mathlib.Core.Path.{sym}
+use Rattle.writing.proofs.Pins.{first-bytes}
+use borrow.Author.Needs.{needs}
+use Rattle.ping.proofs.write_ping_resp.Statement.{statement}
+use Rattle.ping.proofs.write_ping_resp.Tie as tie
+
+write-ping-requires : tie.Need-write-ping-requires
+write-ping-requires c κs = search needs
+
+same-length : tie.Need-same-length
+same-length c = search needs
+
+returns : tie.Need-returns
+returns c = c .before .before .write-ping .ensures _ (sym (first-bytes .3))
+
+pub write-ping-resp-spec : {M : Type 1} → statement M
+write-ping-resp-spec = tie.close (tie.spec write-ping-requires same-length returns)

@@ -1,0 +1,42 @@
+// PingReq and PingResp, written: two bytes each. The crate's ping.rs is not in the text.
+use records::answer::Limit;
+use records::answer::Sized;
+use records::answer::Written;
+use rows::test::Tested;
+ghost use mathlib.Core.Path.{_≡_};
+ghost use Prim.Native.Nat.{ℕ};
+ghost use Rattle.writing.specs.Handed.{ping};
+ghost use Rattle.writing.specs.Write.{firstOf, sizeOf, Written as WrittenOf};
+ghost use Rattle.records.specs.Told.{limitOf};
+ghost use Rattle.records.specs.Answered.{toldSized, toldWritten};
+
+// Of either ping.
+pub fn ping_size() -> Sized
+    ensures { λ r. ⌜ ((k : ℕ) → toldSized r ≡ sizeOf (ping k)) ⌝ }
+{
+    settle::size(true, 0)
+}
+
+fn write_ping(out: &mut [u8], first: u8, limit: Limit) -> Written
+    ensures { λ r. ⌜ ((k : ℕ) → first ≡ firstOf k → WrittenOf (limitOf limit) (ping k) (now (out .entry)) (now (out .exit)) (toldWritten r)) ⌝ }
+{
+    match settle::settle(Tested::Fine, 0, limit, Tested::Fine, out.len()) {
+        Written::Refused(e) => Written::Refused(e),
+        Written::Size(n) => {
+            settle::put_header(&mut *out, first, 0);
+            Written::Size(n)
+        }
+    }
+}
+
+pub fn write_ping_req(out: &mut [u8], limit: Limit) -> Written
+    ensures { λ r. ⌜ WrittenOf (limitOf limit) (ping 12) (now (out .entry)) (now (out .exit)) (toldWritten r) ⌝ }
+{
+    write_ping(&mut *out, 0xC0, limit)
+}
+
+pub fn write_ping_resp(out: &mut [u8], limit: Limit) -> Written
+    ensures { λ r. ⌜ WrittenOf (limitOf limit) (ping 13) (now (out .entry)) (now (out .exit)) (toldWritten r) ⌝ }
+{
+    write_ping(&mut *out, 0xD0, limit)
+}

@@ -1,0 +1,163 @@
+// A PubAck, written, after `write` and `size` of puback.rs: first every refusal and the size, touching nothing, then the bytes. A plain
+// success is four bytes.
+use records::answer::Limit;
+use records::answer::Sized;
+use records::answer::Written;
+use records::error::Error;
+use records::puback::PubAckReason;
+use records::puback::reason_code;
+use rows::belong;
+use rows::put;
+use rows::run;
+use rows::size;
+use rows::test;
+use rows::test::Tested;
+use wire::fixed;
+use wire::length::write_remaining_length;
+ghost use mathlib.Core.Path.{_≡_};
+ghost use mathlib.Core.Bool.{true};
+ghost use mathlib.Core.List.{[], _∷_, _++_};
+ghost use Prim.Native.Nat.{_≤_};
+ghost use lib.Seq.{sets};
+ghost use Rattle.grammar.specs.Tables.{ackPlace};
+ghost use Rattle.writing.specs.Handed.{ack, ackGiven, belongs as belongsOf};
+ghost use Rattle.writing.specs.Spell.{short, propsBytes};
+ghost use Rattle.writing.specs.Size.{most, propsSize, isPlain, restIs, cap};
+ghost use Rattle.writing.specs.Write.{frameBytes, sizeOf, Written as WrittenOf};
+ghost use Rattle.records.specs.Told.{limitOf, toldReason};
+ghost use Rattle.records.specs.Answered.{toldSized, toldWritten};
+ghost use Rattle.rows.specs.Tested.{toldTested};
+ghost use Rattle.settle.specs.Found.{earlyOf};
+ghost use Rattle.puback_write.specs.Handed.{handed};
+
+// What is handed over by value; the reason string and the user properties are lent beside it.
+pub struct PubAckHead {
+    pub pkid: u16,
+    pub reason: PubAckReason,
+    // whether there are properties
+    pub block: bool,
+    // whether there is a reason string
+    pub reason_string: bool,
+}
+
+// 20
+fn belongs(m: PubAckHead, reason_string: &[u8], user: &[u8], user_lengths: &[usize]) -> bool
+    ensures { λ r. ⌜ r ≡ belongsOf (ack 4 (handed m (now («reason_string» .entry)) (now (user .entry)) (now («user_lengths» .entry)))) ⌝ }
+{
+    if !belong::lent_belongs(m.block, m.reason_string, reason_string) {
+        return false;
+    }
+    belong::pairs_belong(m.block, user, user_lengths)
+}
+
+// L, cut off where it is too large.
+fn block_length(m: PubAckHead, reason_string: &[u8], user: &[u8], user_lengths: &[usize]) -> usize
+    ensures { λ r. ⌜ r ≡ cap (propsSize ackPlace (ackGiven (handed m (now («reason_string» .entry)) (now (user .entry)) (now («user_lengths» .entry))))) ⌝ }
+{
+    size::add(
+        size::lent_size(m.reason_string, reason_string),
+        size::pairs_size(user, user_lengths),
+    )
+}
+
+fn is_plain(m: PubAckHead) -> bool
+    ensures { λ r. ⌜ r ≡ isPlain (handed m [] [] []) ⌝ }
+{
+    if m.block {
+        return false;
+    }
+    let reason = m.reason;
+    reason_code(reason) == 0
+}
+
+// R, cut off where it is too large.
+fn rest(m: PubAckHead, reason_string: &[u8], user: &[u8], user_lengths: &[usize]) -> usize
+    ensures { λ r. ⌜ r ≡ cap (restIs (ack 4 (handed m (now («reason_string» .entry)) (now (user .entry)) (now («user_lengths» .entry))))) ⌝ }
+{
+    if is_plain(m) {
+        return 2;
+    }
+    size::add(
+        size::with_length(block_length(m, reason_string, user, user_lengths)),
+        3,
+    )
+}
+
+pub fn size(m: PubAckHead, reason_string: &[u8], user: &[u8], user_lengths: &[usize]) -> Sized
+    ensures { λ r. ⌜ toldSized r ≡ sizeOf (ack 4 (handed m (now («reason_string» .entry)) (now (user .entry)) (now («user_lengths» .entry)))) ⌝ }
+{
+    settle::size(
+        belongs(m, reason_string, user, user_lengths),
+        rest(m, reason_string, user, user_lengths),
+    )
+}
+
+// 20, then the fields.
+fn early(m: PubAckHead, reason_string: &[u8], user: &[u8], user_lengths: &[usize]) -> Tested
+    ensures { λ r. ⌜ toldTested r ≡ earlyOf (ack 4 (handed m (now («reason_string» .entry)) (now (user .entry)) (now («user_lengths» .entry)))) ⌝ }
+{
+    if !belongs(m, reason_string, user, user_lengths) {
+        return Tested::Refused(Error::ListMismatch);
+    }
+    match test::test_text(m.reason_string, reason_string) {
+        Tested::Refused(e) => Tested::Refused(e),
+        Tested::Fine => test::test_words(user, user_lengths),
+    }
+}
+
+// The reason, L and the properties.
+fn put_block(
+    out: &mut [u8],
+    at: usize,
+    m: PubAckHead,
+    reason_string: &[u8],
+    user: &[u8],
+    user_lengths: &[usize],
+)
+    ensures { λ r. ⌜ (propsSize ackPlace (ackGiven (handed m (now («reason_string» .entry)) (now (user .entry)) (now («user_lengths» .entry)))) ≤ most → now (out .exit) ≡ sets (now (out .entry)) at (toldReason (m .reason) ∷ (short (propsSize ackPlace (ackGiven (handed m (now («reason_string» .entry)) (now (user .entry)) (now («user_lengths» .entry))))) ++ propsBytes ackPlace (ackGiven (handed m (now («reason_string» .entry)) (now (user .entry)) (now («user_lengths» .entry))))))) ⌝ }
+{
+    let len = block_length(m, reason_string, user, user_lengths);
+    let reason = m.reason;
+    fixed::put_u8(&mut *out, at, reason_code(reason));
+    let first = run::after(out.len(), at, 1);
+    let n = write_remaining_length(&mut *out, first, len);
+    let second = run::after(out.len(), first, n);
+    let k = put::put_lent(&mut *out, second, 31, m.reason_string, reason_string);
+    let third = run::after(out.len(), second, k);
+    put::put_pairs(&mut *out, third, user, user_lengths);
+}
+
+// The frame.
+fn put(out: &mut [u8], m: PubAckHead, reason_string: &[u8], user: &[u8], user_lengths: &[usize])
+    ensures { λ r. ⌜ (belongsOf (ack 4 (handed m (now («reason_string» .entry)) (now (user .entry)) (now («user_lengths» .entry)))) ≡ true → restIs (ack 4 (handed m (now («reason_string» .entry)) (now (user .entry)) (now («user_lengths» .entry)))) ≤ most → now (out .exit) ≡ sets (now (out .entry)) 0 (frameBytes (ack 4 (handed m (now («reason_string» .entry)) (now (user .entry)) (now («user_lengths» .entry)))))) ⌝ }
+{
+    let len = rest(m, reason_string, user, user_lengths);
+    let n = settle::put_header(&mut *out, 0x40, len);
+    let first = run::after(out.len(), 0, n);
+    fixed::put_u16(&mut *out, first, m.pkid);
+    if !is_plain(m) {
+        let second = run::after(out.len(), first, 2);
+        put_block(&mut *out, second, m, reason_string, user, user_lengths);
+    }
+}
+
+pub fn write(
+    m: PubAckHead,
+    reason_string: &[u8],
+    user: &[u8],
+    user_lengths: &[usize],
+    limit: Limit,
+    out: &mut [u8],
+) -> Written
+    ensures { λ r. ⌜ WrittenOf (limitOf limit) (ack 4 (handed m (now («reason_string» .entry)) (now (user .entry)) (now («user_lengths» .entry)))) (now (out .entry)) (now (out .exit)) (toldWritten r) ⌝ }
+{
+    let fields = early(m, reason_string, user, user_lengths);
+    let len = rest(m, reason_string, user, user_lengths);
+    match settle::settle(fields, len, limit, Tested::Fine, out.len()) {
+        Written::Refused(e) => Written::Refused(e),
+        Written::Size(n) => {
+            put(&mut *out, m, reason_string, user, user_lengths);
+            Written::Size(n)
+        }
+    }
+}

@@ -1,0 +1,196 @@
+-- The order of refusals, from what is found; and a frame put field by field. Assumes nothing.
+use mathlib.Core.Path.{_≡_, refl, sym, ap, _∙_}
+use mathlib.Core.Bool.{Bool, true, false}
+use mathlib.Core.Option.{Option}
+use mathlib.Core.List.{List, [], _++_}
+use Prim.Native.Nat.{ℕ, _+_, _≤_, _<_, min}
+use native.Mathlib.Omega.{arith}
+use lib.Dec.{leb}
+use lib.ListN.{length, length-append}
+use lib.Seq.{sets, length-sets}
+use Rattle.reading.specs.Refusal.{Refusal, nr}
+use Rattle.reading.specs.Reader.{Fit, got, bad, _>>_, guard}
+use Rattle.reading.proofs.Lists.{leb-yes, leb-no, leb-false}
+use Rattle.reading.proofs.Reading.{bad-got}
+use Rattle.writing.specs.Handed.{Handed, belongs}
+use Rattle.writing.specs.Size.{most, withLength, restIs, sizeIs, cap}
+use Rattle.writing.specs.Order.{judge, limitTests, permit}
+use Rattle.writing.specs.Write.{frameBytes, sizeOf, answerOf, Written}
+use Rattle.writing.proofs.ForCode.{cap-add, writes-all, writes-none}
+use Rattle.writing.proofs.Belong.{belongs-when}
+use Rattle.writing.proofs.Verdict.{answered-when}
+use Rattle.wire.proofs.Laws.Put.{sets-append}
+use Rattle.rows.specs.Put.{Put}
+use Rattle.rows.proofs.Laws.Put.{sets-min}
+use Rattle.settle.specs.Behind.{Behind}
+use Rattle.settle.specs.Found.{earlyOf, lateOf, roomOf, Found}
+
+-- ---- the order
+
+then-then : {A B C : Type 0} (a : Fit A) (b : Fit B) (c : Fit C) → ((a >> b) >> c) ≡ (a >> (b >> c))
+then-then (got x) b c = refl
+then-then (bad k) b c = refl
+
+-- R is not cut off
+pub rest-small : (n m : ℕ) → m ≡ cap n → m ≤ most → m ≡ n
+rest-small n m e h = go (leb n most) refl
+  where
+    go : (t : Bool) → leb n most ≡ t → m ≡ n
+    go true i = e ∙ rw i
+    go false i =
+        let f : m ≡ most + 1 = e ∙ rw i in
+        let z : _≡_ {A = ℕ} 0 1 = omega arith in
+        omega arith
+
+pub rest-large : (n m : ℕ) → m ≡ cap n → most < m → most < n
+rest-large n m e h = go (leb n most) refl
+  where
+    go : (t : Bool) → leb n most ≡ t → most < n
+    go true i = let f : m ≡ n = e ∙ rw i in omega arith
+    go false i = leb-false n most i
+
+module _ (h : Handed) where
+  pub size-foreign : false ≡ belongs h → bad (nr 20 []) ≡ sizeOf h
+  unfolding sizeOf
+  size-foreign e = rw (← e)
+
+  module _ (e : true ≡ belongs h) (m : ℕ) (r : m ≡ cap (restIs h)) where
+    pub size-long : most < m → bad (nr 17 []) ≡ sizeOf h
+    unfolding sizeOf
+    size-long l = rw (← e, leb-no (restIs h) most (rest-large (restIs h) m r l))
+
+    pub size-counted : m ≤ most → got (1 + withLength m) ≡ sizeOf h
+    unfolding sizeOf sizeIs
+    size-counted l =
+        let i : m ≡ restIs h = rest-small (restIs h) m r l in
+        rw (← e, ← i, leb-yes m most l)
+
+-- what does not belong together is refused before any field is tested
+pub early-foreign : (h : Handed) (b : Bool) → b ≡ belongs h → b ≡ false → bad (nr 20 []) ≡ earlyOf h
+early-foreign h b e f = rw (← e, f)
+
+module _ (limit : Option ℕ) (room : ℕ) (h : Handed) where
+  -- what is left once R is known to be small
+  abbrev ending : ℕ → Fit (Unit {0}) → Fit ℕ
+  ending n late = judge (limitTests limit n) >> (late >> roomOf n room)
+
+  in-order : answerOf limit room h ≡ (earlyOf h >> (guard (leb (restIs h) most) (nr 17 []) >> ending (sizeIs h) (lateOf h)))
+  unfolding answerOf permit
+  in-order = simp then-then
+
+  module _ {early late : Fit (Unit {0})} {m : ℕ} (f : Found h early m late) where
+    pub early-bad : (k : Refusal) → early ≡ bad k → bad k ≡ answerOf limit room h
+    early-bad k e = sym (in-order ∙ rw (← f .early, e))
+
+    module _ (e : early ≡ got tt) where
+      pub rest-long : most < m → bad (nr 17 []) ≡ answerOf limit room h
+      rest-long l = sym (in-order ∙ rw (← f .early, e, leb-no (restIs h) most (rest-large (restIs h) m (f .rest) l)))
+
+      module _ (l : m ≤ most) (n : ℕ) (s : n ≡ 1 + withLength m) where
+        then-ending : answerOf limit room h ≡ ending n late
+        unfolding sizeIs
+        then-ending =
+            let i : m ≡ restIs h = rest-small (restIs h) m (f .rest) l in
+            in-order ∙ rw (← f .early, e, ← i, leb-yes m most l, ← s, ← f .late)
+
+        pub limit-bad : (k : Refusal) → bad k ≡ judge (limitTests limit n) → bad k ≡ answerOf limit room h
+        limit-bad k j = sym (then-ending ∙ rw (← j))
+
+        module _ (j : got tt ≡ judge (limitTests limit n)) where
+          pub late-bad : (k : Refusal) → late ≡ bad k → bad k ≡ answerOf limit room h
+          late-bad k b = sym (then-ending ∙ rw (← j, b))
+
+          pub late-fine : late ≡ got tt → roomOf n room ≡ answerOf limit room h
+          late-fine b = sym (then-ending ∙ rw (← j, b))
+
+-- ---- the answer decides what is written
+
+module _ (limit : Option ℕ) (h : Handed) (before : List ℕ) where
+  -- refused: nothing is stored
+  pub none-written : (k : Refusal) → bad k ≡ answerOf limit (length before) h → Written limit h before before (bad k)
+  unfolding answerOf
+  none-written k e = go (permit limit (length before) h) refl e
+    where
+      go : (p : Fit (Unit {0})) → permit limit (length before) h ≡ p → bad k ≡ (p >> got (sizeIs h)) → Written limit h before before (bad k)
+      go (got u) p e = absurd (bad-got e)
+      go (bad j) p e = writes-none limit h before k (cc)
+
+  module _ (n : ℕ) (e : got n ≡ answerOf limit (length before) h) where
+    permitted : permit limit (length before) h ≡ got tt
+    unfolding answerOf
+    permitted = go (permit limit (length before) h) e
+      where
+        go : (p : Fit (Unit {0})) → got n ≡ (p >> got (sizeIs h)) → p ≡ got tt
+        go (got u) e = refl
+        go (bad j) e = absurd (bad-got (sym e))
+
+    -- accepted: the frame is stored, if what is put is the frame of what belongs together and is not too long
+    pub all-written : (after : List ℕ) → (belongs h ≡ true → restIs h ≤ most → after ≡ sets before 0 (frameBytes h)) → Written limit h before after (got n)
+    all-written after f =
+        let a = answered-when limit (length before) h n .0 (sym e) in
+        rw (a .1) at (writes-all limit h before permitted after (f (belongs-when h .1 (a .0 .countable .belongs)) (a .0 .countable .rest)))
+
+-- ---- bytes put field by field
+
+-- of the bytes `whole`, which are to stand from `start` on, those before `place` are put, and `rest` is left
+pub record Upto (before : List ℕ) (start : ℕ) (whole out : List ℕ) (place : ℕ) (rest : List ℕ) : Type 0 where
+  pub done : ℕ
+  pub same : length out ≡ length before
+  pub at : (k : ℕ) → min (place + k) (length before) ≡ min (done + k) (length before)
+  pub stores : sets before start whole ≡ sets out done rest
+  pub count : start + length whole ≡ done + length rest
+
+pub upto-start : (before : List ℕ) (start : ℕ) (whole : List ℕ) → Upto before start whole before start whole
+upto-start before start whole = record { done = start; same = refl; at = λ k. refl; stores = refl; count = refl }
+
+module _ {before whole out rest : List ℕ} {start place : ℕ} (u : Upto before start whole out place rest) where
+  there : (xs : List ℕ) → sets out place xs ≡ sets out (u .done) xs
+  there xs =
+      let e : min place (length out) ≡ min (u .done) (length out) = omega (arith, u .at 0, u .same) in
+      sym (sets-min out xs place) ∙ rw e (sets-min out xs (u .done))
+
+  -- stored there, and the place behind it
+  pub upto-sets : (xs ys : List ℕ) → rest ≡ xs ++ ys → (out′ : List ℕ) → out′ ≡ sets out place xs → (place′ : ℕ) → place′ ≡ min (place + length xs) (length out′) → Upto before start whole out′ place′ ys
+  upto-sets xs ys e out′ q place′ m =
+      let s : out′ ≡ sets out (u .done) xs = q ∙ there xs in
+      let l : length out′ ≡ length before = ap length s ∙ length-sets out (u .done) xs ∙ u .same in
+      record {
+        done = u .done + length xs;
+        same = l;
+        at = λ k. omega (arith, u .at (length xs));
+        stores = u .stores ∙ rw (e, sets-append xs ys out (u .done), ← s);
+        count = omega (arith, u .count, ap length e ∙ length-append xs ys);
+      }
+
+  pub upto-put : (xs ys : List ℕ) → rest ≡ xs ++ ys → (out′ : List ℕ) (k : ℕ) → Put out place xs out′ k → (place′ : ℕ) → place′ ≡ min (place + k) (length out′) → Upto before start whole out′ place′ ys
+  upto-put xs ys e out′ k p place′ m = upto-sets xs ys e out′ (p .stores) place′ (rw (p .count) at m)
+
+  -- the last of it
+  pub upto-last : (xs : List ℕ) → rest ≡ xs → (out′ : List ℕ) → out′ ≡ sets out place xs → out′ ≡ sets before start whole
+  upto-last xs e out′ q = q ∙ there xs ∙ sym (u .stores ∙ rw e)
+
+  -- nothing is left
+  pub upto-behind : rest ≡ [] → place ≤ length out → Behind before start whole out place
+  upto-behind e l = record {
+    stores = sym (u .stores ∙ rw e);
+    place = omega (arith, u .same, u .at 0, u .count, ap length e);
+  }
+
+-- ---- sums that are cut off
+
+-- one summand is cut off
+pub cap-left : (a m n : ℕ) → a ≡ cap m → cap (a + n) ≡ cap (m + n)
+cap-left a m n e = rw e (cap-add m n)
+
+-- both are
+pub cap-both : (a b m n : ℕ) → a ≡ cap m → b ≡ cap n → cap (a + b) ≡ cap (m + n)
+cap-both a b m n e f =
+    let i : m + b ≡ b + m = omega arith in
+    let j : n + m ≡ m + n = omega arith in
+    cap-left a m b e ∙ ap cap i ∙ cap-left b n m f ∙ ap cap j
+
+-- the last of several
+pub cap-last : (a b m n : ℕ) → a ≡ cap m → b ≡ cap n → cap (a + b) ≡ cap (m + (n + 0))
+cap-last a b m n e f =
+    let i : n + 0 ≡ n = omega arith in
+    rw i (cap-both a b m n e f)

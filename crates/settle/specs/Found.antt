@@ -1,0 +1,29 @@
+-- What a writer has found of a hand-over before the order is settled. Assumes nothing.
+use mathlib.Core.Path.{_≡_}
+use mathlib.Core.List.{[], _∷_, map}
+use Prim.Native.Nat.{ℕ}
+use lib.Dec.{leb}
+use Rattle.reading.specs.Refusal.{nr}
+use Rattle.reading.specs.Reader.{Fit, got, _>>_, guard}
+use Rattle.writing.specs.Lists.{flat}
+use Rattle.writing.specs.Handed.{Handed, belongs}
+use Rattle.writing.specs.Size.{restIs, cap}
+use Rattle.writing.specs.Order.{judge, fieldTests, fieldsOf, small, numbersOf, named, asked}
+
+-- 01, writing order: "20; then 18, and 9 for text, field by field as written, .."
+abbrev pub earlyOf : Handed → Fit (Unit {0})
+earlyOf h = guard (belongs h) (nr 20 []) >> judge (flat fieldTests (fieldsOf h))
+
+-- 01, writing order: "12; 17 for identifiers in order; 13"
+abbrev pub lateOf : Handed → Fit (Unit {0})
+lateOf h = guard (named h) (nr 12 []) >> (judge (map small (numbersOf h)) >> guard (asked h) (nr 13 []))
+
+-- 01, writing order: "19", and else the size
+abbrev pub roomOf : ℕ → ℕ → Fit ℕ
+roomOf n room = guard (leb n room) (nr 19 (n ∷ [])) >> got n
+
+-- what is told before R is counted, R, cut off where it is too large, and what is told after the limit
+pub record Found (h : Handed) (first : Fit (Unit {0})) (n : ℕ) (last : Fit (Unit {0})) : Type 0 where
+  pub early : first ≡ earlyOf h
+  pub rest : n ≡ cap (restIs h)
+  pub late : last ≡ lateOf h

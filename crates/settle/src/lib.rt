@@ -1,0 +1,104 @@
+// How every kind is written (01, writing order): the refusals in their order from what a kind has found, its size, and the first bytes
+// of its frame. The crate's `write` of each kind repeats these lines, and tests the limit first (D7).
+use records::answer::Limit;
+use records::answer::Sized;
+use records::answer::Written;
+use records::error::Error;
+use rows::run;
+use rows::test::Tested;
+use wire::fixed;
+use wire::length::len_len;
+use wire::length::write_remaining_length;
+ghost use mathlib.Core.Path.{_≡_};
+ghost use mathlib.Core.List.{_∷_};
+ghost use Prim.Native.Nat.{_+_, _≤_};
+ghost use Rattle.writing.specs.Handed.{Handed, belongs as belongsOf};
+ghost use Rattle.writing.specs.Size.{most, withLength, restIs, cap};
+ghost use Rattle.writing.specs.Spell.{short};
+ghost use Rattle.writing.specs.Order.{judge, limitTests};
+ghost use Rattle.writing.specs.Write.{sizeOf, answerOf};
+ghost use Rattle.records.specs.Told.{limitOf};
+ghost use Rattle.records.specs.Answered.{toldSized, toldWritten};
+ghost use Rattle.rows.specs.Tested.{toldTested};
+ghost use Rattle.rows.specs.Put.{Put};
+ghost use Rattle.settle.specs.Found.{roomOf, Found};
+
+const MOST: usize = 268435455;
+
+// One byte, R, and R bytes.
+fn frame_size(rest: usize) -> usize
+    requires { ⌜ rest ≤ most ⌝ }
+    ensures { λ r. ⌜ r ≡ 1 + withLength rest ⌝ }
+{
+    1 + (len_len(rest) + rest)
+}
+
+// The size, from whether what is handed over belongs together (20), and R, cut off where it is too large (17).
+pub fn size(belongs: bool, rest: usize) -> Sized
+    ensures { λ r. ⌜ ((h : Handed) → belongs ≡ belongsOf h → rest ≡ cap (restIs h) → toldSized r ≡ sizeOf h) ⌝ }
+{
+    if !belongs {
+        return Sized::Refused(Error::ListMismatch);
+    }
+    if MOST < rest {
+        return Sized::Refused(Error::PayloadTooLong);
+    }
+    Sized::Size(frame_size(rest))
+}
+
+// 16
+fn within(limit: Limit, size: usize) -> Tested
+    ensures { λ r. ⌜ toldTested r ≡ judge (limitTests (limitOf limit) size) ⌝ }
+{
+    match limit {
+        Limit::Unlimited => Tested::Fine,
+        Limit::AtMost(m) => {
+            if m < size {
+                return Tested::Refused(Error::OutgoingPacketTooLarge(size, m));
+            }
+            Tested::Fine
+        }
+    }
+}
+
+// 19
+fn fit(size: usize, room: usize) -> Written
+    ensures { λ r. ⌜ toldWritten r ≡ roomOf size room ⌝ }
+{
+    if room < size {
+        return Written::Refused(Error::NoRoom(size));
+    }
+    Written::Size(size)
+}
+
+// The answer, from what is found: `early` says 20 and the fields, `rest` is R, cut off where it is too large, `late` says 12, 17 for
+// identifiers, and 13.
+pub fn settle(early: Tested, rest: usize, limit: Limit, late: Tested, room: usize) -> Written
+    ensures { λ r. ⌜ ((h : Handed) → Found h (toldTested early) rest (toldTested late) → toldWritten r ≡ answerOf (limitOf limit) room h) ⌝ }
+{
+    match early {
+        Tested::Refused(e) => Written::Refused(e),
+        Tested::Fine => {
+            if MOST < rest {
+                return Written::Refused(Error::PayloadTooLong);
+            }
+            let size = frame_size(rest);
+            match within(limit, size) {
+                Tested::Refused(e) => Written::Refused(e),
+                Tested::Fine => match late {
+                    Tested::Refused(e) => Written::Refused(e),
+                    Tested::Fine => fit(size, room),
+                },
+            }
+        }
+    }
+}
+
+// The first byte and R.
+pub fn put_header(out: &mut [u8], first: u8, rest: usize) -> usize
+    ensures { λ r. ⌜ Put (now (out .entry)) 0 (first ∷ short rest) (now (out .exit)) r ⌝ }
+{
+    fixed::put_u8(&mut *out, 0, first);
+    let next = run::after(out.len(), 0, 1);
+    1 + write_remaining_length(&mut *out, next, rest)
+}

@@ -1,0 +1,26 @@
+-- `subscribe_write::test_id` is right since a number is compared with the largest that four bytes spell. Assumes nothing.
+use native.Mathlib.Omega.{arith}
+use Rattle.writing.specs.Order.{judge}
+use Rattle.subscribe_write.proofs.Laws.{number-large, number-fine}
+use borrow.Author.Needs.{needs}
+use Rattle.subscribe_write.proofs.test_id.Statement.{statement}
+use Rattle.subscribe_write.proofs.test_id.Tie as tie
+
+enum-told : tie.Need-enum-told
+enum-told c = search needs
+
+enum-known-id : tie.Need-enum-known-id
+enum-known-id c = search needs
+
+returns : tie.Need-returns
+returns c = rw (c .before .before .id .given .1) (number-large (c .before .before .id .given .0 .0) (omega arith))
+
+returns-2 : tie.Need-returns-2
+unfolding judge
+returns-2 c = rw (c .enum-told .given .1)
+
+returns-3 : tie.Need-returns-3
+returns-3 c = rw (c .before .before .id .given .1) (number-fine (c .before .before .id .given .0 .0) (omega arith))
+
+pub test-id-spec : {M : Type 1} → statement M
+test-id-spec = tie.close (tie.spec enum-told enum-known-id returns returns-2 returns-3)
