@@ -1,0 +1,5 @@
+pub mod Belong
+pub mod Size
+pub mod Run
+pub mod Test
+pub mod Put

@@ -1,0 +1,97 @@
+-- Fields tested one by one: those that are fine are passed, the first that is not says the refusal. Assumes nothing.
+use mathlib.Core.Path.{_≡_, refl, sym, ap, _∙_}
+use mathlib.Core.Bool.{true, false}
+use mathlib.Core.List.{List, [], _∷_, map, append-nil}
+use Prim.Native.Nat.{ℕ, _+_, _/_, _%_, _≤_, _<_}
+use native.Mathlib.Numerals.{add-one}
+use lib.ListN.{length, drop, getD, drop-of-length-le}
+use lib.Seq.{drop-cons}
+use Rattle.grammar.specs.Sentence.{qosFine, ruleFine}
+use Rattle.reading.specs.Refusal.{Refusal, nr}
+use Rattle.reading.specs.Reader.{got, bad, _>>_}
+use Rattle.reading.specs.Read.{isText}
+use Rattle.reading.proofs.Lists.{leb-yes, leb-no}
+use Rattle.writing.specs.Lists.{flat}
+use Rattle.writing.specs.Size.{most}
+use Rattle.writing.specs.Order.{Test, judge, Field, word, filter, fieldTests, small}
+use Rattle.writing.proofs.Tests.{eq-when, eq-not}
+use Rattle.writing.proofs.Judge.{judge-append, fields-more}
+
+-- ---- one field
+
+module _ (s : List ℕ) (h : length s ≤ 65535) where
+  pub word-fine : isText s ≡ true → judge (fieldTests (word s)) ≡ got tt
+  unfolding judge
+  word-fine e = rw (leb-yes (length s) 65535 h, e)
+
+  pub word-broken : isText s ≡ false → judge (fieldTests (word s)) ≡ bad (nr 9 [])
+  unfolding judge
+  word-broken e = rw (leb-yes (length s) 65535 h, e)
+
+-- the tests after a filter's text
+abbrev optionsTests : ℕ → List Test
+optionsTests o = (ruleFine o, nr 14 (3 ∷ [])) ∷ (qosFine o, nr 11 (3 ∷ [])) ∷ []
+
+module _ (s : List ℕ) (o : ℕ) where
+  filter-tests : judge (fieldTests (filter s o)) ≡ (judge (fieldTests (word s)) >> judge (optionsTests o))
+  filter-tests = judge-append (fieldTests (word s)) (optionsTests o)
+
+  pub filter-bad : (k : Refusal) → bad k ≡ judge (fieldTests (word s)) → bad k ≡ judge (fieldTests (filter s o))
+  filter-bad k e = sym (filter-tests ∙ rw (sym e))
+
+  module _ (e : got tt ≡ judge (fieldTests (word s))) where
+    then-options : judge (fieldTests (filter s o)) ≡ judge (optionsTests o)
+    then-options = filter-tests ∙ rw (sym e)
+
+    pub filter-rule : o / 16 % 4 ≡ 3 → bad (nr 14 (3 ∷ [])) ≡ judge (fieldTests (filter s o))
+    unfolding judge
+    filter-rule h = sym (then-options ∙ rw (eq-when (o / 16 % 4) 3 .1 h))
+
+    module _ (n : o / 16 % 4 ≡ 3 → ⊥) where
+      pub filter-qos : o % 4 ≡ 3 → bad (nr 11 (3 ∷ [])) ≡ judge (fieldTests (filter s o))
+      unfolding judge
+      filter-qos h = sym (then-options ∙ rw (eq-not (o / 16 % 4) 3 .1 n, eq-when (o % 4) 3 .1 h))
+
+      pub filter-fine : (o % 4 ≡ 3 → ⊥) → got tt ≡ judge (fieldTests (filter s o))
+      unfolding judge
+      filter-fine m = sym (then-options ∙ rw (eq-not (o / 16 % 4) 3 .1 n, eq-not (o % 4) 3 .1 m))
+
+-- a field by itself
+pub field-alone : (f : Field) → judge (fieldTests f) ≡ judge (flat fieldTests (f ∷ []))
+field-alone f = ap judge (sym (append-nil (fieldTests f)))
+
+-- ---- fields in a list: those that are left decide
+
+pub record Deciding (whole left : List Field) : Type 0 where
+  pub same : judge (flat fieldTests whole) ≡ judge (flat fieldTests left)
+
+module _ {whole left : List Field} (d : Deciding whole left) where
+  module _ (f : Field) (fs : List Field) (e : left ≡ f ∷ fs) where
+    pub field-refused : (k : Refusal) → bad k ≡ judge (fieldTests f) → bad k ≡ judge (flat fieldTests whole)
+    field-refused k b = sym (d .same ∙ rw (e, fields-more f fs, sym b))
+
+    pub field-passed : got tt ≡ judge (fieldTests f) → Deciding whole fs
+    field-passed b = record { same = d .same ∙ rw (e, fields-more f fs, sym b) }
+
+  pub fields-done : left ≡ [] → got tt ≡ judge (flat fieldTests whole)
+  unfolding judge
+  fields-done e = sym (d .same ∙ rw e)
+
+-- ---- numbers: those from the i-th on decide
+
+abbrev pub Left : List ℕ → ℕ → Type 0
+Left ns i = judge (map small ns) ≡ judge (map small (drop i ns))
+
+module _ (ns : List ℕ) (i : ℕ) (d : Left ns i) where
+  module _ (h : i < length ns) where
+    pub number-large : most < getD ns i 0 → bad (nr 17 []) ≡ judge (map small ns)
+    unfolding judge
+    number-large l = sym (d ∙ rw (drop-cons ns i 0 h, leb-no (getD ns i 0) most l))
+
+    pub number-passed : getD ns i 0 ≤ most → Left ns (i + 1)
+    unfolding judge
+    number-passed l = d ∙ rw (drop-cons ns i 0 h, leb-yes (getD ns i 0) most l, add-one i)
+
+  pub numbers-done : length ns ≤ i → got tt ≡ judge (map small ns)
+  unfolding judge
+  numbers-done h = sym (d ∙ rw (drop-of-length-le ns h))

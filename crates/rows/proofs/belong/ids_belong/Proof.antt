@@ -1,0 +1,16 @@
+-- `rows::belong::ids_belong` is right since without a block there must be no identifiers. Assumes nothing.
+use denote.Ref.{now}
+use Rattle.rows.proofs.Laws.Belong.{empty-length}
+use Rattle.rows.proofs.belong.ids_belong.Statement.{statement}
+use Rattle.rows.proofs.belong.ids_belong.Tie as tie
+use Rattle.rows.proofs.belong.ids_belong.Reads as reads
+use Rattle.rows.proofs.belong.ids_belong.Lts as lts
+
+returns : tie.Need-returns
+returns c = simp (c .if1 .taken)
+
+returns-2 : tie.Need-returns-2
+returns-2 c = rw (c .if1 .left) (empty-length (now (c .before .args .ids)))
+
+pub ids-belong-spec : {M : Type 1} → statement M
+ids-belong-spec = tie.close (tie.spec returns returns-2)

@@ -1,0 +1,17 @@
+-- `rows::test::test_raw` is right since only the length is tested. Assumes nothing.
+use mathlib.Core.Path.{sym}
+use denote.Ref.{now}
+use Rattle.writing.specs.Order.{raw}
+use Rattle.writing.specs.Refuse.{long-raw}
+use Rattle.writing.proofs.Judge.{field-pass, field-fault}
+use Rattle.rows.proofs.test.test_raw.Statement.{statement}
+use Rattle.rows.proofs.test.test_raw.Tie as tie
+
+returns : tie.Need-returns
+returns c = sym (field-fault (long-raw {s = now (c .before .args .s)} (c .if1 .taken)))
+
+returns-2 : tie.Need-returns-2
+returns-2 c = sym (field-pass (raw (now (c .before .args .s))) (c .if1 .left))
+
+pub test-raw-spec : {M : Type 1} → statement M
+test-raw-spec = tie.close (tie.spec returns returns-2)

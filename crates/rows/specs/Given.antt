@@ -1,0 +1,41 @@
+-- What is handed over, from the arguments of a function. Assumes nothing.
+use mathlib.Core.Bool.{Bool}
+use mathlib.Core.Option.{Option, none, some}
+use mathlib.Core.List.{List}
+use Prim.Native.Nat.{ℕ}
+use Rattle.records.specs.declared.span.MaybeU8.{MaybeU8}
+use Rattle.records.specs.declared.span.MaybeU16.{MaybeU16}
+use Rattle.records.specs.declared.span.MaybeU32.{MaybeU32}
+use Rattle.writing.specs.Lists.{beside}
+use Rattle.writing.specs.Handed.{Lent, Run, Given, one, lent, pairs, strings}
+
+-- 01, table of properties: a u8, if it is given
+abbrev pub givenU8 : MaybeU8 → Given
+givenU8 MaybeU8.Absent = one none
+givenU8 (MaybeU8.Present n) = one (some n)
+
+-- 01, table of properties: a u16, if it is given
+abbrev pub givenU16 : MaybeU16 → Given
+givenU16 MaybeU16.Absent = one none
+givenU16 (MaybeU16.Present n) = one (some n)
+
+-- 01, table of properties: a u32 or a variable length number, if it is given
+abbrev pub givenU32 : MaybeU32 → Given
+givenU32 MaybeU32.Absent = one none
+givenU32 (MaybeU32.Present n) = one (some n)
+
+-- 01, table of properties: text or bytes, if they are on
+abbrev pub givenLent : Bool → List ℕ → Given
+givenLent on s = lent (record { on = on; bytes = s })
+
+-- 01, "What must change shape": "one run of bytes and a list of lengths"
+abbrev pub run : List ℕ → List ℕ → Run
+run bytes lengths = record { bytes = bytes; lengths = lengths }
+
+-- 01, table of properties: text pairs
+abbrev pub givenPairs : List ℕ → List ℕ → Given
+givenPairs bytes lengths = pairs (run bytes lengths)
+
+-- 01, "What must change shape": "an options byte for each filter"
+abbrev pub filtersOf : List ℕ → List ℕ → List ℕ → List (List ℕ × ℕ)
+filtersOf bytes lengths options = beside (strings (run bytes lengths)) options

@@ -1,0 +1,28 @@
+// Places in a run of bytes or in an output: a place past the end is the end, so that no sum can wrap.
+ghost use mathlib.Core.Path.{_≡_};
+ghost use Prim.Native.Nat.{_+_, min};
+ghost use lib.ListN.{take, drop};
+
+// The place n bytes after `at`, where there are `room` in all.
+pub fn after(room: usize, at: usize, n: usize) -> usize
+    ensures { λ r. ⌜ r ≡ min (at + n) room ⌝ }
+{
+    if room <= at {
+        return room;
+    }
+    if room - at < n {
+        return room;
+    }
+    at + n
+}
+
+// The n bytes at a place of the run, or as many as there are.
+pub fn piece<'a>(run: &'a [u8], at: usize, n: usize) -> &'a [u8]
+    ensures { λ r. ⌜ now r ≡ take n (drop at (now (run .entry))) ⌝ }
+{
+    if run.len() <= at {
+        return &run[..0];
+    }
+    let end = after(run.len(), at, n);
+    &run[at..end]
+}
