@@ -1,0 +1,1 @@
+-- Puts one behind the other. Assumes nothing.
