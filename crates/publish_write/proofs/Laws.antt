@@ -1,1 +1,3 @@
--- Puts one behind the other. Assumes nothing.
+pub mod Given
+pub mod Plan
+pub mod Put
