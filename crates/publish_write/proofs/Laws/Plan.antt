@@ -72,7 +72,14 @@ pub fields-all : (h : PublishHanded) {r₁ r₂ r₃ r₄ x₁ x₂ x₃ x₄ x�
 fields-all h e₁ e₂ e₃ e₄ e₅ f₄ f₃ f₂ f₁ =
     f₁
     ∙ rw (
-      f₂, f₃, f₄, e₁, e₂, e₃, e₄, e₅,
+      f₂,
+      f₃,
+      f₄,
+      e₁,
+      e₂,
+      e₃,
+      e₄,
+      e₅,
       judge-if (h .response .on) (word (h .response .bytes)),
       judge-if (h .correlation .on) (raw (h .correlation .bytes)),
       judge-if (h .content .on) (word (h .content .bytes)),

@@ -24,11 +24,11 @@ use Rattle.publish_write.proofs.Laws.Given.{given-u8, given-u16, given-
 
 -- ---- one behind the other
 
-pub store-next : {l l₁ xs : List ℕ} {at n m : ℕ} → l₁ ≡ sets l at xs → n ≡ length xs → m ≡ min (at + n) (length l₁) → Next l at xs l₁ m
-store-next e f g = record { stores = e; place = g ∙ rw f }
+pub store-next : (xs : List ℕ) {l l₁ : List ℕ} {at n m : ℕ} → l₁ ≡ sets l at xs → n ≡ length xs → m ≡ min (at + n) (length l₁) → Next l at xs l₁ m
+store-next xs e f g = record { stores = e; place = g ∙ rw f }
 
 pub put-next : {l l₁ xs : List ℕ} {at n m : ℕ} → Put l at xs l₁ n → m ≡ min (at + n) (length l₁) → Next l at xs l₁ m
-put-next p g = store-next (p .stores) (p .count) g
+put-next {xs = xs} p g = store-next xs (p .stores) (p .count) g
 
 module _ {l l₁ l₂ xs : List ℕ} {at m : ℕ} (p : Next l at xs l₁ m) where
   pub next-last : (ys : List ℕ) → l₂ ≡ sets l₁ m ys → l₂ ≡ sets l at (xs ++ ys)
@@ -106,9 +106,9 @@ pub front-all : (h : PublishHanded) (rest : ℕ) {l l₁ l₂ l₃ l₄ : List �
     → Next l 0 (firstByte (publish h) ∷ (short rest ++ (string (h .topic) ++ identBytes (h .qos) (h .ident)))) l₄ m₄
 front-all h rest {l} {l₃ = l₃} {l₄ = l₄} {m₃ = m₃} {n₄ = n₄} less e s₁ p₁ s₂ p₂ s₃ p₃ f s₄ p₄ =
     let w : Put l₃ m₃ (identBytes (h .qos) (h .ident)) l₄ n₄ = rw f at s₄ in
-    next-then (store-next {xs = firstByte (publish h) ∷ []} {n = 1} (s₁ ∙ ap (sets l 0) (ap (wide 1) e ∙ sym (wide-one less))) refl p₁)
-    (next-then (store-next (s₂ .0) (s₂ .1) p₂)
-    (next-then (store-next s₃ (sym (length-string (h .topic))) p₃) (put-next w p₄)))
+    next-then (store-next (firstByte (publish h) ∷ []) {n = 1} (s₁ ∙ ap (sets l 0) (ap (wide 1) e ∙ sym (wide-one less))) refl p₁)
+    (next-then (store-next (short rest) (s₂ .0) (s₂ .1) p₂)
+    (next-then (store-next (string (h .topic)) s₃ (sym (length-string (h .topic))) p₃) (put-next w p₄)))
 
 -- the front, and what stands behind it
 pub frame-all : (x : ℕ) (r s i ys : List ℕ) {l l₁ l₂ : List ℕ} {m : ℕ} → Next l 0 (x ∷ (r ++ (s ++ i))) l₁ m → l₂ ≡ sets l₁ m ys → l₂ ≡ sets l 0 (x ∷ (r ++ (s ++ (i ++ ys))))

@@ -1,7 +1,7 @@
 -- `publish_write::put::put_back` is right since L, the properties and the payload are put one behind the other. Assumes nothing.
+use Rattle.writing.specs.Spell.{short, propsBytes}
+use Rattle.writing.specs.Handed.{PublishHanded, publishGiven}
 use Rattle.publish_write.specs.Handed.{handed}
-use Rattle.writing.specs.Spell.{propsBytes}
-use Rattle.writing.specs.Handed.{publishGiven}
 use Rattle.grammar.specs.Tables.{publishPlace}
 use Prim.Native.Nat.{ℕ}
 use mathlib.Core.List.{List, _++_}
@@ -29,8 +29,8 @@ same-length c = search needs
 returns : tie.Need-returns
 returns c =
     let a = c .before .before .before .before .before .before .before .before .before .before .before .before .before .before .before .before .before .before .before .before .before .args in
-    let g = λ (t : List ℕ). handed (a .head) t (now (a .response-topic)) (now (a .correlation-data)) (now (a .user)) (now (a .user-lengths)) (now (a .subscription-identifiers)) (now (a .content-type)) (now (a .payload)) in
-    λ t. next-last (store-next (c .before .before .before .before .before .before .before .before .before .before .before .write-remaining-length .ensures .0) (c .before .before .before .before .before .before .before .before .before .before .before .write-remaining-length .ensures .1) (c .before .before .before .before .before .before .before .before .after .ensures)) (propsBytes publishPlace (publishGiven (g t)) ++ now (a .payload)) (next-last (c .before .before .before .before .before .before .put-properties .ensures t (now (a .payload))) (now (a .payload)) (c .before .before .put-bytes .ensures))
+    let g : List ℕ → PublishHanded = λ t. handed (a .head) t (now (a .response-topic)) (now (a .correlation-data)) (now (a .user)) (now (a .user-lengths)) (now (a .subscription-identifiers)) (now (a .content-type)) (now (a .payload)) in
+    λ t. next-last (store-next (short (a .properties)) (c .before .before .before .before .before .before .before .before .before .before .before .write-remaining-length .ensures .0) (c .before .before .before .before .before .before .before .before .before .before .before .write-remaining-length .ensures .1) (c .before .before .before .before .before .before .before .before .after .ensures)) (propsBytes publishPlace (publishGiven (g t)) ++ now (a .payload)) (next-last (c .before .before .before .before .before .before .put-properties .ensures t (now (a .payload))) (now (a .payload)) (c .before .before .put-bytes .ensures))
 
 pub put-back-spec : {M : Type 1} → statement M
 put-back-spec =
