@@ -222,10 +222,9 @@ fn settled(
         refuse_unless(fits, Error::NoRoom(n)),
     );
     let pkid = then(refuse_unless(named, Error::PacketIdZero), last);
-    then(
-        refuse_unless(small, Error::PayloadTooLong),
-        then(within(limit, n), pkid),
-    )
+    let long = refuse_unless(small, Error::PayloadTooLong);
+    let over = within(limit, n);
+    then(long, then(over, pkid))
 }
 
 // Every refusal, in 01's order; `rest` is R, cut off above the largest.
