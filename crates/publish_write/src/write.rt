@@ -1,0 +1,123 @@
+// The size of a Publish, and a Publish written into a lent output, after `size` and `write` of publish.rs.
+use crate::head::PublishHead;
+use crate::plan;
+use crate::put::put_frame;
+use records::answer::Limit;
+use records::answer::Sized;
+use records::answer::Written;
+use records::error::Error;
+use rows::test::Tested;
+ghost use mathlib.Core.Path.{_≡_};
+ghost use Rattle.writing.specs.Handed.{publish};
+ghost use Rattle.writing.specs.Write.{sizeOf, Written as Writes};
+ghost use Rattle.records.specs.Told.{limitOf};
+ghost use Rattle.records.specs.Answered.{toldSized, toldWritten};
+ghost use Rattle.publish_write.specs.Handed.{handed};
+
+// How many bytes the frame is: refused with 20, then 17 for R.
+pub fn size(
+    head: PublishHead,
+    topic: &[u8],
+    response_topic: &[u8],
+    correlation_data: &[u8],
+    user: &[u8],
+    user_lengths: &[usize],
+    subscription_identifiers: &[u32],
+    content_type: &[u8],
+    payload: &[u8],
+) -> Sized
+    ensures { λ r. ⌜ toldSized r ≡ sizeOf (publish (handed head (now (topic .entry)) (now («response_topic» .entry)) (now («correlation_data» .entry)) (now (user .entry)) (now («user_lengths» .entry)) (now («subscription_identifiers» .entry)) (now («content_type» .entry)) (now (payload .entry)))) ⌝ }
+{
+    let together = plan::all_belong(
+        head,
+        response_topic,
+        correlation_data,
+        user,
+        user_lengths,
+        subscription_identifiers,
+        content_type,
+    );
+    if !together {
+        return Sized::Refused(Error::ListMismatch);
+    }
+    let sizes = plan::sizes(
+        head,
+        topic,
+        response_topic,
+        correlation_data,
+        user,
+        user_lengths,
+        subscription_identifiers,
+        content_type,
+        payload,
+    );
+    let rest = sizes.rest;
+    if 268435455 < rest {
+        return Sized::Refused(Error::PayloadTooLong);
+    }
+    Sized::Size(plan::frame_size(rest))
+}
+
+// The frame from place 0 on, and its size; a refused write leaves the output as it stood.
+pub fn write(
+    head: PublishHead,
+    topic: &[u8],
+    response_topic: &[u8],
+    correlation_data: &[u8],
+    user: &[u8],
+    user_lengths: &[usize],
+    subscription_identifiers: &[u32],
+    content_type: &[u8],
+    payload: &[u8],
+    limit: Limit,
+    out: &mut [u8],
+) -> Written
+    ensures { λ r. ⌜ Writes (limitOf limit) (publish (handed head (now (topic .entry)) (now («response_topic» .entry)) (now («correlation_data» .entry)) (now (user .entry)) (now («user_lengths» .entry)) (now («subscription_identifiers» .entry)) (now («content_type» .entry)) (now (payload .entry)))) (now (out .entry)) (now (out .exit)) (toldWritten r) ⌝ }
+{
+    let sizes = plan::sizes(
+        head,
+        topic,
+        response_topic,
+        correlation_data,
+        user,
+        user_lengths,
+        subscription_identifiers,
+        content_type,
+        payload,
+    );
+    let rest = sizes.rest;
+    let properties = sizes.properties;
+    let tested = plan::permitted(
+        head,
+        topic,
+        response_topic,
+        correlation_data,
+        user,
+        user_lengths,
+        subscription_identifiers,
+        content_type,
+        rest,
+        limit,
+        out.len(),
+    );
+    match tested {
+        Tested::Refused(e) => Written::Refused(e),
+        Tested::Fine => {
+            put_frame(
+                &mut *out,
+                head,
+                rest,
+                properties,
+                topic,
+                response_topic,
+                correlation_data,
+                user,
+                user_lengths,
+                subscription_identifiers,
+                content_type,
+                payload,
+            );
+            Written::Size(plan::frame_size(rest))
+        }
+    }
+}
