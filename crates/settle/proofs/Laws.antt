@@ -1,6 +1,7 @@
 -- The order of refusals, from what is found; and a frame put field by field. Assumes nothing.
 use mathlib.Core.Path.{_≡_, refl, sym, ap, _∙_}
 use mathlib.Core.Bool.{Bool, true, false}
+use mathlib.Core.Logic.{_⊎_, inl, inr}
 use mathlib.Core.Option.{Option}
 use mathlib.Core.List.{List, [], _++_}
 use Prim.Native.Nat.{ℕ, _+_, _≤_, _<_, min}
@@ -16,6 +17,7 @@ use Rattle.writing.specs.Handed.{Handed, belongs}
 use Rattle.writing.specs.Size.{most, withLength, restIs, sizeIs, cap}
 use Rattle.writing.specs.Order.{judge, limitTests, permit}
 use Rattle.writing.specs.Write.{frameBytes, sizeOf, answerOf, Written}
+use Rattle.writing.proofs.Tests.{le-or}
 use Rattle.writing.proofs.ForCode.{cap-add, writes-all, writes-none}
 use Rattle.writing.proofs.Belong.{belongs-when}
 use Rattle.writing.proofs.Verdict.{answered-when}
@@ -23,7 +25,7 @@ use Rattle.wire.proofs.Laws.Put.{sets-append}
 use Rattle.rows.specs.Put.{Put}
 use Rattle.rows.proofs.Laws.Put.{sets-min}
 use Rattle.settle.specs.Behind.{Behind}
-use Rattle.settle.specs.Found.{earlyOf, lateOf, roomOf, Found}
+use Rattle.settle.specs.Found.{earlyOf, lateOf, roomOf, settledOf, sizedOf, Found}
 
 -- ---- the order
 
@@ -49,59 +51,58 @@ rest-large n m e h = go (leb n most) refl
     go true i = let f : m ≡ n = e ∙ rw i in omega arith
     go false i = leb-false n most i
 
-module _ (h : Handed) where
-  pub size-foreign : false ≡ belongs h → bad (nr 20 []) ≡ sizeOf h
-  unfolding sizeOf
-  size-foreign e = rw (← e)
-
-  module _ (e : true ≡ belongs h) (m : ℕ) (r : m ≡ cap (restIs h)) where
-    pub size-long : most < m → bad (nr 17 []) ≡ sizeOf h
-    unfolding sizeOf
-    size-long l = rw (← e, leb-no (restIs h) most (rest-large (restIs h) m r l))
-
-    pub size-counted : m ≤ most → got (1 + withLength m) ≡ sizeOf h
-    unfolding sizeOf sizeIs
-    size-counted l =
-        let i : m ≡ restIs h = rest-small (restIs h) m r l in
-        rw (← e, ← i, leb-yes m most l)
+-- what is found decides the size
+pub sized-found : (h : Handed) (t : Bool) (m : ℕ) → t ≡ belongs h → m ≡ cap (restIs h) → sizedOf t m ≡ sizeOf h
+unfolding sizeOf sizeIs
+sized-found h t m e r = go (le-or m most)
+  where
+    go : (m ≤ most) ⊎ (most < m) → sizedOf t m ≡ (guard (belongs h) (nr 20 []) >> (guard (leb (restIs h) most) (nr 17 []) >> got (1 + withLength (restIs h))))
+    go (inl l) = let i : m ≡ restIs h = rest-small (restIs h) m r l in rw (e, i)
+    go (inr l) = rw (e, leb-no m most l, leb-no (restIs h) most (rest-large (restIs h) m r l))
 
 -- what does not belong together is refused before any field is tested
 pub early-foreign : (h : Handed) (b : Bool) → b ≡ belongs h → b ≡ false → bad (nr 20 []) ≡ earlyOf h
 early-foreign h b e f = rw (← e, f)
 
-module _ (limit : Option ℕ) (room : ℕ) (h : Handed) where
-  -- what is left once R is known to be small
-  abbrev ending : ℕ → Fit (Unit {0}) → Fit ℕ
-  ending n late = judge (limitTests limit n) >> (late >> roomOf n room)
+-- what is left once R is known to be small
+abbrev ending : Option ℕ → ℕ → ℕ → Fit (Unit {0}) → Fit ℕ
+ending limit room n late = judge (limitTests limit n) >> (late >> roomOf n room)
 
-  in-order : answerOf limit room h ≡ (earlyOf h >> (guard (leb (restIs h) most) (nr 17 []) >> ending (sizeIs h) (lateOf h)))
+module _ (limit : Option ℕ) (room : ℕ) (early late : Fit (Unit {0})) (m : ℕ) where
+  pub early-bad : (k : Refusal) → early ≡ bad k → bad k ≡ settledOf early m limit late room
+  early-bad k e = rw e
+
+  module _ (e : early ≡ got tt) where
+    pub rest-long : most < m → bad (nr 17 []) ≡ settledOf early m limit late room
+    rest-long l = rw (e, leb-no m most l)
+
+    module _ (l : m ≤ most) (n : ℕ) (s : n ≡ 1 + withLength m) where
+      then-ending : settledOf early m limit late room ≡ ending limit room n late
+      then-ending = rw (e, leb-yes m most l, s)
+
+      pub limit-bad : (k : Refusal) → bad k ≡ judge (limitTests limit n) → bad k ≡ settledOf early m limit late room
+      limit-bad k j = sym (then-ending ∙ rw (← j))
+
+      module _ (j : got tt ≡ judge (limitTests limit n)) where
+        pub late-bad : (k : Refusal) → late ≡ bad k → bad k ≡ settledOf early m limit late room
+        late-bad k b = sym (then-ending ∙ rw (← j, b))
+
+        pub late-fine : late ≡ got tt → roomOf n room ≡ settledOf early m limit late room
+        late-fine b = sym (then-ending ∙ rw (← j, b))
+
+module _ (limit : Option ℕ) (room : ℕ) (h : Handed) where
+  in-order : answerOf limit room h ≡ (earlyOf h >> (guard (leb (restIs h) most) (nr 17 []) >> ending limit room (sizeIs h) (lateOf h)))
   unfolding answerOf permit
   in-order = simp then-then
 
-  module _ {early late : Fit (Unit {0})} {m : ℕ} (f : Found h early m late) where
-    pub early-bad : (k : Refusal) → early ≡ bad k → bad k ≡ answerOf limit room h
-    early-bad k e = sym (in-order ∙ rw (← f .early, e))
-
-    module _ (e : early ≡ got tt) where
-      pub rest-long : most < m → bad (nr 17 []) ≡ answerOf limit room h
-      rest-long l = sym (in-order ∙ rw (← f .early, e, leb-no (restIs h) most (rest-large (restIs h) m (f .rest) l)))
-
-      module _ (l : m ≤ most) (n : ℕ) (s : n ≡ 1 + withLength m) where
-        then-ending : answerOf limit room h ≡ ending n late
-        unfolding sizeIs
-        then-ending =
-            let i : m ≡ restIs h = rest-small (restIs h) m (f .rest) l in
-            in-order ∙ rw (← f .early, e, ← i, leb-yes m most l, ← s, ← f .late)
-
-        pub limit-bad : (k : Refusal) → bad k ≡ judge (limitTests limit n) → bad k ≡ answerOf limit room h
-        limit-bad k j = sym (then-ending ∙ rw (← j))
-
-        module _ (j : got tt ≡ judge (limitTests limit n)) where
-          pub late-bad : (k : Refusal) → late ≡ bad k → bad k ≡ answerOf limit room h
-          late-bad k b = sym (then-ending ∙ rw (← j, b))
-
-          pub late-fine : late ≡ got tt → roomOf n room ≡ answerOf limit room h
-          late-fine b = sym (then-ending ∙ rw (← j, b))
+  -- what is found decides the answer
+  pub settled-found : {early late : Fit (Unit {0})} {m : ℕ} → Found h early m late → settledOf early m limit late room ≡ answerOf limit room h
+  unfolding sizeIs
+  settled-found {early} {late} {m} f = go (le-or m most)
+    where
+      go : (m ≤ most) ⊎ (most < m) → settledOf early m limit late room ≡ answerOf limit room h
+      go (inl l) = let i : m ≡ restIs h = rest-small (restIs h) m (f .rest) l in rw (f .early, f .late, i) (sym in-order)
+      go (inr l) = rw (f .early, leb-no m most l) (sym (in-order ∙ rw (leb-no (restIs h) most (rest-large (restIs h) m (f .rest) l))))
 
 -- ---- the answer decides what is written
 

@@ -1,14 +1,16 @@
 -- What a writer has found of a hand-over before the order is settled. Assumes nothing.
 use mathlib.Core.Path.{_≡_}
+use mathlib.Core.Bool.{Bool}
+use mathlib.Core.Option.{Option}
 use mathlib.Core.List.{[], _∷_, map}
-use Prim.Native.Nat.{ℕ}
+use Prim.Native.Nat.{ℕ, _+_}
 use lib.Dec.{leb}
 use Rattle.reading.specs.Refusal.{nr}
 use Rattle.reading.specs.Reader.{Fit, got, _>>_, guard}
 use Rattle.writing.specs.Lists.{flat}
 use Rattle.writing.specs.Handed.{Handed, belongs}
-use Rattle.writing.specs.Size.{restIs, cap}
-use Rattle.writing.specs.Order.{judge, fieldTests, fieldsOf, small, numbersOf, named, asked}
+use Rattle.writing.specs.Size.{most, withLength, restIs, cap}
+use Rattle.writing.specs.Order.{judge, fieldTests, fieldsOf, small, limitTests, numbersOf, named, asked}
 
 -- 01, writing order: "20; then 18, and 9 for text, field by field as written, .."
 abbrev pub earlyOf : Handed → Fit (Unit {0})
@@ -21,6 +23,14 @@ lateOf h = guard (named h) (nr 12 []) >> (judge (map small (numbersOf h)) >> gua
 -- 01, writing order: "19", and else the size
 abbrev pub roomOf : ℕ → ℕ → Fit ℕ
 roomOf n room = guard (leb n room) (nr 19 (n ∷ [])) >> got n
+
+-- 01, writing order: "..; 17 for R; 16; ..; 19": what is told early, R, what is told late, and the size that R gives
+abbrev pub settledOf : Fit (Unit {0}) → ℕ → Option ℕ → Fit (Unit {0}) → ℕ → Fit ℕ
+settledOf early n limit late room = early >> (guard (leb n most) (nr 17 []) >> (judge (limitTests limit (1 + withLength n)) >> (late >> roomOf (1 + withLength n) room)))
+
+-- 01: "Asked alone, size refuses only with 20, then 17 for R"
+abbrev pub sizedOf : Bool → ℕ → Fit ℕ
+sizedOf t n = guard t (nr 20 []) >> (guard (leb n most) (nr 17 []) >> got (1 + withLength n))
 
 -- what is told before R is counted, R, cut off where it is too large, and what is told after the limit
 pub record Found (h : Handed) (first : Fit (Unit {0})) (n : ℕ) (last : Fit (Unit {0})) : Type 0 where

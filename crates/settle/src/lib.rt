@@ -12,16 +12,14 @@ use wire::length::write_remaining_length;
 ghost use mathlib.Core.Path.{_≡_};
 ghost use mathlib.Core.List.{_∷_};
 ghost use Prim.Native.Nat.{_+_, _≤_};
-ghost use Rattle.writing.specs.Handed.{Handed, belongs as belongsOf};
-ghost use Rattle.writing.specs.Size.{most, withLength, restIs, cap};
+ghost use Rattle.writing.specs.Size.{most, withLength};
 ghost use Rattle.writing.specs.Spell.{short};
 ghost use Rattle.writing.specs.Order.{judge, limitTests};
-ghost use Rattle.writing.specs.Write.{sizeOf, answerOf};
 ghost use Rattle.records.specs.Told.{limitOf};
 ghost use Rattle.records.specs.Answered.{toldSized, toldWritten};
 ghost use Rattle.rows.specs.Tested.{toldTested};
 ghost use Rattle.rows.specs.Put.{Put};
-ghost use Rattle.settle.specs.Found.{roomOf, Found};
+ghost use Rattle.settle.specs.Found.{roomOf, settledOf, sizedOf};
 
 const MOST: usize = 268435455;
 
@@ -35,7 +33,7 @@ fn frame_size(rest: usize) -> usize
 
 // The size, from whether what is handed over belongs together (20), and R, cut off where it is too large (17).
 pub fn size(belongs: bool, rest: usize) -> Sized
-    ensures { λ r. ⌜ ((h : Handed) → belongs ≡ belongsOf h → rest ≡ cap (restIs h) → toldSized r ≡ sizeOf h) ⌝ }
+    ensures { λ r. ⌜ toldSized r ≡ sizedOf belongs rest ⌝ }
 {
     if !belongs {
         return Sized::Refused(Error::ListMismatch);
@@ -74,7 +72,7 @@ fn fit(size: usize, room: usize) -> Written
 // The answer, from what is found: `early` says 20 and the fields, `rest` is R, cut off where it is too large, `late` says 12, 17 for
 // identifiers, and 13.
 pub fn settle(early: Tested, rest: usize, limit: Limit, late: Tested, room: usize) -> Written
-    ensures { λ r. ⌜ ((h : Handed) → Found h (toldTested early) rest (toldTested late) → toldWritten r ≡ answerOf (limitOf limit) room h) ⌝ }
+    ensures { λ r. ⌜ toldWritten r ≡ settledOf (toldTested early) rest (limitOf limit) (toldTested late) room ⌝ }
 {
     match early {
         Tested::Refused(e) => Written::Refused(e),

@@ -1,5 +1,7 @@
 -- `ping::ping_size` is right since a ping has no bytes behind R. Assumes nothing.
+use mathlib.Core.Path.{_∙_}
 use Rattle.writing.specs.Handed.{ping}
+use Rattle.settle.proofs.Laws.{sized-found}
 use Rattle.ping.proofs.Laws.{ping-belongs, ping-rest}
 use borrow.Author.Needs.{needs}
 use Rattle.ping.proofs.ping_size.Statement.{statement}
@@ -9,7 +11,7 @@ size-requires : tie.Need-size-requires
 size-requires c κs = search needs
 
 returns : tie.Need-returns
-returns c = λ k. c .size .ensures (ping k) (ping-belongs k) (ping-rest k)
+returns c = λ k. c .size .ensures ∙ sized-found (ping k) _ _ (ping-belongs k) (ping-rest k)
 
 pub ping-size-spec : {M : Type 1} → statement M
 ping-size-spec = tie.close (tie.spec size-requires returns)

@@ -7,7 +7,7 @@ use denote.Ref.{now}
 use Rattle.writing.specs.Handed.{ping}
 use Rattle.records.specs.Told.{limitOf}
 use Rattle.records.specs.Answered.{toldWritten}
-use Rattle.settle.proofs.Laws.{none-written, all-written}
+use Rattle.settle.proofs.Laws.{settled-found, none-written, all-written}
 use Rattle.ping.proofs.Laws.{ping-found, ping-bytes}
 use borrow.Author.Needs.{needs}
 use Rattle.ping.proofs.write_ping.Statement.{statement}
@@ -28,7 +28,7 @@ put-header-requires c κs = search needs
 returns : tie.Need-returns
 returns c =
     let a = c .before .before .before .before .before .args in
-    λ k e. none-written (limitOf (a .limit)) (ping k) (now (a .out)) _ (sym (ap toldWritten (c .before .e .given .1)) ∙ c .before .before .before .settle .ensures (ping k) (ping-found k))
+    λ k e. none-written (limitOf (a .limit)) (ping k) (now (a .out)) _ (sym (ap toldWritten (c .before .e .given .1)) ∙ c .before .before .before .settle .ensures ∙ settled-found (limitOf (a .limit)) _ (ping k) (ping-found k))
 
 same-length : tie.Need-same-length
 same-length c = search needs
@@ -36,7 +36,7 @@ same-length c = search needs
 returns-2 : tie.Need-returns-2
 returns-2 c =
     let a = c .before .before .before .before .before .before .before .before .before .args in
-    λ k e. all-written (limitOf (a .limit)) (ping k) (now (a .out)) _ (sym (ap toldWritten (c .before .before .before .before .before .n .given .1)) ∙ c .before .before .before .before .before .before .before .settle .ensures (ping k) (ping-found k)) _ (λ b r. c .before .before .put-header .ensures .stores ∙ ap (λ (l : List ℕ). sets (now (a .out)) 0 l) (ping-bytes k (a .first) e))
+    λ k e. all-written (limitOf (a .limit)) (ping k) (now (a .out)) _ (sym (ap toldWritten (c .before .before .before .before .before .n .given .1)) ∙ c .before .before .before .before .before .before .before .settle .ensures ∙ settled-found (limitOf (a .limit)) _ (ping k) (ping-found k)) _ (λ b r. c .before .before .put-header .ensures .stores ∙ ap (λ (l : List ℕ). sets (now (a .out)) 0 l) (ping-bytes k (a .first) e))
 
 pub write-ping-spec : {M : Type 1} → statement M
 write-ping-spec =

@@ -1,6 +1,8 @@
 -- `puback_write::size` is right since what it hands on is whether all belongs together, and R. Assumes nothing.
+use mathlib.Core.Path.{_∙_}
 use denote.Ref.{now}
 use Rattle.writing.specs.Handed.{ack}
+use Rattle.settle.proofs.Laws.{sized-found}
 use Rattle.puback_write.specs.Handed.{handed}
 use borrow.Author.Needs.{needs}
 use Rattle.puback_write.proofs.size.Statement.{statement}
@@ -16,7 +18,7 @@ size-requires : tie.Need-size-requires
 size-requires c κs = search needs
 
 returns : tie.Need-returns
-returns c = let a = c .before .before .before .before .before .before .args in c .size .ensures (ack 4 (handed (a .m) (now (a .reason-string)) (now (a .user)) (now (a .user-lengths)))) (c .before .before .belongs .ensures) (c .before .rest .ensures)
+returns c = let a = c .before .before .before .before .before .before .args in c .size .ensures ∙ sized-found (ack 4 (handed (a .m) (now (a .reason-string)) (now (a .user)) (now (a .user-lengths)))) _ _ (c .before .before .belongs .ensures) (c .before .rest .ensures)
 
 pub size-spec : {M : Type 1} → statement M
 size-spec = tie.close (tie.spec belongs-requires rest-requires size-requires returns)

@@ -4,7 +4,7 @@ use denote.Ref.{now}
 use Rattle.writing.specs.Handed.{ack}
 use Rattle.records.specs.Told.{limitOf}
 use Rattle.records.specs.Answered.{toldWritten}
-use Rattle.settle.proofs.Laws.{none-written, all-written}
+use Rattle.settle.proofs.Laws.{settled-found, none-written, all-written}
 use Rattle.puback_write.specs.Handed.{handed}
 use Rattle.puback_write.proofs.Laws.{ack-late}
 use borrow.Author.Needs.{needs}
@@ -33,7 +33,7 @@ returns : tie.Need-returns
 returns c =
     let a = c .before .before .before .before .before .before .before .before .before .before .args in
     none-written (limitOf (a .limit)) (ack 4 (handed (a .m) (now (a .reason-string)) (now (a .user)) (now (a .user-lengths)))) (now (a .out)) _
-    (sym (ap toldWritten (c .before .e .given .1)) ∙ c .before .before .before .settle .ensures (ack 4 (handed (a .m) (now (a .reason-string)) (now (a .user)) (now (a .user-lengths)))) (record { early = c .before .before .before .before .before .early .ensures; rest = c .before .before .before .before .rest .ensures; late = ack-late (handed (a .m) (now (a .reason-string)) (now (a .user)) (now (a .user-lengths))) }))
+    (sym (ap toldWritten (c .before .e .given .1)) ∙ c .before .before .before .settle .ensures ∙ settled-found (limitOf (a .limit)) _ (ack 4 (handed (a .m) (now (a .reason-string)) (now (a .user)) (now (a .user-lengths)))) (record { early = c .before .before .before .before .before .early .ensures; rest = c .before .before .before .before .rest .ensures; late = ack-late (handed (a .m) (now (a .reason-string)) (now (a .user)) (now (a .user-lengths))) }))
 
 same-length : tie.Need-same-length
 same-length c = search needs
@@ -42,7 +42,7 @@ returns-2 : tie.Need-returns-2
 returns-2 c =
     let a = c .before .before .before .before .before .before .before .before .before .before .before .before .before .before .args in
     all-written (limitOf (a .limit)) (ack 4 (handed (a .m) (now (a .reason-string)) (now (a .user)) (now (a .user-lengths)))) (now (a .out)) _
-    (sym (ap toldWritten (c .before .before .before .before .before .n .given .1)) ∙ c .before .before .before .before .before .before .before .settle .ensures (ack 4 (handed (a .m) (now (a .reason-string)) (now (a .user)) (now (a .user-lengths)))) (record { early = c .before .before .before .before .before .before .before .before .before .early .ensures; rest = c .before .before .before .before .before .before .before .before .rest .ensures; late = ack-late (handed (a .m) (now (a .reason-string)) (now (a .user)) (now (a .user-lengths))) })) _ (c .before .before .put .ensures)
+    (sym (ap toldWritten (c .before .before .before .before .before .n .given .1)) ∙ c .before .before .before .before .before .before .before .settle .ensures ∙ settled-found (limitOf (a .limit)) _ (ack 4 (handed (a .m) (now (a .reason-string)) (now (a .user)) (now (a .user-lengths)))) (record { early = c .before .before .before .before .before .before .before .before .before .early .ensures; rest = c .before .before .before .before .before .before .before .before .rest .ensures; late = ack-late (handed (a .m) (now (a .reason-string)) (now (a .user)) (now (a .user-lengths))) })) _ (c .before .before .put .ensures)
 
 pub write-spec : {M : Type 1} → statement M
 write-spec =

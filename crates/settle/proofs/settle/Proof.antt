@@ -17,7 +17,7 @@ enum-told c = search needs
 returns : tie.Need-returns
 returns c =
     let a = c .before .before .before .args in
-    λ h f. rest-long (limitOf (a .limit)) (a .room) h f (ap toldTested (c .before .enum-told .given .1)) (omega arith)
+    rest-long (limitOf (a .limit)) (a .room) _ (toldTested (a .late)) (a .rest) (ap toldTested (c .before .enum-told .given .1)) (omega arith)
 
 frame-size-requires : tie.Need-frame-size-requires
 frame-size-requires c κs = search needs
@@ -43,22 +43,22 @@ fit-requires c κs = search needs
 returns-2 : tie.Need-returns-2
 returns-2 c =
     let a = c .before .before .before .args in
-    λ h f. early-bad (limitOf (a .limit)) (a .room) h f _ (ap toldTested (c .before .early .given .1))
+    early-bad (limitOf (a .limit)) (a .room) _ (toldTested (a .late)) (a .rest) _ (ap toldTested (c .before .early .given .1))
 
 returns-3 : tie.Need-returns-3
 returns-3 c =
     let a = c .before .before .before .before .before .before .before .before .args in
-    λ h f. limit-bad (limitOf (a .limit)) (a .room) h f (ap toldTested (c .before .before .before .before .before .before .enum-told .given .1)) (c .before .before .before .before .before .if1 .left) _ (c .before .before .before .before .frame-size .ensures) _ (sym (ap toldTested (c .before .e .given .1)) ∙ c .before .before .before .within .ensures)
+    limit-bad (limitOf (a .limit)) (a .room) _ (toldTested (a .late)) (a .rest) (ap toldTested (c .before .before .before .before .before .before .enum-told .given .1)) (c .before .before .before .before .before .if1 .left) _ (c .before .before .before .before .frame-size .ensures) _ (sym (ap toldTested (c .before .e .given .1)) ∙ c .before .before .before .within .ensures)
 
 returns-4 : tie.Need-returns-4
 returns-4 c =
     let a = c .before .before .before .before .before .before .before .before .before .before .args in
-    λ h f. late-bad (limitOf (a .limit)) (a .room) h f (ap toldTested (c .before .before .before .before .before .before .before .before .enum-told .given .1)) (c .before .before .before .before .before .before .before .if1 .left) _ (c .before .before .before .before .before .before .frame-size .ensures) (sym (ap toldTested (c .before .before .before .enum-told2 .given .1)) ∙ c .before .before .before .before .before .within .ensures) _ (ap toldTested (c .before .late .given .1))
+    late-bad (limitOf (a .limit)) (a .room) _ (toldTested (a .late)) (a .rest) (ap toldTested (c .before .before .before .before .before .before .before .before .enum-told .given .1)) (c .before .before .before .before .before .before .before .if1 .left) _ (c .before .before .before .before .before .before .frame-size .ensures) (sym (ap toldTested (c .before .before .before .enum-told2 .given .1)) ∙ c .before .before .before .before .before .within .ensures) _ (ap toldTested (c .before .late .given .1))
 
 returns-5 : tie.Need-returns-5
 returns-5 c =
     let a = c .before .before .before .before .before .before .before .before .before .before .args in
-    λ h f. c .fit .ensures ∙ late-fine (limitOf (a .limit)) (a .room) h f (ap toldTested (c .before .before .before .before .before .before .before .before .enum-told .given .1)) (c .before .before .before .before .before .before .before .if1 .left) _ (c .before .before .before .before .before .before .frame-size .ensures) (sym (ap toldTested (c .before .before .before .enum-told2 .given .1)) ∙ c .before .before .before .before .before .within .ensures) (ap toldTested (c .before .enum-told3 .given .1))
+    c .fit .ensures ∙ late-fine (limitOf (a .limit)) (a .room) _ (toldTested (a .late)) (a .rest) (ap toldTested (c .before .before .before .before .before .before .before .before .enum-told .given .1)) (c .before .before .before .before .before .before .before .if1 .left) _ (c .before .before .before .before .before .before .frame-size .ensures) (sym (ap toldTested (c .before .before .before .enum-told2 .given .1)) ∙ c .before .before .before .before .before .within .ensures) (ap toldTested (c .before .enum-told3 .given .1))
 
 pub settle-spec : {M : Type 1} → statement M
 settle-spec =

@@ -1,6 +1,8 @@
 -- `subscribe_write::size` is right since what it hands on is whether all belongs together, and R. Assumes nothing.
+use mathlib.Core.Path.{_∙_}
 use denote.Ref.{now}
 use Rattle.writing.specs.Handed.{subscribe}
+use Rattle.settle.proofs.Laws.{sized-found}
 use Rattle.subscribe_write.specs.Handed.{handed}
 use borrow.Author.Needs.{needs}
 use Rattle.subscribe_write.proofs.size.Statement.{statement}
@@ -16,7 +18,7 @@ size-requires : tie.Need-size-requires
 size-requires c κs = search needs
 
 returns : tie.Need-returns
-returns c = let a = c .before .before .before .before .before .before .before .before .args in c .size .ensures (subscribe (handed (a .m) (now (a .user)) (now (a .user-lengths)) (now (a .filters)) (now (a .filter-lengths)) (now (a .options)))) (c .before .before .belongs .ensures) (c .before .rest .ensures (now (a .filter-lengths)))
+returns c = let a = c .before .before .before .before .before .before .before .before .args in c .size .ensures ∙ sized-found (subscribe (handed (a .m) (now (a .user)) (now (a .user-lengths)) (now (a .filters)) (now (a .filter-lengths)) (now (a .options)))) _ _ (c .before .before .belongs .ensures) (c .before .rest .ensures (now (a .filter-lengths)))
 
 pub size-spec : {M : Type 1} → statement M
 size-spec = tie.close (tie.spec belongs-requires rest-requires size-requires returns)

@@ -4,7 +4,7 @@ use denote.Ref.{now}
 use Rattle.writing.specs.Handed.{subscribe}
 use Rattle.records.specs.Told.{limitOf}
 use Rattle.records.specs.Answered.{toldWritten}
-use Rattle.settle.proofs.Laws.{none-written, all-written}
+use Rattle.settle.proofs.Laws.{settled-found, none-written, all-written}
 use Rattle.subscribe_write.specs.Handed.{handed}
 use borrow.Author.Needs.{needs}
 use Rattle.subscribe_write.proofs.write.Statement.{statement}
@@ -35,7 +35,7 @@ returns : tie.Need-returns
 returns c =
     let a = c .before .before .before .before .before .before .before .before .before .before .before .before .before .args in
     none-written (limitOf (a .limit)) (subscribe (handed (a .m) (now (a .user)) (now (a .user-lengths)) (now (a .filters)) (now (a .filter-lengths)) (now (a .options)))) (now (a .out)) _
-    (sym (ap toldWritten (c .before .e .given .1)) ∙ c .before .before .before .settle .ensures (subscribe (handed (a .m) (now (a .user)) (now (a .user-lengths)) (now (a .filters)) (now (a .filter-lengths)) (now (a .options)))) (record { early = c .before .before .before .before .before .before .early .ensures; rest = c .before .before .before .before .before .rest .ensures (now (a .filter-lengths)); late = c .before .before .before .before .late .ensures (now (a .user)) (now (a .user-lengths)) (now (a .filters)) }))
+    (sym (ap toldWritten (c .before .e .given .1)) ∙ c .before .before .before .settle .ensures ∙ settled-found (limitOf (a .limit)) _ (subscribe (handed (a .m) (now (a .user)) (now (a .user-lengths)) (now (a .filters)) (now (a .filter-lengths)) (now (a .options)))) (record { early = c .before .before .before .before .before .before .early .ensures; rest = c .before .before .before .before .before .rest .ensures (now (a .filter-lengths)); late = c .before .before .before .before .late .ensures (now (a .user)) (now (a .user-lengths)) (now (a .filters)) }))
 
 same-length : tie.Need-same-length
 same-length c = search needs
@@ -44,7 +44,7 @@ returns-2 : tie.Need-returns-2
 returns-2 c =
     let a = c .before .before .before .before .before .before .before .before .before .before .before .before .before .before .before .before .before .args in
     all-written (limitOf (a .limit)) (subscribe (handed (a .m) (now (a .user)) (now (a .user-lengths)) (now (a .filters)) (now (a .filter-lengths)) (now (a .options)))) (now (a .out)) _
-    (sym (ap toldWritten (c .before .before .before .before .before .n .given .1)) ∙ c .before .before .before .before .before .before .before .settle .ensures (subscribe (handed (a .m) (now (a .user)) (now (a .user-lengths)) (now (a .filters)) (now (a .filter-lengths)) (now (a .options)))) (record { early = c .before .before .before .before .before .before .before .before .before .before .early .ensures; rest = c .before .before .before .before .before .before .before .before .before .rest .ensures (now (a .filter-lengths)); late = c .before .before .before .before .before .before .before .before .late .ensures (now (a .user)) (now (a .user-lengths)) (now (a .filters)) })) _ (c .before .before .put .ensures)
+    (sym (ap toldWritten (c .before .before .before .before .before .n .given .1)) ∙ c .before .before .before .before .before .before .before .settle .ensures ∙ settled-found (limitOf (a .limit)) _ (subscribe (handed (a .m) (now (a .user)) (now (a .user-lengths)) (now (a .filters)) (now (a .filter-lengths)) (now (a .options)))) (record { early = c .before .before .before .before .before .before .before .before .before .before .early .ensures; rest = c .before .before .before .before .before .before .before .before .before .rest .ensures (now (a .filter-lengths)); late = c .before .before .before .before .before .before .before .before .late .ensures (now (a .user)) (now (a .user-lengths)) (now (a .filters)) })) _ (c .before .before .put .ensures)
 
 pub write-spec : {M : Type 1} → statement M
 write-spec =
