@@ -23,11 +23,14 @@ pub fn parse_fixed_header(stream: &[u8]) -> Checked
     }
     let byte1 = stream[0];
     match length::length(stream, 1) {
-        GotLength::Number(n, next) => Checked::Header(FixedHeader {
-            byte1,
-            fixed_header_len: next,
-            remaining_len: n as usize,
-        }),
+        GotLength::Number(n, count) => {
+            let start = 1 + count;
+            Checked::Header(FixedHeader {
+                byte1,
+                fixed_header_len: start,
+                remaining_len: n as usize,
+            })
+        }
         GotLength::Cut => Checked::Refused(Error::InsufficientBytes(1)),
         GotLength::Long => Checked::Refused(Error::MalformedRemainingLength),
     }

@@ -15,7 +15,7 @@ ghost use Rattle.wire.specs.Length.{toldLength};
 
 // The number that stands at an index, with no word yet on what a number cut off means: the header and a frame refuse it in different ways.
 pub enum GotLength {
-    // the number, and the index after it
+    // the number, and how many bytes spell it
     Number(u32, usize),
     // the bytes end before the number does
     Cut,
@@ -30,7 +30,7 @@ fn widen(b: u8) -> u32
 }
 
 pub fn length(s: &[u8], at: usize) -> GotLength
-    ensures { λ r. ⌜ ((c : Refusal) → toldLength c r ≡ fromAt (numOf c 4) (now (s .entry)) at) ⌝ }
+    ensures { λ r. ⌜ ((c : Refusal) → toldLength c at r ≡ fromAt (numOf c 4) (now (s .entry)) at) ⌝ }
 {
     let mut value: u32 = 0;
     let mut unit: u32 = 1;
@@ -41,10 +41,11 @@ pub fn length(s: &[u8], at: usize) -> GotLength
         }
         let b = widen(s[next]);
         next = next + 1;
+        let count = next - at;
         if b < 128 {
-            break GotLength::Number(value + b * unit, next);
+            break GotLength::Number(value + b * unit, count);
         }
-        if 4 <= next - at {
+        if 4 <= count {
             break GotLength::Long;
         }
         value = value + (b - 128) * unit;
@@ -57,7 +58,10 @@ pub fn read_length(s: &[u8], at: usize) -> GotU32
     ensures { λ r. ⌜ toldU32 r ≡ fromAt (numOf cut 4) (now (s .entry)) at ⌝ }
 {
     match length(s, at) {
-        GotLength::Number(n, next) => GotU32::Value(n, next),
+        GotLength::Number(n, count) => {
+            let next = at + count;
+            GotU32::Value(n, next)
+        }
         GotLength::Cut => GotU32::Refused(Error::MalformedPacket),
         GotLength::Long => GotU32::Refused(Error::MalformedRemainingLength),
     }

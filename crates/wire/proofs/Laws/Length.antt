@@ -16,7 +16,8 @@ use Rattle.reading.specs.Reader.{got, bad}
 use Rattle.reading.specs.Read.{numOf}
 use Rattle.positions.specs.Position.{fromAt}
 use Rattle.positions.proofs.At.{scale, num-cut, num-last, num-next, scale-scale, scale-one}
-use Rattle.positions.proofs.Position.{left-at, left-bad}
+use Rattle.positions.proofs.Trails.{trails-num}
+use Rattle.positions.proofs.Position.{got-within, left-at, left-bad}
 use Rattle.writing.specs.Spell.{wide, spellStep, spell, short}
 use Rattle.wire.proofs.Laws.Put.{wide-one}
 
@@ -52,13 +53,14 @@ module _ {s : List ℕ} {at value unit next : ℕ} (p : Passed s at value unit n
   number-cut h c = sym (left-bad (numOf c 4) s at c (p .rest c ∙ rw (num-cut c (3 - p .n) next s h)))
 
   module _ (h : next < length s) (b : ℕ) (e : (b ≡ getD s next 0) × (b < 256)) where
-    pub number-ends : b < 128 → (c : Refusal) → got (value + b * unit, next + 1) ≡ fromAt (numOf c 4) s at
+    pub number-ends : b < 128 → (c : Refusal) → got (value + b * unit, at + (next + 1 - at)) ≡ fromAt (numOf c 4) s at
     number-ends l c =
         let x : ℕ = getD s next 0 in
+        let k : at + (next + 1 - at) ≡ next + 1 = omega (arith, p .here) in
         let v : value + unit * x ≡ value + b * unit = omega (arith, mul-comm unit x, ap (λ (y : ℕ). y * unit) (e .0)) in
-        sym (left-at (numOf c 4) s at (value + b * unit) (next + 1)
+        rw k (sym (left-at (numOf c 4) s at (value + b * unit) (next + 1)
         (p .rest c ∙ rw (num-last c (3 - p .n) next s h (omega arith)) (ap (λ (y : ℕ). got (y, drop (next + 1) s)) v))
-        (omega arith))
+        (omega arith)))
 
     goes-on : 128 ≤ b → (c : Refusal) → numOf c 4 (drop at s) ≡ scale (value + (b - 128) * unit) (unit * 128) (numOf c (3 - p .n) (drop (next + 1) s))
     goes-on l c =
@@ -81,6 +83,10 @@ module _ {s : List ℕ} {at value unit next : ℕ} (p : Passed s at value unit n
           small = group-below (b - 128) (omega arith);
           rest = λ c. goes-on l c ∙ rw z;
         }
+
+-- a number ends within the slice
+pub number-within : (s : List ℕ) (at n m : ℕ) (c : Refusal) → got (n, m) ≡ fromAt (numOf c 4) s at → m ≤ length s
+number-within s at n m c e = got-within (numOf c 4) s at (trails-num c 4) n m (sym e)
 
 -- ---- the shortest spelling
 

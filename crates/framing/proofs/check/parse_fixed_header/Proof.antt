@@ -4,6 +4,7 @@ use mathlib.Core.Path.{sym}
 use mathlib.Core.List.{[], _∷_}
 use native.Mathlib.Omega.{arith}
 use Rattle.reading.specs.Refusal.{nr}
+use Rattle.wire.proofs.Laws.Length.{number-within}
 use Rattle.framing.proofs.Laws.Frame.{header-none, header-first}
 use Rattle.framing.proofs.check.parse_fixed_header.Statement.{statement}
 use Rattle.framing.proofs.check.parse_fixed_header.Tie as tie
@@ -20,8 +21,13 @@ length-requires c κs = search needs
 enum-known-n : tie.Need-enum-known-n
 enum-known-n c = search needs
 
-cast-t12 : tie.Need-cast-t12
-cast-t12 c = search needs
+add-start : tie.Need-add-start
+add-start c =
+    let e = rw (c .before .n .given .1) at (c .before .before .before .length .ensures (nr 1 (1 ∷ []))) in
+    omega (arith, number-within (c .before .before .before .before .before .before .before .args .stream .now) 1 _ _ (nr 1 (1 ∷ [])) e)
+
+cast-t13 : tie.Need-cast-t13
+cast-t13 c = search needs
 
 enum-told : tie.Need-enum-told
 enum-told c = search needs
@@ -46,7 +52,8 @@ parse-fixed-header-spec =
     shared-slice-read-byte1
     length-requires
     enum-known-n
-    cast-t12
+    add-start
+    cast-t13
     enum-told
     enum-told-2
     returns-2

@@ -25,14 +25,14 @@ widen-requires c κs = search needs
 add-next : tie.Need-add-next Inv-loop μ-loop
 add-next c = omega arith
 
-mul-t12 : tie.Need-mul-t12 Inv-loop μ-loop
-mul-t12 c = omega (arith, group-fits (c .before .before .before .before .loop .inv) (c .before .widen .result) (c .if2 .taken))
+sub-count : tie.Need-sub-count Inv-loop μ-loop
+sub-count c = omega arith
 
-add-t13 : tie.Need-add-t13 Inv-loop μ-loop
-add-t13 c = omega (arith, group-fits (c .before .before .before .before .loop .inv) (c .before .widen .result) (c .if2 .taken))
+mul-t13 : tie.Need-mul-t13 Inv-loop μ-loop
+mul-t13 c = omega (arith, group-fits (c .before .before .before .before .loop .inv) (c .before .widen .result) (c .if2 .taken))
 
-sub-if3 : tie.Need-sub-if3 Inv-loop μ-loop
-sub-if3 c = omega arith
+add-t14 : tie.Need-add-t14 Inv-loop μ-loop
+add-t14 c = omega (arith, group-fits (c .before .before .before .before .loop .inv) (c .before .widen .result) (c .if2 .taken))
 
 mul-value : tie.Need-mul-value Inv-loop μ-loop
 mul-value c = omega (arith, group-fits (c .before .before .before .before .before .loop .inv) (c .before .before .widen .result - 128) (omega arith))
@@ -68,9 +68,9 @@ length-spec =
     shared-slice-read-widen
     widen-requires
     add-next
-    mul-t12
-    add-t13
-    sub-if3
+    sub-count
+    mul-t13
+    add-t14
     mul-value
     add-value
     mul-unit

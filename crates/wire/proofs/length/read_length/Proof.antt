@@ -1,6 +1,8 @@
 -- `wire::length::read_length` is right since inside a frame a number cut off is a field that ends early. Assumes nothing.
 use borrow.Author.Needs.{needs}
+use native.Mathlib.Omega.{arith}
 use Rattle.reading.specs.Refusal.{cut}
+use Rattle.wire.proofs.Laws.Length.{number-within}
 use Rattle.wire.proofs.length.read_length.Statement.{statement}
 use Rattle.wire.proofs.length.read_length.Tie as tie
 
@@ -9,6 +11,11 @@ length-requires c κs = search needs
 
 enum-known-n : tie.Need-enum-known-n
 enum-known-n c = search needs
+
+add-next : tie.Need-add-next
+add-next c =
+    let e = rw (c .before .n .given .1) at (c .before .before .before .length .ensures cut) in
+    omega (arith, number-within (c .before .before .before .before .before .args .s .now) (c .before .before .before .before .before .args .at) _ _ cut e)
 
 enum-told : tie.Need-enum-told
 enum-told c = search needs
@@ -28,4 +35,4 @@ returns-3 c = rw (c .enum-told2 .given .1) at (c .before .before .length .ensure
 pub read-length-spec : {M : Type 1} → statement M
 read-length-spec =
     tie.close
-    (tie.spec length-requires enum-known-n enum-told enum-told-2 returns returns-2 returns-3)
+    (tie.spec length-requires enum-known-n add-next enum-told enum-told-2 returns returns-2 returns-3)
