@@ -1,4 +1,3 @@
 pub mod Told
-pub mod Length
 pub mod Property
 pub mod Qos

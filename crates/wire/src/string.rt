@@ -1,8 +1,8 @@
 // Strings, a u16 length and that many bytes: `read_mqtt_bytes`, `read_mqtt_string` and `write_mqtt_bytes` of v5/mod.rs, and the part
 // of a stream at a place. A read gives the place; the end of the slice is the end of its room.
-use crate::fixed;
 use crate::got::GotSpan;
-use crate::got::GotU16;
+use numbers::fixed;
+use numbers::got::GotU16;
 use records::error::Error;
 use records::span::MaybeSpan;
 use records::span::Span;
