@@ -148,7 +148,7 @@ module _ {s : List ℕ} {k at : ℕ} where
 -- ---- the identifier before it
 
 -- what is read has the identifier that was asked for
-value-tag : (o : Option Form) (k end : ℕ) (l : List ℕ) (y : Prop Span × List ℕ) → valueAt asPlaces o k end l ≡ got y → y .0 .0 ≡ k
+pub value-tag : (o : Option Form) (k end : ℕ) (l : List ℕ) (y : Prop Span × List ℕ) → valueAt asPlaces o k end l ≡ got y → y .0 .0 ≡ k
 unfolding valueAt
 value-tag none k end l = λ y e. absurd (bad-got e)
 value-tag (some f) k end l = from-bind (valueOf asPlaces f end l) _ λ x e. from-got (λ (y : Prop Span × List ℕ). y .0 .0 ≡ k) ((k, x .0), x .1) refl
