@@ -1,7 +1,7 @@
 -- What a property tells, and what the readers of one promise. Assumes nothing.
 use mathlib.Core.Path.{_≡_}
 use mathlib.Core.Option.{Option, some}
-use mathlib.Core.List.{List}
+use mathlib.Core.List.{List, [], _∷_}
 use Prim.Native.Nat.{ℕ}
 use lib.ListN.{length}
 use Rattle.grammar.specs.Choice.{lookup}
@@ -13,6 +13,8 @@ use Rattle.positions.specs.Position.{fromAt}
 use Rattle.records.specs.Told.{toldError, toldSpan}
 use Rattle.grammar.specs.Tables as tables
 use Rattle.reading.specs.Place as place
+use Rattle.wire.specs.declared.property.PropertyPlace.{PropertyPlace}
+use Rattle.wire.specs.declared.property.PropertyPlace.the-variants.{Publish, Subscribe, PubAck}
 use Rattle.property_value.specs.declared.Value.{Value}
 use Rattle.property_value.specs.declared.Value.the-variants.{U8, U16, U32, Number, Text, Bytes, Pair}
 use Rattle.property_value.specs.declared.GotProperty.{GotProperty}
@@ -57,3 +59,22 @@ pub record ValueRead (o : Option tables.Form) (k : ℕ) (s : List ℕ) (at : ℕ
 pub record PropertyRead (row : tables.Place) (s : List ℕ) (at : ℕ) (r : GotProperty) : Type 0 where
   pub says : toldProperty r ≡ fromAt (propertyOf asPlaces row (length s)) s at
   pub typed : Typed (lookup row) r
+
+-- 01, grammar: "38, and 11 in Publish, are lists kept in order": their entries in a place's row
+abbrev pub listsOf : PropertyPlace → tables.Place
+listsOf Publish = (38, tables.pair) ∷ (11, tables.number) ∷ []
+listsOf Subscribe = (38, tables.pair) ∷ []
+listsOf PubAck = (38, tables.pair) ∷ []
+
+-- the index after what was read; `at` if it was refused
+abbrev pub nextOr : {A : Type 0} → ℕ → Fit (A × ℕ) → ℕ
+nextOr at (got z) = z .1
+nextOr at (bad k) = at
+
+-- the index after a value of the form f at `start`; `at` if none stands there
+pub record ValuePassed (f : tables.Form) (k : ℕ) (s : List ℕ) (at start r : ℕ) : Type 0 where
+  pub says : r ≡ nextOr at (fromAt (valueAt asPlaces (some f) k (length s)) s start)
+
+-- the index after the property at index `at` of s, in a row; `at` if none stands there
+pub record PropertyPassed (row : tables.Place) (s : List ℕ) (at r : ℕ) : Type 0 where
+  pub says : r ≡ nextOr at (fromAt (propertyOf asPlaces row (length s)) s at)

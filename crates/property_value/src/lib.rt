@@ -13,9 +13,9 @@ use wire::property::PropertyForm;
 use wire::property::PropertyPlace;
 use wire::string;
 ghost use mathlib.Core.Option.{some};
-ghost use Rattle.grammar.specs.Tables.{pair};
+ghost use Rattle.grammar.specs.Tables.{number, pair};
 ghost use Rattle.wire.specs.Property.{placeOf, toldForm};
-ghost use Rattle.property_value.specs.Told.{ValueRead, PropertyRead};
+ghost use Rattle.property_value.specs.Told.{ValueRead, PropertyRead, listsOf, ValuePassed, PropertyPassed};
 
 // A value, by its form.
 pub enum Value {
@@ -90,5 +90,47 @@ pub fn read_property(place: PropertyPlace, s: &[u8], at: usize) -> GotProperty
             let form = property::property(place, k);
             read_value(form, k, s, next)
         }
+    }
+}
+
+// The index after the two texts of a user property, which begin at `start`; `at` if they do not stand there.
+fn pass_pair(s: &[u8], at: usize, start: usize) -> usize
+    ensures { λ r. ⌜ ValuePassed pair 38 (now (s .entry)) at start r ⌝ }
+{
+    match string::read_mqtt_string(s, start) {
+        GotSpan::Refused(_) => at,
+        GotSpan::Value(_, m) => match string::read_mqtt_string(s, m) {
+            GotSpan::Refused(_) => at,
+            GotSpan::Value(_, n) => n,
+        },
+    }
+}
+
+// The same of the number of a subscription identifier.
+fn pass_number(s: &[u8], at: usize, start: usize) -> usize
+    ensures { λ r. ⌜ ValuePassed number 11 (now (s .entry)) at start r ⌝ }
+{
+    match length::read_length(s, start) {
+        GotU32::Refused(_) => at,
+        GotU32::Value(_, n) => n,
+    }
+}
+
+// The index after a property of a list, which a block's loop passes over; `at` if none stands there whole. A number and no place, so
+// that the answer needs no memory.
+pub fn pass_listed(place: PropertyPlace, s: &[u8], at: usize) -> usize
+    ensures { λ r. ⌜ PropertyPassed (listsOf place) (now (s .entry)) at r ⌝ }
+{
+    match fixed::read_u8(s, at) {
+        GotU8::Refused(_) => at,
+        GotU8::Value(k, start) => match k {
+            38 => pass_pair(s, at, start),
+            11 => match place {
+                PropertyPlace::Publish => pass_number(s, at, start),
+                PropertyPlace::Subscribe => at,
+                PropertyPlace::PubAck => at,
+            },
+            0..=10 | 12..=37 | 39..=255 => at,
+        },
     }
 }

@@ -12,19 +12,21 @@ use lib.Seq.{drop-cons}
 use Rattle.grammar.specs.Choice.{pick, lookup}
 use Rattle.grammar.specs.Gram.{forget}
 use Rattle.grammar.specs.Tables.{Form, u8, u16, u32, number, text, bytes, pair, Place, publishPlace, subscribePlace, ackPlace}
-use Rattle.grammar.specs.Record.{Prop, lastOf, unlessEmpty, publishProps, subscribeProps, ackProps}
+use Rattle.grammar.specs.Record.{Val, Prop, lastOf, unlessEmpty, publishProps, subscribeProps, ackProps}
 use Rattle.reading.specs.Refusal.{Refusal}
 use Rattle.reading.specs.Reader.{Fit, got, bad, _>>=_, handFit, runFit, chainFit, foldFrom, foldFit}
-use Rattle.reading.specs.Read.{propertyOf, propertiesFit}
+use Rattle.reading.specs.Read.{valueAt, propertyOf, propertiesFit}
 use Rattle.reading.specs.Place.{Span, spanOf, asPlaces, onGot}
 use Rattle.reading.proofs.Lists.{eq-of}
+use Rattle.reading.proofs.Reading.{bad-got}
 use Rattle.positions.specs.Position.{fromAt}
 use Rattle.positions.proofs.Walk.{fold-nil, fold-bad, fold-next}
 use Rattle.positions.proofs.Less.{property-less}
 use Rattle.positions.proofs.Position.{bad-left}
-use Rattle.property_value.specs.Told.{formOf}
+use Rattle.property_value.specs.Told.{formOf, listsOf, nextOr, PropertyPassed}
 use Rattle.properties.specs.Block.{Row, publishRow, subscribeRow, ackRow, applied, loopFrom, filledAt}
-use Rattle.property_value.proofs.Laws.Value.{property-left, property-ahead}
+use Rattle.property_value.proofs.Laws.Value.{value-tag, property-left, property-ahead}
+use Rattle.wire.specs.declared.property.PropertyPlace.{PropertyPlace}
 use Rattle.property_value.specs.declared.Value.{Value}
 
 -- ---- a rule of every entry of a place's row holds of what is looked up there
@@ -93,6 +95,40 @@ module _ (k : ℕ) {v v′ : Value} (e : v ≡ v′) where
 
   pub ack-is : lookup ackPlace k ≡ some (formOf v) → ackIs k (formOf v′)
   ack-is = is ackIs ackPlace ack-every
+
+-- ---- a property of a list leaves the record as it is
+
+-- the row has k with the form f, and the record has no value of it
+abbrev pub Listed : Row → ℕ → Form → Type 0
+Listed w k f = (lookup (w .place) k ≡ some f) × ((o : w .Props) (v : Val Span) → applied w o (k, v) ≡ o)
+
+pub publish-lists : Every (Listed publishRow) (listsOf PropertyPlace.Publish)
+unfolding publishPlace
+publish-lists = ((refl, λ o v. refl), ((refl, λ o v. refl), tt))
+
+pub subscribe-lists : Every (Listed subscribeRow) (listsOf PropertyPlace.Subscribe)
+unfolding subscribePlace
+subscribe-lists = ((refl, λ o v. refl), tt)
+
+pub ack-lists : Every (Listed ackRow) (listsOf PropertyPlace.PubAck)
+unfolding ackPlace
+ack-lists = ((refl, λ o v. refl), tt)
+
+module _ (w : Row) (lists : Place) (E : Every (Listed w) lists) where
+  -- what is read as a property of a list is the same property of the row, and leaves the record as it is
+  abbrev Same : ℕ → List ℕ → Prop Span → Type 0
+  Same end l a = (propertyOf asPlaces lists end l ≡ propertyOf asPlaces (w .place) end l) × ((o : w .Props) → applied w o a ≡ o)
+
+  same : (end : ℕ) (l : List ℕ) (y : Prop Span × List ℕ) → propertyOf asPlaces lists end l ≡ got y → Same end l (y .0)
+  unfolding propertyOf valueAt
+  same end [] y e = absurd (bad-got e)
+  same end (i ∷ l) y e = go (lookup lists i) refl e
+    where
+      go : (f : Option Form) → lookup lists i ≡ f → valueAt asPlaces f i end l ≡ got y → Same end (i ∷ l) (y .0)
+      go none j h = absurd (bad-got h)
+      go (some f) j h =
+          let (has, still) = looked-up (Listed w) lists E i f j in
+          (rw (j, has), λ o. rw (value-tag (some f) i end l y h) (still o (y .0 .1)))
 
 -- ---- the properties one by one are the properties at once
 
@@ -203,6 +239,24 @@ module _ {w : Row} {s : List ℕ} {whole : Fit (w .Props)} {o : w .Props} {at : 
 
   filling-end : length s ≤ at → whole ≡ got o
   filling-end h = f .rest ∙ loop-end w o s at h
+
+-- a property of a list is passed over
+module _ {lists : Place} {s : List ℕ} {at r : ℕ} (P : PropertyPassed lists s at r) (ne : r ≡ at → ⊥) where
+  over : (a : Prop Span) × (got (a, r) ≡ fromAt (propertyOf asPlaces lists (length s)) s at)
+  over = go (fromAt (propertyOf asPlaces lists (length s)) s at) refl (P .says)
+    where
+      go : (m : Fit (Prop Span × ℕ)) → fromAt (propertyOf asPlaces lists (length s)) s at ≡ m → r ≡ nextOr at m → (a : Prop Span) × (got (a, r) ≡ fromAt (propertyOf asPlaces lists (length s)) s at)
+      go (got (a, n)) e h = (a, ap (λ (k : ℕ). got (a, k)) h ∙ sym e)
+      go (bad k) e h = absurd (ne h)
+
+  pub over-ahead : at < r
+  over-ahead = property-ahead lists s at (over .0) r (over .1)
+
+  pub filling-over : {w : Row} → Every (Listed w) lists → {whole : Fit (w .Props)} {o : w .Props} → Filling w s whole o at → at < length s → Filling w s whole o r
+  unfolding fromAt
+  filling-over {w = w} E {o = o} f h =
+      let (e, still) = same w lists E (length s) (drop at s) (over .0, drop r s) (property-left lists s at (over .0) r (over .1)) in
+      filling-next f h (over .0) r (over .1 ∙ rw e) o (sym (still o))
 
 module _ {w : Row} {s : List ℕ} {o₀ o : w .Props} {at : ℕ} (p : Span) (i : o₀ ≡ w .made p []) (f : Filling w s (loopFrom w o₀ s (p .start)) o at) where
   pub filled-bad : at < length s → (k : Refusal) → bad k ≡ propertyAt w s at → bad k ≡ filledAt w s p

@@ -1,12 +1,12 @@
--- `utf8::is_utf8` meets its contract. The loop's invariant: the text goes on at `i`; nothing is left at the end. Assumes nothing.
+-- `utf8::by_chunks` meets its contract. The loop's invariant: the text goes on at `i`; nothing is left at the end. Assumes nothing.
 use mathlib.Core.Path.{sym}
 use Prim.Native.Nat.{_-_}
 use native.Mathlib.Omega.{arith}
 use lib.ListN.{length}
 use denote.Ref.{now}
 use Rattle.utf8.proofs.Laws.Text.{Going, going-start, going-next, going-stuck, going-end}
-use Rattle.utf8.proofs.is_utf8.Statement.{statement}
-use Rattle.utf8.proofs.is_utf8.Tie as tie
+use Rattle.utf8.proofs.by_chunks.Statement.{statement}
+use Rattle.utf8.proofs.by_chunks.Tie as tie
 
 abbrev Inv-loop : tie.InvT-loop
 Inv-loop s i₀ i = Going s 0 i
@@ -32,8 +32,8 @@ loop-again c = going-next (c .before .before .before .loop .inv) (c .before .pas
 returns-2 : tie.Need-returns-2 Inv-loop μ-loop
 returns-2 c = sym (going-end (c .before .loop .inv) (c .loop-test .left))
 
-pub is-utf8-spec : {M : Type 1} → statement M
-is-utf8-spec =
+pub by-chunks-spec : {M : Type 1} → statement M
+by-chunks-spec =
     tie.close
     (tie.spec
     Inv-loop
