@@ -1,5 +1,5 @@
 -- Empty parts, test by test, and the writer of a kind as the writer of the union. Assumes nothing.
-use mathlib.Core.Path.{_≡_, refl, sym, ap, _∙_}
+use mathlib.Core.Path.{_≡_, refl, sym, _∙_}
 use mathlib.Core.Bool.{Bool, true, false, _&&_}
 use mathlib.Core.Option.{Option}
 use mathlib.Core.List.{List, [], _∷_, _++_}
@@ -10,7 +10,6 @@ use Rattle.grammar.specs.Choice.{isEmpty}
 use Rattle.reading.specs.Refusal.{nr}
 use Rattle.reading.specs.Reader.{Fit, got, bad}
 use Rattle.writing.specs.Lists.{all}
-use Rattle.writing.specs.Handed.{Handed}
 use Rattle.writing.specs.Write.{sizeOf, outOf, Written}
 use Rattle.writing.proofs.Tests.{eq-when, eq-not}
 use Rattle.rows.proofs.Laws.Belong.{empty-length}
