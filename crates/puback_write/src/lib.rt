@@ -9,7 +9,6 @@ use records::error::Error;
 use records::puback::PubAckReason;
 use records::puback::reason_code;
 use rows::belong;
-use rows::put;
 use rows::run;
 use rows::size;
 use rows::test;
@@ -122,9 +121,9 @@ fn put_block(
     let first = run::after(out.len(), at, 1);
     let n = write_remaining_length(&mut *out, first, len);
     let second = run::after(out.len(), first, n);
-    let k = put::put_lent(&mut *out, second, 31, m.reason_string, reason_string);
+    let k = row_puts::put_lent(&mut *out, second, 31, m.reason_string, reason_string);
     let third = run::after(out.len(), second, k);
-    put::put_pairs(&mut *out, third, user, user_lengths);
+    row_puts::put_pairs(&mut *out, third, user, user_lengths);
 }
 
 // The frame.

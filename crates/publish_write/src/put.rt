@@ -5,7 +5,6 @@ use crate::plan::no_pkid;
 use numbers::fixed;
 use numbers::length::write_remaining_length;
 use records::qos::qos_number;
-use rows::put;
 use rows::run::after;
 use wire::string;
 ghost use mathlib.Core.Path.{_≡_};
@@ -18,7 +17,7 @@ ghost use Rattle.writing.specs.Spell.{short, string as spelled, rowBytes, props
 ghost use Rattle.writing.specs.Write.{firstByte, identBytes};
 ghost use Rattle.records.specs.Told.{toldBool, toldQoS};
 ghost use Rattle.rows.specs.Given.{givenU8, givenU16, givenU32, givenLent, givenPairs};
-ghost use Rattle.rows.specs.Put.{Put};
+ghost use Rattle.row_puts.specs.Put.{Put};
 ghost use Rattle.publish_write.specs.Handed.{handed};
 ghost use Rattle.publish_write.specs.Next.{Next};
 
@@ -29,11 +28,11 @@ fn put_numbers(out: &mut [u8], at: usize, head: PublishHead) -> usize
     let format = head.payload_format_indicator;
     let expiry = head.message_expiry_interval;
     let alias = head.topic_alias;
-    let n = put::put_u8_if(&mut *out, at, 1, format);
+    let n = row_puts::put_u8_if(&mut *out, at, 1, format);
     let second = after(out.len(), at, n);
-    let m = put::put_u32_if(&mut *out, second, 2, expiry);
+    let m = row_puts::put_u32_if(&mut *out, second, 2, expiry);
     let third = after(out.len(), second, m);
-    let k = put::put_u16_if(&mut *out, third, 35, alias);
+    let k = row_puts::put_u16_if(&mut *out, third, 35, alias);
     after(out.len(), third, k)
 }
 
@@ -47,9 +46,9 @@ fn put_strings(
 ) -> usize
     ensures { λ r. ⌜ Next (now (out .entry)) at (rowBytes (8, text) (givenLent (head .«response_topic») (now («response_topic» .entry))) ++ rowBytes (9, bytesForm) (givenLent (head .«correlation_data») (now («correlation_data» .entry)))) (now (out .exit)) r ⌝ }
 {
-    let n = put::put_lent(&mut *out, at, 8, head.response_topic, response_topic);
+    let n = row_puts::put_lent(&mut *out, at, 8, head.response_topic, response_topic);
     let second = after(out.len(), at, n);
-    let m = put::put_lent(
+    let m = row_puts::put_lent(
         &mut *out,
         second,
         9,
@@ -71,11 +70,11 @@ fn put_lists(
 ) -> usize
     ensures { λ r. ⌜ Next (now (out .entry)) at (rowBytes (38, pair) (givenPairs (now (user .entry)) (now («user_lengths» .entry))) ++ (rowBytes (11, number) (several (now («subscription_identifiers» .entry))) ++ rowBytes (3, text) (givenLent (head .«content_type») (now («content_type» .entry))))) (now (out .exit)) r ⌝ }
 {
-    let n = put::put_pairs(&mut *out, at, user, user_lengths);
+    let n = row_puts::put_pairs(&mut *out, at, user, user_lengths);
     let second = after(out.len(), at, n);
-    let m = put::put_ids(&mut *out, second, subscription_identifiers);
+    let m = row_puts::put_ids(&mut *out, second, subscription_identifiers);
     let third = after(out.len(), second, m);
-    let k = put::put_lent(&mut *out, third, 3, head.content_type, content_type);
+    let k = row_puts::put_lent(&mut *out, third, 3, head.content_type, content_type);
     after(out.len(), third, k)
 }
 

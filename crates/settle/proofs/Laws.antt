@@ -22,8 +22,8 @@ use Rattle.writing.proofs.ForCode.{cap-add, writes-all, writes-none}
 use Rattle.writing.proofs.Belong.{belongs-when}
 use Rattle.writing.proofs.Verdict.{answered-when}
 use Rattle.numbers.proofs.Laws.Put.{sets-append}
-use Rattle.rows.specs.Put.{Put}
-use Rattle.rows.proofs.Laws.Put.{sets-min}
+use Rattle.row_puts.specs.Put.{Put}
+use Rattle.row_puts.proofs.Laws.{sets-min}
 use Rattle.settle.specs.Behind.{Behind}
 use Rattle.settle.specs.Found.{earlyOf, lateOf, roomOf, settledOf, sizedOf, Found}
 

@@ -18,7 +18,7 @@ ghost use Rattle.writing.specs.Order.{judge, limitTests};
 ghost use Rattle.records.specs.Told.{limitOf};
 ghost use Rattle.records.specs.Answered.{toldSized, toldWritten};
 ghost use Rattle.rows.specs.Tested.{toldTested};
-ghost use Rattle.rows.specs.Put.{Put};
+ghost use Rattle.row_puts.specs.Put.{Put};
 ghost use Rattle.settle.specs.Found.{roomOf, settledOf, sizedOf};
 
 const MOST: usize = 268435455;

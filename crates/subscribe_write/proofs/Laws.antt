@@ -24,7 +24,7 @@ use Rattle.writing.proofs.Pins.{subscribe-props, first-bytes}
 use Rattle.records.specs.declared.span.MaybeU32.{MaybeU32}
 use Rattle.numbers.proofs.Laws.Put.{length-wide}
 use Rattle.rows.specs.Given.{givenU32, filtersOf}
-use Rattle.rows.specs.Put.{Put}
+use Rattle.row_puts.specs.Put.{Put}
 use Rattle.settle.specs.Behind.{Behind}
 use Rattle.settle.specs.Found.{earlyOf, lateOf}
 use Rattle.settle.specs.Number.{numberU32}

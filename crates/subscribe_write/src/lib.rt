@@ -8,7 +8,6 @@ use records::answer::Written;
 use records::error::Error;
 use records::span::MaybeU32;
 use rows::belong;
-use rows::put;
 use rows::run;
 use rows::size;
 use rows::test;
@@ -198,9 +197,9 @@ fn put_block(
     let id = m.id;
     let n = write_remaining_length(&mut *out, at, len);
     let first = run::after(out.len(), at, n);
-    let k = put::put_number_if(&mut *out, first, 11, id);
+    let k = row_puts::put_number_if(&mut *out, first, 11, id);
     let second = run::after(out.len(), first, k);
-    let j = put::put_pairs(&mut *out, second, user, user_lengths);
+    let j = row_puts::put_pairs(&mut *out, second, user, user_lengths);
     run::after(out.len(), second, j)
 }
 
@@ -222,7 +221,7 @@ fn put(
     fixed::put_u16(&mut *out, first, m.pkid);
     let second = run::after(out.len(), first, 2);
     let third = put_block(&mut *out, second, m, user, user_lengths);
-    put::put_filters(&mut *out, third, filters, filter_lengths, options);
+    row_puts::put_filters(&mut *out, third, filters, filter_lengths, options);
 }
 
 pub fn write(

@@ -15,8 +15,8 @@ use Rattle.writing.proofs.Sizes.{length-string}
 use Rattle.numbers.proofs.Laws.Put.{length-wide, wide-one}
 use Rattle.records.specs.Told.{toldBool, toldQoS}
 use Rattle.rows.specs.Given.{givenU8, givenU16, givenU32, givenLent, givenPairs}
-use Rattle.rows.specs.Put.{Put}
-use Rattle.rows.proofs.Laws.Put.{sets-next, put-none}
+use Rattle.row_puts.specs.Put.{Put}
+use Rattle.row_puts.proofs.Laws.{sets-next, put-none}
 use Rattle.publish_write.specs.Handed.{handed}
 use Rattle.publish_write.specs.Next.{Next}
 use Rattle.publish_write.specs.declared.head.PublishHead.{PublishHead}
