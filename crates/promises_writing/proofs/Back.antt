@@ -42,8 +42,8 @@ use Rattle.records.specs.declared.subscribe.Subscribe.{Subscribe}
 use Rattle.records.specs.declared.subscribe.SubscribeProperties.{SubscribeProperties}
 use Rattle.records.specs.declared.subscribe.MaybeSubscribeProperties.{MaybeSubscribeProperties}
 use Rattle.packet.specs.Told.{Says}
+use Rattle.packet.specs.Told as reading
 use Rattle.promises.specs.Reading.{PublishParts, PubAckParts, UserItems, IdentifierItems, FilterItems}
-use Rattle.promises.specs.Reading as reading
 use Rattle.promises.proofs.Reading.{sentence-read}
 use Rattle.promises.proofs.Reading as promises
 use Rattle.promises.proofs.Parts.{publish-parts, puback-parts}

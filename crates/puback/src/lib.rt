@@ -16,8 +16,7 @@ ghost use Rattle.grammar.specs.Tables.{anAck, reasons};
 ghost use Rattle.grammar.specs.Record.{kindOf};
 ghost use Rattle.reading.specs.Read.{ackBlockFit, fieldsFit};
 ghost use Rattle.reading.specs.Place.{asPlaces};
-ghost use Rattle.wire.specs.Told.{heldIf};
-ghost use Rattle.puback.specs.Told.{toldGotPubAck, toldLastBlock, restOf, inBlock};
+ghost use Rattle.puback.specs.Told.{toldGotPubAck, toldLastBlock, restOf, reasonIn};
 
 pub enum GotPubAck {
     Value(PubAck),
@@ -84,7 +83,7 @@ pub fn read(s: &[u8], at: usize) -> GotPubAck
 
 // The reason string of `m`, which was read from `s`; the empty part if it is absent or lies outside.
 pub fn reason_string<'a>(s: &'a [u8], m: PubAck) -> &'a [u8]
-    ensures { λ r. ⌜ now r ≡ heldIf (now (s .entry)) (inBlock (λ p. p .«reason_string») (m .properties)) ⌝ }
+    ensures { λ r. ⌜ now r ≡ reasonIn (now (s .entry)) m ⌝ }
 {
     let properties = m.properties;
     match properties {

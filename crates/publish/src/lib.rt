@@ -17,12 +17,12 @@ ghost use Prim.Native.Nat.{_%_, _≤_};
 ghost use lib.ListN.{length, drop};
 ghost use Rattle.grammar.specs.Tables.{aPublish};
 ghost use Rattle.reading.specs.Read.{identOf, bytesOf, fieldsFit};
-ghost use Rattle.reading.specs.Place.{asPlaces, heldOf};
+ghost use Rattle.reading.specs.Place.{asPlaces};
 ghost use Rattle.positions.specs.Position.{fromAt};
-ghost use Rattle.records.specs.Told.{toldBool, toldQoS, toldSpan};
+ghost use Rattle.records.specs.Told.{toldBool, toldQoS};
 ghost use Rattle.numbers.specs.Told.{toldGotU16};
-ghost use Rattle.wire.specs.Told.{toldPart, heldIf};
-ghost use Rattle.publish.specs.Told.{toldGotPublish, inBlock};
+ghost use Rattle.wire.specs.Told.{toldPart};
+ghost use Rattle.publish.specs.Told.{toldGotPublish, topicIn, payloadIn, responseIn, correlationIn, contentIn};
 
 pub enum GotPublish {
     Value(Publish),
@@ -106,20 +106,20 @@ pub fn read(s: &[u8], at: usize, byte1: u8) -> GotPublish
 
 // The topic of `m`, which was read from `s`; the empty part if it lies outside. The same goes for every part.
 pub fn topic<'a>(s: &'a [u8], m: Publish) -> &'a [u8]
-    ensures { λ r. ⌜ now r ≡ heldOf (now (s .entry)) (toldSpan (m .topic)) ⌝ }
+    ensures { λ r. ⌜ now r ≡ topicIn (now (s .entry)) m ⌝ }
 {
     string::part(s, m.topic)
 }
 
 pub fn payload<'a>(s: &'a [u8], m: Publish) -> &'a [u8]
-    ensures { λ r. ⌜ now r ≡ heldOf (now (s .entry)) (toldSpan (m .payload)) ⌝ }
+    ensures { λ r. ⌜ now r ≡ payloadIn (now (s .entry)) m ⌝ }
 {
     string::part(s, m.payload)
 }
 
 // Empty if it is absent, as the next two.
 pub fn response_topic<'a>(s: &'a [u8], m: Publish) -> &'a [u8]
-    ensures { λ r. ⌜ now r ≡ heldIf (now (s .entry)) (inBlock (λ p. p .«response_topic») (m .properties)) ⌝ }
+    ensures { λ r. ⌜ now r ≡ responseIn (now (s .entry)) m ⌝ }
 {
     let properties = m.properties;
     match properties {
@@ -132,7 +132,7 @@ pub fn response_topic<'a>(s: &'a [u8], m: Publish) -> &'a [u8]
 }
 
 pub fn correlation_data<'a>(s: &'a [u8], m: Publish) -> &'a [u8]
-    ensures { λ r. ⌜ now r ≡ heldIf (now (s .entry)) (inBlock (λ p. p .«correlation_data») (m .properties)) ⌝ }
+    ensures { λ r. ⌜ now r ≡ correlationIn (now (s .entry)) m ⌝ }
 {
     let properties = m.properties;
     match properties {
@@ -145,7 +145,7 @@ pub fn correlation_data<'a>(s: &'a [u8], m: Publish) -> &'a [u8]
 }
 
 pub fn content_type<'a>(s: &'a [u8], m: Publish) -> &'a [u8]
-    ensures { λ r. ⌜ now r ≡ heldIf (now (s .entry)) (inBlock (λ p. p .«content_type») (m .properties)) ⌝ }
+    ensures { λ r. ⌜ now r ≡ contentIn (now (s .entry)) m ⌝ }
 {
     let properties = m.properties;
     match properties {

@@ -1,5 +1,6 @@
 -- What the answers on filters and on a Subscribe tell, in 01's numbers and values. Assumes nothing.
-use mathlib.Core.List.{[], _∷_}
+use mathlib.Core.Path.{_≡_}
+use mathlib.Core.List.{List, [], _∷_}
 use Prim.Native.Nat.{ℕ}
 use lib.Dec.{ltb, eqb}
 use Rattle.grammar.specs.Choice.{pick}
@@ -9,12 +10,13 @@ use Rattle.grammar.specs.Sentence.{qosFine, ruleFine}
 use Rattle.reading.specs.Refusal.{nr}
 use Rattle.reading.specs.Reader.{Fit, got, bad, Filler, _>>=_, _>>_, guard, handFit}
 use Rattle.reading.specs.Read.{filtersFit}
-use Rattle.reading.specs.Place.{Placed, asPlaces, orNoItem, nthOf}
+use Rattle.reading.specs.Place.{Placed, asPlaces, orNoItem, nthOf, filterAt}
 use Rattle.reading.specs.Place as place
 use Rattle.records.specs.Told.{toldError, toldRule, toldSpan}
 use Rattle.records.specs.Said.{toldFilter, toldSubscribe}
 use Rattle.records.specs.Answered.{toldFilterItem}
 use Rattle.records.specs.declared.answer.FilterItem.{FilterItem}
+use Rattle.records.specs.declared.span.Span.{Span}
 use Rattle.records.specs.declared.subscribe.Filter.{Filter}
 use Rattle.subscribe.specs.declared.GotSubscribe.{GotSubscribe}
 use Rattle.subscribe.specs.declared.filter.GotRule.{GotRule}
@@ -65,6 +67,10 @@ abbrev pub nthFit : ℕ → ℕ → Filler (record-of.Filter place.Span)
 nthFit n end s = do
   fs ← orNoItem (filtersFit asPlaces end s)
   nthOf n fs
+
+-- the contract of `filter`: r is the n-th filter of the run at p in s, or 21
+abbrev pub NthFilter : List ℕ → Span → ℕ → FilterItem → Type 0
+NthFilter s p n r = toldFilterItem r ≡ filterAt asPlaces s (toldSpan p) n
 
 -- ---- the packet
 

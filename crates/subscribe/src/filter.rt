@@ -15,11 +15,11 @@ ghost use mathlib.Core.Path.{_≡_};
 ghost use Prim.Native.Nat.{_%_};
 ghost use lib.ListN.{length, drop};
 ghost use Rattle.reading.specs.Read.{filterOf};
-ghost use Rattle.reading.specs.Place.{asPlaces, filterAt};
+ghost use Rattle.reading.specs.Place.{asPlaces};
 ghost use Rattle.positions.specs.Position.{fromAt};
 ghost use Rattle.records.specs.Told.{toldBool, toldSpan};
 ghost use Rattle.records.specs.Answered.{toldFilterItem};
-ghost use Rattle.subscribe.specs.Told.{toldGotRule, ruleOf, toldGotFilter, optionsOf, toldGotFilters, placeFit, chosen, nthFit};
+ghost use Rattle.subscribe.specs.Told.{toldGotRule, ruleOf, toldGotFilter, optionsOf, toldGotFilters, placeFit, chosen, nthFit, NthFilter};
 
 // A filter and the index after it.
 pub enum GotFilter {
@@ -144,7 +144,7 @@ fn nth(s: &[u8], at: usize, n: usize) -> FilterItem
 
 // The n-th filter of the run at a place, n from 0; any bytes, any place.
 pub fn filter(s: &[u8], p: Span, n: usize) -> FilterItem
-    ensures { λ r. ⌜ toldFilterItem r ≡ filterAt asPlaces (now (s .entry)) (toldSpan p) n ⌝ }
+    ensures { λ r. ⌜ NthFilter (now (s .entry)) p n r ⌝ }
 {
     let start = p.start;
     let len = p.len;

@@ -1,12 +1,12 @@
--- What the answer on a string tells: its place and the index after it, or 01's number and values of the refusal; and what is held at
--- a place. Assumes nothing.
+-- What the answer on a string tells: its place and the index after it, or 01's number and values of the refusal; and strings that may be
+-- absent. Assumes nothing.
+use mathlib.Core.Option.{Option, none, some}
 use mathlib.Core.List.{List, []}
 use Prim.Native.Nat.{ℕ}
+use Rattle.grammar.specs.Record.{Val, num, str, duo}
 use Rattle.reading.specs.Reader.{Fit, got, bad}
-use Rattle.reading.specs.Place.{heldOf}
 use Rattle.reading.specs.Place as place
 use Rattle.records.specs.Told.{toldError, toldSpan}
-use Rattle.records.specs.declared.span.MaybeSpan.{MaybeSpan}
 use Rattle.wire.specs.declared.got.GotSpan.{GotSpan}
 use Rattle.wire.specs.declared.got.GotSpan.the-variants.{Value, Refused}
 
@@ -14,7 +14,16 @@ abbrev pub toldPart : GotSpan → Fit (place.Span × ℕ)
 toldPart (Value p next) = got (toldSpan p, next)
 toldPart (Refused e) = bad (toldError e)
 
--- demand 1: what is held at a place that may be absent; the empty part if it is, or if the place lies outside
-abbrev pub heldIf : List ℕ → MaybeSpan → List ℕ
-heldIf s MaybeSpan.Absent = []
-heldIf s (MaybeSpan.Present p) = heldOf s (toldSpan p)
+-- ---- strings that may be absent
+
+-- the bytes of a value that is a string, where f says what bytes a string is; none if it is absent
+abbrev pub stringIf : {S : Type 0} → (S → List ℕ) → Option (Val S) → List ℕ
+stringIf f none = []
+stringIf f (some (num n)) = []
+stringIf f (some (str b)) = f b
+stringIf f (some (duo b c)) = []
+
+-- the same of the value v of a block; none if the block is absent
+abbrev pub stringIn : {S P : Type 0} → (S → List ℕ) → (P → Option (Val S)) → Option P → List ℕ
+stringIn f v none = []
+stringIn f v (some ps) = stringIf f (v ps)

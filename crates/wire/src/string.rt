@@ -14,8 +14,8 @@ ghost use Rattle.reading.specs.Read.{bytesOf, textOf};
 ghost use Rattle.reading.specs.Place.{asPlaces, heldOf};
 ghost use Rattle.positions.specs.Position.{fromAt};
 ghost use Rattle.writing.specs.Spell.{string};
-ghost use Rattle.records.specs.Told.{toldSpan};
-ghost use Rattle.wire.specs.Told.{toldPart, heldIf};
+ghost use Rattle.records.specs.Told.{toldSpan, toldString};
+ghost use Rattle.wire.specs.Told.{toldPart, stringIf};
 
 pub fn read_mqtt_bytes(s: &[u8], at: usize) -> GotSpan
     ensures { λ r. ⌜ toldPart r ≡ fromAt (bytesOf asPlaces (length (now (s .entry)))) (now (s .entry)) at ⌝ }
@@ -64,7 +64,7 @@ pub fn part<'a>(s: &'a [u8], p: Span) -> &'a [u8]
 
 // The same of a place that may be absent, which gives the empty part.
 pub fn part_if<'a>(s: &'a [u8], p: MaybeSpan) -> &'a [u8]
-    ensures { λ r. ⌜ now r ≡ heldIf (now (s .entry)) p ⌝ }
+    ensures { λ r. ⌜ now r ≡ stringIf (heldOf (now (s .entry))) (toldString p) ⌝ }
 {
     match p {
         MaybeSpan::Absent => &s[..0],
