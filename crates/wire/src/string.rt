@@ -113,7 +113,8 @@ pub fn string_length(s: &[u8]) -> GotStringLength
     if 65535 < s.len() {
         return GotStringLength::Refused(Error::StringTooLong(s.len()));
     }
-    GotStringLength::Value(s.len() as u16)
+    let len = s.len() as u16;
+    GotStringLength::Value(len)
 }
 
 // The length is written modulo 65,536, as `string` has it: `string_length` refuses what is longer.

@@ -1,4 +1,5 @@
 -- `wire::string::string_length` meets its contract: the test of a string's length holds or is the one that fails. Assumes nothing.
+use native.Mathlib.Omega.{arith}
 use borrow.Author.Needs.{needs}
 use denote.Ref.{now}
 use Rattle.writing.specs.Order.{raw}
@@ -8,13 +9,13 @@ use Rattle.wire.proofs.string.string_length.Statement.{statement}
 use Rattle.wire.proofs.string.string_length.Tie as tie
 
 returns : tie.Need-returns
-returns c = rw (field-fault (long-raw {s = now (c .before .args .s)} (c .if1 .taken)))
+returns c = rw (field-fault (long-raw {s = now (c .before .args .s)} (omega arith)))
 
-cast-t6 : tie.Need-cast-t6
-cast-t6 c = search needs
+cast-len : tie.Need-cast-len
+cast-len c = search needs
 
 returns-2 : tie.Need-returns-2
-returns-2 c = rw (field-pass (raw (now (c .before .args .s))) (c .if1 .left))
+returns-2 c = rw (field-pass (raw (now (c .before .args .s))) (omega arith))
 
 pub string-length-spec : {M : Type 1} → statement M
-string-length-spec = tie.close (tie.spec returns cast-t6 returns-2)
+string-length-spec = tie.close (tie.spec returns cast-len returns-2)
