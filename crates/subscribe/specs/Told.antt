@@ -2,7 +2,7 @@
 use mathlib.Core.Path.{_≡_}
 use mathlib.Core.List.{List, [], _∷_}
 use Prim.Native.Nat.{ℕ}
-use lib.Dec.{ltb, eqb}
+use lib.Dec.{eqb}
 use Rattle.grammar.specs.Choice.{pick}
 use Rattle.grammar.specs.Record.{subscribe, mkFilter}
 use Rattle.grammar.specs.Record as record-of
@@ -12,28 +12,17 @@ use Rattle.reading.specs.Reader.{Fit, got, bad, Filler, _>>=_, _>>_, guard, han
 use Rattle.reading.specs.Read.{filtersFit}
 use Rattle.reading.specs.Place.{Placed, asPlaces, orNoItem, nthOf, filterAt}
 use Rattle.reading.specs.Place as place
-use Rattle.records.specs.Told.{toldError, toldRule, toldSpan}
+use Rattle.records.specs.Told.{toldError, toldSpan}
 use Rattle.records.specs.Said.{toldFilter, toldSubscribe}
 use Rattle.records.specs.Answered.{toldFilterItem}
 use Rattle.records.specs.declared.answer.FilterItem.{FilterItem}
 use Rattle.records.specs.declared.span.Span.{Span}
 use Rattle.records.specs.declared.subscribe.Filter.{Filter}
 use Rattle.subscribe.specs.declared.GotSubscribe.{GotSubscribe}
-use Rattle.subscribe.specs.declared.filter.GotRule.{GotRule}
 use Rattle.subscribe.specs.declared.filter.GotFilter.{GotFilter}
 use Rattle.subscribe.specs.declared.filter.GotFilters.{GotFilters}
 
 -- ---- the options byte
-
-abbrev pub toldGotRule : GotRule → Fit ℕ
-toldGotRule (GotRule.Value r) = got (toldRule r)
-toldGotRule (GotRule.Refused e) = bad (toldError e)
-
--- the crate: 0, 1 and 2 are forward rules; 01, row 14, for any other number
-abbrev pub ruleOf : ℕ → Fit ℕ
-ruleOf n = do
-  guard (ltb n 3) (nr 14 (n ∷ []))
-  got n
 
 -- a filter, and the index after it
 abbrev pub toldGotFilter : GotFilter → Fit (record-of.Filter place.Span × ℕ)

@@ -6,7 +6,8 @@ use records::answer::FilterItem;
 use records::error::Error;
 use records::span::Span;
 use records::subscribe::Filter;
-use records::subscribe::RetainForwardRule;
+use records::subscribe::GotRule;
+use records::subscribe::retain_forward_rule;
 use wire::got::GotSpan;
 use wire::qos;
 use wire::qos::GotQos;
@@ -19,7 +20,7 @@ ghost use Rattle.reading.specs.Place.{asPlaces};
 ghost use Rattle.positions.specs.Position.{fromAt};
 ghost use Rattle.records.specs.Told.{toldBool, toldSpan};
 ghost use Rattle.records.specs.Answered.{toldFilterItem};
-ghost use Rattle.subscribe.specs.Told.{toldGotRule, ruleOf, toldGotFilter, optionsOf, toldGotFilters, placeFit, chosen, nthFit, NthFilter};
+ghost use Rattle.subscribe.specs.Told.{toldGotFilter, optionsOf, toldGotFilters, placeFit, chosen, nthFit, NthFilter};
 
 // A filter and the index after it.
 pub enum GotFilter {
@@ -33,28 +34,11 @@ pub enum GotFilters {
     Refused(Error),
 }
 
-enum GotRule {
-    Value(RetainForwardRule),
-    Refused(Error),
-}
-
 // The lowest bit.
 fn odd(n: u8) -> bool
     ensures { λ r. ⌜ toldBool r ≡ n % 2 ⌝ }
 {
     n % 2 == 1
-}
-
-// A number as a forward rule, or refusal 14.
-fn retain_forward_rule(num: u8) -> GotRule
-    ensures { λ r. ⌜ toldGotRule r ≡ ruleOf num ⌝ }
-{
-    match num {
-        0 => GotRule::Value(RetainForwardRule::OnEverySubscribe),
-        1 => GotRule::Value(RetainForwardRule::OnNewSubscribe),
-        2 => GotRule::Value(RetainForwardRule::Never),
-        3..=255 => GotRule::Refused(Error::InvalidRetainForwardRule(num)),
-    }
 }
 
 // The filter of a text and its options byte, which ends at `next`: the forward rule before QoS; bits 6 and 7 are ignored.
@@ -79,6 +63,7 @@ fn with_options(path: Span, options: u8, next: usize) -> GotFilter
     }
 }
 
+// One filter and the index after it.
 pub fn read_filter(s: &[u8], at: usize) -> GotFilter
     ensures { λ r. ⌜ toldGotFilter r ≡ fromAt (filterOf asPlaces (length (now (s .entry)))) (now (s .entry)) at ⌝ }
 {

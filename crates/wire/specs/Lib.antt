@@ -1,3 +1,4 @@
 pub mod Told
+pub mod Written
 pub mod Property
 pub mod Qos
