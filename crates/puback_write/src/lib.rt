@@ -43,10 +43,10 @@ pub struct PubAckHead {
 fn belongs(m: PubAckHead, reason_string: &[u8], user: &[u8], user_lengths: &[usize]) -> bool
     ensures { λ r. ⌜ r ≡ belongsOf (ack 4 (handed m (now («reason_string» .entry)) (now (user .entry)) (now («user_lengths» .entry)))) ⌝ }
 {
-    if !belong::lent_belongs(m.block, m.reason_string, reason_string) {
-        return false;
-    }
-    belong::pairs_belong(m.block, user, user_lengths)
+    belong::both(
+        belong::lent_belongs(m.block, m.reason_string, reason_string),
+        belong::pairs_belong(m.block, user, user_lengths),
+    )
 }
 
 // L, cut off where it is too large.
@@ -98,10 +98,10 @@ fn early(m: PubAckHead, reason_string: &[u8], user: &[u8], user_lengths: &[usize
     if !belongs(m, reason_string, user, user_lengths) {
         return Tested::Refused(Error::ListMismatch);
     }
-    match test::test_text(m.reason_string, reason_string) {
-        Tested::Refused(e) => Tested::Refused(e),
-        Tested::Fine => test::test_words(user, user_lengths),
-    }
+    test::then(
+        test::test_text(m.reason_string, reason_string),
+        test::test_words(user, user_lengths),
+    )
 }
 
 // The reason, L and the properties.

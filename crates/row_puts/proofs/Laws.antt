@@ -18,8 +18,9 @@ use Rattle.writing.proofs.Sizes.{length-string}
 use Rattle.writing.proofs.ForCode.{runFrom, stringAt, strings-done}
 use Rattle.numbers.proofs.Laws.Put.{sets-append, sets-out, length-wide, wide-one}
 use Rattle.rows.specs.Given.{givenLent}
-use Rattle.row_puts.specs.Put.{Put}
 use Rattle.rows.proofs.Laws.Run.{strings-cut}
+use Rattle.row_puts.specs.Put.{Put}
+use Rattle.row_puts.specs.Behind.{Behind}
 
 -- a place past the end is as good as the end
 pub sets-min : (l xs : List ℕ) (k : ℕ) → sets l (min k (length l)) xs ≡ sets l k xs
@@ -35,6 +36,23 @@ put-none l at = record { stores = refl; count = refl }
 module _ (l l₁ l₂ xs ys : List ℕ) (at m : ℕ) (e : l₁ ≡ sets l at xs) (n : m ≡ min (at + length xs) (length l₁)) (f : l₂ ≡ sets l₁ m ys) where
   pub sets-next : l₂ ≡ sets l at (xs ++ ys)
   sets-next = f ∙ rw (n, sets-min l₁ ys (at + length xs), e, sets-append xs ys l at)
+
+-- stored, or put, and the place behind it
+pub store-next : (xs : List ℕ) {l l₁ : List ℕ} {at n m : ℕ} → l₁ ≡ sets l at xs → n ≡ length xs → m ≡ min (at + n) (length l₁) → Behind l at xs l₁ m
+store-next xs e f g = record { stores = e; place = g ∙ rw f }
+
+pub put-next : {l l₁ xs : List ℕ} {at n m : ℕ} → Put l at xs l₁ n → m ≡ min (at + n) (length l₁) → Behind l at xs l₁ m
+put-next {xs = xs} p g = store-next xs (p .stores) (p .count) g
+
+-- and then what is stored there
+module _ {l l₁ l₂ xs : List ℕ} {at m : ℕ} (p : Behind l at xs l₁ m) where
+  pub next-last : (ys : List ℕ) → l₂ ≡ sets l₁ m ys → l₂ ≡ sets l at (xs ++ ys)
+  next-last ys e = sets-next l l₁ l₂ xs ys at m (p .stores) (p .place) e
+
+  pub next-then : {ys : List ℕ} {k : ℕ} → Behind l₁ m ys l₂ k → Behind l at (xs ++ ys) l₂ k
+  next-then {ys} {k} q =
+      let s : length l₂ ≡ length l₁ = ap length (q .stores) ∙ length-sets l₁ m ys in
+      record { stores = next-last ys (q .stores); place = omega (arith, s, p .place, q .place, length-append xs ys) }
 
 -- ---- the rest of a list is left to put
 

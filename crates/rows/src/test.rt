@@ -12,11 +12,21 @@ ghost use Rattle.writing.specs.Lists.{flat};
 ghost use Rattle.writing.specs.Handed.{strings};
 ghost use Rattle.writing.specs.Order.{judge, raw, word, filter, fieldTests, givenFields, filterField, small};
 ghost use Rattle.rows.specs.Given.{givenLent, run as runOf, filtersOf};
-ghost use Rattle.rows.specs.Tested.{toldTested};
+ghost use Rattle.rows.specs.Tested.{toldTested, first};
 
 pub enum Tested {
     Fine,
     Refused(Error),
+}
+
+// The first refusal of two.
+pub fn then(a: Tested, b: Tested) -> Tested
+    ensures { λ r. ⌜ toldTested r ≡ first (toldTested a) (toldTested b) ⌝ }
+{
+    match a {
+        Tested::Refused(e) => Tested::Refused(e),
+        Tested::Fine => b,
+    }
 }
 
 // Bytes: 18.

@@ -30,11 +30,10 @@ ghost use Rattle.writing.specs.Order.{judge, small, orNone};
 ghost use Rattle.writing.specs.Write.{frameBytes, sizeOf, Written as WrittenOf};
 ghost use Rattle.records.specs.Told.{limitOf};
 ghost use Rattle.records.specs.Answered.{toldSized, toldWritten};
-ghost use Rattle.rows.specs.Given.{run as runOf, filtersOf};
+ghost use Rattle.rows.specs.Given.{numberU32, run as runOf, filtersOf};
 ghost use Rattle.rows.specs.Tested.{toldTested};
+ghost use Rattle.row_puts.specs.Behind.{Behind};
 ghost use Rattle.settle.specs.Found.{earlyOf, lateOf};
-ghost use Rattle.settle.specs.Behind.{Behind};
-ghost use Rattle.settle.specs.Number.{numberU32};
 ghost use Rattle.subscribe_write.specs.Handed.{handed};
 
 // What is handed over by value; the user properties and the filters are lent beside it.
@@ -48,10 +47,8 @@ pub struct SubscribeHead {
 fn filters_belong(filters: &[u8], filter_lengths: &[usize], options: &[u8]) -> bool
     ensures { λ r. ⌜ r ≡ (addsUp (runOf (now (filters .entry)) (now («filter_lengths» .entry))) && eqb (length (now («filter_lengths» .entry))) (length (now (options .entry)))) ⌝ }
 {
-    if !belong::adds_up(filters, filter_lengths) {
-        return false;
-    }
-    filter_lengths.len() == options.len()
+    let same = filter_lengths.len() == options.len();
+    belong::both(belong::adds_up(filters, filter_lengths), same)
 }
 
 // 20
@@ -66,13 +63,11 @@ fn belongs(
     ensures { λ r. ⌜ r ≡ belongsOf (subscribe (handed m (now (user .entry)) (now («user_lengths» .entry)) (now (filters .entry)) (now («filter_lengths» .entry)) (now (options .entry)))) ⌝ }
 {
     let id = m.id;
-    if !belong::u32_belongs(m.block, id) {
-        return false;
-    }
-    if !belong::pairs_belong(m.block, user, user_lengths) {
-        return false;
-    }
-    filters_belong(filters, filter_lengths, options)
+    let block = belong::both(
+        belong::u32_belongs(m.block, id),
+        belong::pairs_belong(m.block, user, user_lengths),
+    );
+    belong::both(block, filters_belong(filters, filter_lengths, options))
 }
 
 // L, cut off where it is too large.
@@ -138,10 +133,10 @@ fn early(
     if !belongs(m, user, user_lengths, filters, filter_lengths, options) {
         return Tested::Refused(Error::ListMismatch);
     }
-    match test::test_words(user, user_lengths) {
-        Tested::Refused(e) => Tested::Refused(e),
-        Tested::Fine => test::test_filters(filters, filter_lengths, options),
-    }
+    test::then(
+        test::test_words(user, user_lengths),
+        test::test_filters(filters, filter_lengths, options),
+    )
 }
 
 // 17 for the identifier.
@@ -177,10 +172,7 @@ fn late(m: SubscribeHead, filter_lengths: &[usize], options: &[u8]) -> Tested
     ensures { λ r. ⌜ ((user lengths filters : List ℕ) → toldTested r ≡ lateOf (subscribe (handed m user lengths filters (now («filter_lengths» .entry)) (now (options .entry))))) ⌝ }
 {
     let id = m.id;
-    match test_id(id) {
-        Tested::Refused(e) => Tested::Refused(e),
-        Tested::Fine => test_asked(filter_lengths, options),
-    }
+    test::then(test_id(id), test_asked(filter_lengths, options))
 }
 
 // L and the properties; gives the place behind them.

@@ -1,10 +1,9 @@
 -- `row_puts::put_filters` is right since after each turn the filters from the i-th on, their texts at the place `from` of the run, are left to put. Assumes nothing.
-use mathlib.Core.Path.{_≡_, ap, sym, _∙_}
-use mathlib.Core.List.{List, _++_}
-use Prim.Native.Nat.{ℕ, _+_, _*_, _-_, _≤_}
+use mathlib.Core.Path.{ap, sym, _∙_}
+use Prim.Native.Nat.{_+_, _*_, _-_, _≤_}
 use native.Mathlib.Omega.{arith}
 use borrow.Author.Needs.{needs}
-use lib.ListN.{length, drop, getD, take}
+use lib.ListN.{length, drop, getD}
 use denote.Ref.{now}
 use Rattle.writing.specs.Lists.{flat, beside}
 use Rattle.writing.specs.Handed.{strings}

@@ -1,5 +1,4 @@
 -- `row_puts::put_ids` is right since after each turn the identifiers from the i-th on are left to put. Assumes nothing.
-use mathlib.Core.Path.{refl}
 use Prim.Native.Nat.{_*_, _-_, _≤_}
 use native.Mathlib.Omega.{arith}
 use borrow.Author.Needs.{needs}

@@ -1,14 +1,13 @@
 -- `row_puts::put_pairs` is right since after each turn the pairs from the i-th length on, at the place `from` of the run, are left to put. Assumes nothing.
-use mathlib.Core.Path.{_≡_, ap, sym, _∙_}
-use mathlib.Core.List.{List, _∷_, _++_}
-use Prim.Native.Nat.{ℕ, _+_, _*_, _-_, _≤_}
+use mathlib.Core.Path.{ap, sym, _∙_}
+use Prim.Native.Nat.{_+_, _*_, _-_, _≤_}
 use native.Mathlib.Omega.{arith}
 use borrow.Author.Needs.{needs}
 use lib.ListN.{length, getD}
 use denote.Ref.{now}
 use Rattle.grammar.specs.Tables.{pair}
 use Rattle.writing.specs.Handed.{pairs}
-use Rattle.writing.specs.Spell.{string, rowBytes}
+use Rattle.writing.specs.Spell.{rowBytes}
 use Rattle.writing.proofs.ForCode.{runFrom}
 use Rattle.rows.specs.Given.{run, givenPairs}
 use Rattle.rows.proofs.Laws.Run.{piece-ends, piece-within}

@@ -3,6 +3,7 @@ use mathlib.Core.Path.{_≡_, sym, ap, _∙_}
 use mathlib.Core.List.{List}
 use Prim.Native.Nat.{ℕ, _+_}
 use native.Mathlib.Omega.{arith}
+use borrow.Author.Needs.{needs}
 use lib.Seq.{sets}
 use denote.Ref.{now}
 use Rattle.writing.specs.Spell.{short}
@@ -11,7 +12,6 @@ use Rattle.writing.proofs.Sizes.{length-short}
 use Rattle.numbers.proofs.Laws.Put.{wide-one}
 use Rattle.rows.proofs.Laws.Size.{len-len-most}
 use Rattle.row_puts.proofs.Laws.{put-row}
-use borrow.Author.Needs.{needs}
 use Rattle.settle.proofs.put_header.Statement.{statement}
 use Rattle.settle.proofs.put_header.Tie as tie
 

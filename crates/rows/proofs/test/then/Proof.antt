@@ -1,7 +1,7 @@
--- `publish_write::plan::then` is right since a refusal stands, and after none the second counts. Assumes nothing.
+-- `rows::test::then` is right since a refusal stands, and after none the second counts. Assumes nothing.
 use borrow.Author.Needs.{needs}
-use Rattle.publish_write.proofs.plan.then.Statement.{statement}
-use Rattle.publish_write.proofs.plan.then.Tie as tie
+use Rattle.rows.proofs.test.then.Statement.{statement}
+use Rattle.rows.proofs.test.then.Tie as tie
 
 enum-known-a : tie.Need-enum-known-a
 enum-known-a c = search needs
