@@ -1,13 +1,13 @@
 // One property at an index of a slice, an identifier byte and a value: the body of the loops in publish.rs, subscribe.rs and puback.rs,
 // once for all places. The end of the slice is the end of its room.
+use numbers::fixed;
+use numbers::got::GotU8;
+use numbers::got::GotU16;
+use numbers::got::GotU32;
+use numbers::length;
 use records::error::Error;
 use records::span::Span;
-use wire::fixed;
 use wire::got::GotSpan;
-use wire::got::GotU8;
-use wire::got::GotU16;
-use wire::got::GotU32;
-use wire::length;
 use wire::property;
 use wire::property::PropertyForm;
 use wire::property::PropertyPlace;

@@ -1,4 +1,6 @@
 // A PubAck, after puback.rs: the read of its fields (MQTT 3.4), and its reason string as a part of the stream.
+use numbers::fixed;
+use numbers::got::GotU16;
 use properties::puback;
 use properties::puback::GotPubAckBlock;
 use records::error::Error;
@@ -7,8 +9,6 @@ use records::puback::MaybePubAckProperties;
 use records::puback::PubAck;
 use records::puback::PubAckReason;
 use records::span::MaybeSpan;
-use wire::fixed;
-use wire::got::GotU16;
 use wire::string;
 ghost use mathlib.Core.Path.{_≡_};
 ghost use Prim.Native.Nat.{ℕ};

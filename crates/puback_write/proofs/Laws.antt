@@ -21,7 +21,7 @@ use Rattle.writing.proofs.ForCode.{judgeAll, judge-if, ack-belongs, ack-tests, 
 use Rattle.writing.proofs.Pins.{ack-props, first-bytes}
 use Rattle.records.specs.declared.puback.PubAckReason.{PubAckReason}
 use Rattle.records.specs.Told.{toldReason}
-use Rattle.wire.proofs.Laws.Put.{length-wide, wide-one}
+use Rattle.numbers.proofs.Laws.Put.{length-wide, wide-one}
 use Rattle.rows.specs.Put.{Put}
 use Rattle.settle.specs.Found.{earlyOf, lateOf}
 use Rattle.settle.proofs.Laws.{cap-left, cap-last, Upto, upto-start, upto-sets, upto-put, upto-last}

@@ -1,5 +1,7 @@
 // A PubAck, written, after `write` and `size` of puback.rs: first every refusal and the size, touching nothing, then the bytes. A plain
 // success is four bytes.
+use numbers::fixed;
+use numbers::length::write_remaining_length;
 use records::answer::Limit;
 use records::answer::Sized;
 use records::answer::Written;
@@ -12,8 +14,6 @@ use rows::run;
 use rows::size;
 use rows::test;
 use rows::test::Tested;
-use wire::fixed;
-use wire::length::write_remaining_length;
 ghost use mathlib.Core.Path.{_≡_};
 ghost use mathlib.Core.Bool.{true};
 ghost use mathlib.Core.List.{[], _∷_, _++_};

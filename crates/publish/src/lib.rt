@@ -1,4 +1,6 @@
 // A Publish, after publish.rs: the read of its fields, and its strings as parts of the stream.
+use numbers::fixed;
+use numbers::got::GotU16;
 use properties::publish;
 use properties::publish::GotPublishBlock;
 use records::error::Error;
@@ -11,9 +13,7 @@ use records::span::MaybeU8;
 use records::span::MaybeU16;
 use records::span::MaybeU32;
 use records::span::Span;
-use wire::fixed;
 use wire::got::GotSpan;
-use wire::got::GotU16;
 use wire::qos;
 use wire::qos::GotQos;
 use wire::string;
@@ -25,7 +25,8 @@ ghost use Rattle.reading.specs.Read.{identOf, bytesOf, fieldsFit};
 ghost use Rattle.reading.specs.Place.{asPlaces};
 ghost use Rattle.positions.specs.Position.{fromAt};
 ghost use Rattle.records.specs.Told.{toldBool, toldQoS};
-ghost use Rattle.wire.specs.Told.{toldU16, toldPart};
+ghost use Rattle.numbers.specs.Told.{toldGotU16};
+ghost use Rattle.wire.specs.Told.{toldPart};
 ghost use Rattle.publish.specs.Told.{toldGotPublish, topicIn, payloadIn, Strings, responseIn, correlationIn, contentIn};
 
 pub enum GotPublish {
@@ -42,7 +43,7 @@ fn read_topic(s: &[u8], at: usize) -> GotSpan
 
 // An identifier that must not be 0: 7, then 12.
 fn read_some_pkid(s: &[u8], at: usize) -> GotU16
-    ensures { λ r. ⌜ toldU16 r ≡ fromAt (identOf 1) (now (s .entry)) at ⌝ }
+    ensures { λ r. ⌜ toldGotU16 r ≡ fromAt (identOf 1) (now (s .entry)) at ⌝ }
 {
     match fixed::read_u16(s, at) {
         GotU16::Refused(e) => GotU16::Refused(e),
@@ -58,7 +59,7 @@ fn read_some_pkid(s: &[u8], at: usize) -> GotU16
 // The identifier, which stands there only if QoS is 1 or 2.
 fn read_pkid(s: &[u8], at: usize, qos: QoS) -> GotU16
     requires { ⌜ at ≤ length (now s) ⌝ }
-    ensures { λ r. ⌜ toldU16 r ≡ fromAt (identOf (toldQoS qos)) (now (s .entry)) at ⌝ }
+    ensures { λ r. ⌜ toldGotU16 r ≡ fromAt (identOf (toldQoS qos)) (now (s .entry)) at ⌝ }
 {
     match qos {
         QoS::AtMostOnce => GotU16::Value(0, at),

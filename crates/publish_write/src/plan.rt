@@ -1,5 +1,6 @@
 // The refusals and the size of a Publish, touching nothing (01, writing order), after `len` and `size` of publish.rs.
 use crate::head::PublishHead;
+use numbers::length::len_len;
 use records::answer::Limit;
 use records::error::Error;
 use records::qos::qos_number;
@@ -7,7 +8,6 @@ use rows::belong;
 use rows::size;
 use rows::test;
 use rows::test::Tested;
-use wire::length::len_len;
 ghost use mathlib.Core.Path.{_≡_};
 ghost use mathlib.Core.Bool.{_&&_, _||_};
 ghost use mathlib.Core.List.{List};

@@ -2,11 +2,11 @@
 // What would lie past the end is not stored.
 use crate::head::PublishHead;
 use crate::plan::no_pkid;
+use numbers::fixed;
+use numbers::length::write_remaining_length;
 use records::qos::qos_number;
 use rows::put;
 use rows::run::after;
-use wire::fixed;
-use wire::length::write_remaining_length;
 use wire::string;
 ghost use mathlib.Core.Path.{_≡_};
 ghost use mathlib.Core.List.{List, _∷_, _++_};

@@ -1,11 +1,11 @@
 // The bytes of a row, after `write` of the properties in publish.rs, subscribe.rs and puback.rs, and of filters: each function puts them
 // at an index of an output and gives how many they are. What would lie past the end is not stored.
 use crate::run;
+use numbers::fixed;
+use numbers::length::write_remaining_length;
 use records::span::MaybeU8;
 use records::span::MaybeU16;
 use records::span::MaybeU32;
-use wire::fixed;
-use wire::length::write_remaining_length;
 use wire::string::write_mqtt_bytes;
 ghost use mathlib.Core.Path.{_≡_};
 ghost use mathlib.Core.List.{_∷_, [], _++_};

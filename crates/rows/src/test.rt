@@ -3,6 +3,8 @@
 use crate::run;
 use records::error::Error;
 use utf8::is_utf8;
+use wire::string::GotStringLength;
+use wire::string::string_length;
 ghost use mathlib.Core.Path.{_≡_};
 ghost use mathlib.Core.List.{map};
 ghost use Rattle.grammar.specs.Tables.{text, bytes as bytesForm};
@@ -17,27 +19,32 @@ pub enum Tested {
     Refused(Error),
 }
 
+// Bytes: 18.
 pub fn test_raw(s: &[u8]) -> Tested
     ensures { λ r. ⌜ toldTested r ≡ judge (fieldTests (raw (now (s .entry)))) ⌝ }
 {
-    if 65535 < s.len() {
-        return Tested::Refused(Error::StringTooLong(s.len()));
+    match string_length(s) {
+        GotStringLength::Refused(e) => Tested::Refused(e),
+        GotStringLength::Value(_) => Tested::Fine,
     }
-    Tested::Fine
 }
 
+// A text: 18, then 9.
 pub fn test_word(s: &[u8]) -> Tested
     ensures { λ r. ⌜ toldTested r ≡ judge (fieldTests (word (now (s .entry)))) ⌝ }
 {
-    if 65535 < s.len() {
-        return Tested::Refused(Error::StringTooLong(s.len()));
+    match test_raw(s) {
+        Tested::Refused(e) => Tested::Refused(e),
+        Tested::Fine => {
+            if is_utf8(s) {
+                return Tested::Fine;
+            }
+            Tested::Refused(Error::TopicNotUtf8)
+        }
     }
-    if is_utf8(s) {
-        return Tested::Fine;
-    }
-    Tested::Refused(Error::TopicNotUtf8)
 }
 
+// A filter's text, then its options: 14, then 11.
 pub fn test_filter(s: &[u8], options: u8) -> Tested
     ensures { λ r. ⌜ toldTested r ≡ judge (fieldTests (filter (now (s .entry)) options)) ⌝ }
 {

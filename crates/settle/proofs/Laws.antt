@@ -21,7 +21,7 @@ use Rattle.writing.proofs.Tests.{le-or}
 use Rattle.writing.proofs.ForCode.{cap-add, writes-all, writes-none}
 use Rattle.writing.proofs.Belong.{belongs-when}
 use Rattle.writing.proofs.Verdict.{answered-when}
-use Rattle.wire.proofs.Laws.Put.{sets-append}
+use Rattle.numbers.proofs.Laws.Put.{sets-append}
 use Rattle.rows.specs.Put.{Put}
 use Rattle.rows.proofs.Laws.Put.{sets-min}
 use Rattle.settle.specs.Behind.{Behind}

@@ -1,13 +1,13 @@
 // Filters, after `Filter::read` of subscribe.rs: one filter, a run of them to the end of the slice, and the n-th of a run.
 // The end of the slice is the end of their room.
+use numbers::fixed;
+use numbers::got::GotU8;
 use records::answer::FilterItem;
 use records::error::Error;
 use records::span::Span;
 use records::subscribe::Filter;
 use records::subscribe::RetainForwardRule;
-use wire::fixed;
 use wire::got::GotSpan;
-use wire::got::GotU8;
 use wire::qos;
 use wire::qos::GotQos;
 use wire::string;

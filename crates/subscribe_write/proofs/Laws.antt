@@ -22,7 +22,7 @@ use Rattle.writing.specs.Write.{firstByte, frameBytes}
 use Rattle.writing.proofs.ForCode.{judgeAll, subscribe-belongs, subscribe-tests, subscribe-sum, subscribe-frame, cap-small, cap-length}
 use Rattle.writing.proofs.Pins.{subscribe-props, first-bytes}
 use Rattle.records.specs.declared.span.MaybeU32.{MaybeU32}
-use Rattle.wire.proofs.Laws.Put.{length-wide}
+use Rattle.numbers.proofs.Laws.Put.{length-wide}
 use Rattle.rows.specs.Given.{givenU32, filtersOf}
 use Rattle.rows.specs.Put.{Put}
 use Rattle.settle.specs.Behind.{Behind}

@@ -1,5 +1,7 @@
 // A Subscribe, written, after `write` and `size` of subscribe.rs: first every refusal and the size, touching nothing, then the bytes. An
 // empty filter list is refused (D6).
+use numbers::fixed;
+use numbers::length::write_remaining_length;
 use records::answer::Limit;
 use records::answer::Sized;
 use records::answer::Written;
@@ -11,8 +13,6 @@ use rows::run;
 use rows::size;
 use rows::test;
 use rows::test::Tested;
-use wire::fixed;
-use wire::length::write_remaining_length;
 ghost use mathlib.Core.Path.{_≡_};
 ghost use mathlib.Core.Bool.{true, not, _&&_};
 ghost use mathlib.Core.List.{List, [], _++_, map};

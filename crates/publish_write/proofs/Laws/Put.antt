@@ -12,7 +12,7 @@ use Rattle.writing.specs.Spell.{wide, short, string, rowBytes, propsBytes}
 use Rattle.writing.specs.Size.{noIdent}
 use Rattle.writing.specs.Write.{firstByte, identBytes}
 use Rattle.writing.proofs.Sizes.{length-string}
-use Rattle.wire.proofs.Laws.Put.{length-wide, wide-one}
+use Rattle.numbers.proofs.Laws.Put.{length-wide, wide-one}
 use Rattle.records.specs.Told.{toldBool, toldQoS}
 use Rattle.rows.specs.Given.{givenU8, givenU16, givenU32, givenLent, givenPairs}
 use Rattle.rows.specs.Put.{Put}

@@ -16,7 +16,7 @@ use Rattle.writing.specs.Spell.{wide, short, string, numeral, value, rowBytes, 
 use Rattle.writing.proofs.Tests.{le-or}
 use Rattle.writing.proofs.Sizes.{length-string}
 use Rattle.writing.proofs.ForCode.{runFrom, stringAt, strings-done}
-use Rattle.wire.proofs.Laws.Put.{sets-append, sets-out, length-wide, wide-one}
+use Rattle.numbers.proofs.Laws.Put.{sets-append, sets-out, length-wide, wide-one}
 use Rattle.rows.specs.Given.{givenLent}
 use Rattle.rows.specs.Put.{Put}
 use Rattle.rows.proofs.Laws.Run.{strings-cut}

@@ -8,7 +8,7 @@ use denote.Ref.{now}
 use Rattle.writing.specs.Spell.{short}
 use Rattle.writing.specs.Size.{lenLen}
 use Rattle.writing.proofs.Sizes.{length-short}
-use Rattle.wire.proofs.Laws.Put.{wide-one}
+use Rattle.numbers.proofs.Laws.Put.{wide-one}
 use Rattle.rows.proofs.Laws.Size.{len-len-most}
 use Rattle.rows.proofs.Laws.Put.{put-row}
 use borrow.Author.Needs.{needs}

@@ -6,7 +6,7 @@ use native.Mathlib.Omega.{arith}
 use borrow.Author.Needs.{needs}
 use lib.Seq.{sets}
 use denote.Ref.{now}
-use Rattle.wire.proofs.Laws.Put.{wide-one}
+use Rattle.numbers.proofs.Laws.Put.{wide-one}
 use Rattle.rows.proofs.put.put_id.Statement.{statement}
 use Rattle.rows.proofs.put.put_id.Tie as tie
 

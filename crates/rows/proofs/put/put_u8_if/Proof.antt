@@ -4,7 +4,7 @@ use borrow.Author.Needs.{needs}
 use denote.Ref.{now}
 use Rattle.grammar.specs.Tables.{u8}
 use Rattle.writing.specs.Spell.{numeral}
-use Rattle.wire.proofs.Laws.Put.{wide-one}
+use Rattle.numbers.proofs.Laws.Put.{wide-one}
 use Rattle.rows.proofs.Laws.Put.{put-wide}
 use Rattle.rows.proofs.put.put_u8_if.Statement.{statement}
 use Rattle.rows.proofs.put.put_u8_if.Tie as tie
