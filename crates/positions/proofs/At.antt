@@ -11,7 +11,7 @@ use lib.Seq.{drop-cons, drop-drop, length-take-le, take-add, drop-at}
 use Rattle.grammar.specs.Number.{bigFrom}
 use Rattle.reading.specs.Refusal.{Refusal, nr, cut, crossed, lacking, within, over}
 use Rattle.reading.specs.Reader.{Fit, got, bad, Reader, Filler, _>>=_, onlyOf, thenOf, sizedOf, isFit, handFit}
-use Rattle.reading.specs.Read.{bigOf, byteOf, groupOf, numOf, isText, anyBytes, Shape, frameOf, stringFit, bytesOf, textOf, wholeAnswer, frameAnswer, readAs}
+use Rattle.reading.specs.Read.{bigOf, byteOf, groupOf, numOf, isText, anyBytes, Shape, lengthOf, frameOf, stringFit, bytesOf, textOf, wholeAnswer, frameAnswer, readAs}
 use Rattle.reading.specs.Place.{spanOf, asPlaces}
 use Rattle.reading.proofs.Lists.{leb-yes, leb-no, ltb-yes, ltb-no}
 
@@ -100,13 +100,13 @@ part-slice s l m o = rw (take-add m l s, drop-at (take m s) (take l (drop m s)) 
 
 -- a stream whose length number l ends at m, with all its bytes there: the answer is that to the frame of m + l bytes
 module _ (limit : Option ℕ) (x l m : ℕ) (t : List ℕ) (e : numOf (nr 1 (1 ∷ [])) 4 t ≡ got (l, drop m (x ∷ t))) (w : within limit l ≡ true) (o : m + l ≤ length (x ∷ t)) where
-  length-at : onlyOf (within limit) (over limit) (numOf (nr 1 (1 ∷ [])) 4) (drop 1 (x ∷ t)) ≡ got (l, drop m (x ∷ t))
+  length-at : lengthOf limit (drop 1 (x ∷ t)) ≡ got (l, drop m (x ∷ t))
   unfolding onlyOf
   length-at = rw (e, w)
 
   frame-at : frameOf limit (length (x ∷ t)) (x ∷ t) ≡ got ((x, take l (drop m (x ∷ t))), drop (m + l) (x ∷ t))
   unfolding frameOf thenOf byteOf isFit
-  frame-at = rw (sized-at (onlyOf (within limit) (over limit) (numOf (nr 1 (1 ∷ [])) 4)) lacking (λ _. isFit anyBytes cut) (length (x ∷ t)) (x ∷ t) 1 l m length-at (omega arith) o refl)
+  frame-at = rw (sized-at (lengthOf limit) lacking (λ _. isFit anyBytes cut) (length (x ∷ t)) (x ∷ t) 1 l m length-at (omega arith) o refl)
 
   pub read-at : (h : Shape) → readAs h limit (x ∷ t) ≡ wholeAnswer h (m + l) (x, drop m (take (m + l) (x ∷ t)))
   unfolding readAs frameAnswer
