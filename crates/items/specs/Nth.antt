@@ -5,7 +5,7 @@ use mathlib.Core.List.{List, [], _∷_}
 use Prim.Native.Nat.{ℕ}
 use lib.ListN.{length, drop}
 use Rattle.grammar.specs.Choice.{lookup}
-use Rattle.grammar.specs.Record.{Val, Prop, allOf}
+use Rattle.grammar.specs.Record.{Val, PropOf, allOf}
 use Rattle.reading.specs.Reader.{Fit, got, _>>=_}
 use Rattle.reading.specs.Read.{propertiesFit}
 use Rattle.reading.specs.Place.{asPlaces, orNoItem, nthOf, valuesAt, userAt, subscriptionAt}
@@ -33,7 +33,7 @@ Formed o (At v) = o ≡ some (formOf v)
 
 -- the search q for property i goes on as r where property k with value v is passed, whatever properties follow
 pub record SeekOn (q : Seek) (i k : ℕ) (v : Value) (r : Seek) : Type 0 where
-  pub says : (ps : List (Prop place.Span)) → sought r (allOf i ps) ≡ sought q (allOf i ((k, toldValue v) ∷ ps))
+  pub says : (ps : List (PropOf place.Span)) → sought r (allOf i ps) ≡ sought q (allOf i ((k, toldValue v) ∷ ps))
   pub formed : (f : ℕ → Option tables.Form) → f k ≡ some (formOf v) → Formed (f i) q → Formed (f i) r
 
 -- 01, row 21: what the search q comes to in the properties that fill the bytes b, which end at index `end`, or that they are no block

@@ -15,7 +15,7 @@ use Rattle.records.specs.Said.{toldPublishBlock, toldPubAckBlock, toldPacket}
 use Rattle.records.specs.declared.packet.Packet as code
 use Rattle.records.specs.declared.puback.PubAck.{PubAck}
 use Rattle.records.specs.declared.publish.Publish.{Publish}
-use Rattle.wire.specs.Told.{stringIf, stringIn}
+use Rattle.wire.specs.Told.{stringIf, inBlock}
 use Rattle.promises.specs.Reading.{itself, PublishParts, PubAckParts}
 
 module _ (s : List ℕ) where
@@ -26,6 +26,7 @@ module _ (s : List ℕ) where
   Said v w = onSome (sayVal s) v ≡ w
 
   held : (v : Option (Val Span)) → stringIf (heldOf s) v ≡ stringIf itself (onSome (sayVal s) v)
+  unfolding stringIf
   held none = refl
   held (some (num n)) = refl
   held (some (str p)) = refl
@@ -33,12 +34,13 @@ module _ (s : List ℕ) where
 
   -- where a block says another, and with it its string f the other's g, the part at f is the string g
   part-said : {P Q : Type 0} (f : P → Option (Val Span)) (g : Q → Option Value) (h : P → Fit Q) → ((p : P) (q : Q) → h p ≡ got q → Said (f p) (g q))
-      → (o : Option P) (w : Option Q) → ifSome h o ≡ got w → stringIn (heldOf s) f o ≡ stringIn itself g w
-  part-said f g h t none w = from-got (λ w. stringIn (heldOf s) f none ≡ stringIn itself g w) none refl w
+      → (o : Option P) (w : Option Q) → ifSome h o ≡ got w → stringIf (heldOf s) (inBlock f o) ≡ stringIf itself (inBlock g w)
+  unfolding stringIf
+  part-said f g h t none w = from-got (λ w. stringIf (heldOf s) (inBlock f none) ≡ stringIf itself (inBlock g w)) none refl w
   part-said {Q = Q} f g h t (some p) w = go (h p) refl
     where
-      go : (m : Fit Q) → h p ≡ m → onGot some m ≡ got w → stringIn (heldOf s) f (some p) ≡ stringIn itself g w
-      go (got q) e = from-got (λ w. stringIn (heldOf s) f (some p) ≡ stringIn itself g w) (some q) (held (f p) ∙ ap (stringIf itself) (t p q e)) w
+      go : (m : Fit Q) → h p ≡ m → onGot some m ≡ got w → stringIf (heldOf s) (f p) ≡ stringIf itself (inBlock g w)
+      go (got q) e = from-got (λ w. stringIf (heldOf s) (f p) ≡ stringIf itself (inBlock g w)) (some q) (held (f p) ∙ ap (stringIf itself) (t p q e)) w
       go (bad k) e = λ i. absurd (bad-got i)
 
   -- ---- Publish

@@ -13,7 +13,7 @@ use Rattle.records.specs.declared.answer.FilterItem.{FilterItem}
 use Rattle.records.specs.declared.puback.PubAck.{PubAck}
 use Rattle.records.specs.declared.publish.Publish.{Publish}
 use Rattle.records.specs.declared.span.Span.{Span}
-use Rattle.wire.specs.Told.{stringIn}
+use Rattle.wire.specs.Told.{stringIf, inBlock}
 use Rattle.items.specs.Nth.{NthUser, NthIdentifier}
 use Rattle.puback.specs.Told.{reasonIn}
 use Rattle.subscribe.specs.Told.{NthFilter}
@@ -30,13 +30,13 @@ itself b = b
 pub record PublishParts (s : List ℕ) (m : Publish) (w : record-of.Publish (List ℕ) List) : Type 0 where
   pub topic : topicIn s m ≡ w .topic
   pub payload : payloadIn s m ≡ w .payload
-  pub response : responseIn s m ≡ stringIn itself (λ ps. ps .response) (w .props)
-  pub correlation : correlationIn s m ≡ stringIn itself (λ ps. ps .correlation) (w .props)
-  pub content : contentIn s m ≡ stringIn itself (λ ps. ps .content) (w .props)
+  pub response : responseIn s m ≡ stringIf itself (inBlock (λ ps. ps .response) (w .props))
+  pub correlation : correlationIn s m ≡ stringIf itself (inBlock (λ ps. ps .correlation) (w .props))
+  pub content : contentIn s m ≡ stringIf itself (inBlock (λ ps. ps .content) (w .props))
 
 -- the same of a PubAck's reason string
 pub record PubAckParts (s : List ℕ) (m : PubAck) (w : record-of.Ack (List ℕ) List) : Type 0 where
-  pub reason : reasonIn s m ≡ stringIn itself (λ ps. ps .reason) (w .props)
+  pub reason : reasonIn s m ≡ stringIf itself (inBlock (λ ps. ps .reason) (w .props))
 
 -- ---- items
 

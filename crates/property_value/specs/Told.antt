@@ -5,7 +5,7 @@ use mathlib.Core.List.{List, [], _∷_}
 use Prim.Native.Nat.{ℕ}
 use lib.ListN.{length}
 use Rattle.grammar.specs.Choice.{lookup}
-use Rattle.grammar.specs.Record.{Val, num, str, duo, Prop}
+use Rattle.grammar.specs.Record.{Val, num, str, duo, PropOf}
 use Rattle.reading.specs.Reader.{Fit, got, bad}
 use Rattle.reading.specs.Read.{valueAt, propertyOf}
 use Rattle.reading.specs.Place.{asPlaces}
@@ -41,7 +41,7 @@ formOf (Bytes p) = tables.bytes
 formOf (Pair p q) = tables.pair
 
 -- 01, grammar: "an identifier byte and a value", and the index after them; or the refusal
-abbrev pub toldProperty : GotProperty → Fit (Prop place.Span × ℕ)
+abbrev pub toldProperty : GotProperty → Fit (PropOf place.Span × ℕ)
 toldProperty (Found k v n) = got ((k, toldValue v), n)
 toldProperty (Refused e) = bad (toldError e)
 

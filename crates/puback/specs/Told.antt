@@ -3,7 +3,7 @@ use mathlib.Core.Option.{Option}
 use mathlib.Core.List.{List}
 use Prim.Native.Nat.{ℕ}
 use Rattle.grammar.specs.Tables.{reasons}
-use Rattle.grammar.specs.Record.{AckProps, ack}
+use Rattle.grammar.specs.Record.{Val, AckProps, ack}
 use Rattle.reading.specs.Reader.{Fit, got, bad, _>>=_}
 use Rattle.reading.specs.Read.{ackRestFit}
 use Rattle.reading.specs.Place.{asPlaces, Placed, heldOf}
@@ -11,7 +11,7 @@ use Rattle.reading.specs.Place as place
 use Rattle.records.specs.Told.{toldError}
 use Rattle.records.specs.Said.{toldPubAck, toldPubAckBlock}
 use Rattle.records.specs.declared.puback.PubAck.{PubAck}
-use Rattle.wire.specs.Told.{stringIn}
+use Rattle.wire.specs.Told.{stringIf, inBlock}
 use Rattle.puback.specs.declared.GotPubAck.{GotPubAck}
 use Rattle.puback.specs.declared.GotLastBlock.{GotLastBlock}
 
@@ -33,6 +33,12 @@ acked i v = got (ack 4 (record { ident = i; reason = v .0; props = v .1 }))
 abbrev pub restOf : ℕ → ℕ → List ℕ → Fit Placed
 restOf i end b = ackRestFit asPlaces reasons end b >>= acked i
 
--- 01, table of properties, 31: the reason string of m as a part of the stream s; empty if it is absent, and (demand 1) if it lies outside
+-- ---- the reason string
+
+-- 01, table of properties, 31: the reason string of m; absent where there is no block
+abbrev pub reason : PubAck → Option (Val place.Span)
+reason m = inBlock (λ ps. ps .reason) (toldPubAckBlock (m .properties))
+
+-- the part of it in the stream s; demand 1: any record with any stream, so what lies outside is empty, and what is absent
 abbrev pub reasonIn : List ℕ → PubAck → List ℕ
-reasonIn s m = stringIn (heldOf s) (λ ps. ps .reason) (toldPubAckBlock (m .properties))
+reasonIn s m = stringIf (heldOf s) (reason m)

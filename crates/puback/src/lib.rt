@@ -8,6 +8,7 @@ use records::puback::GotReason;
 use records::puback::MaybePubAckProperties;
 use records::puback::PubAck;
 use records::puback::PubAckReason;
+use records::span::MaybeSpan;
 use wire::string;
 ghost use mathlib.Core.Path.{_≡_};
 ghost use Prim.Native.Nat.{ℕ};
@@ -16,7 +17,8 @@ ghost use Rattle.grammar.specs.Tables.{anAck, reasons};
 ghost use Rattle.grammar.specs.Record.{kindOf};
 ghost use Rattle.reading.specs.Read.{ackBlockFit, fieldsFit};
 ghost use Rattle.reading.specs.Place.{asPlaces};
-ghost use Rattle.puback.specs.Told.{toldGotPubAck, toldLastBlock, restOf, reasonIn};
+ghost use Rattle.records.specs.Told.{toldString};
+ghost use Rattle.puback.specs.Told.{toldGotPubAck, toldLastBlock, restOf, reason, reasonIn};
 
 pub enum GotPubAck {
     Value(PubAck),
@@ -81,16 +83,23 @@ pub fn read(s: &[u8], at: usize) -> GotPubAck
     }
 }
 
+// Where the reason string stands; absent where there is no block.
+fn reason_place(m: PubAck) -> MaybeSpan
+    ensures { λ r. ⌜ toldString r ≡ reason m ⌝ }
+{
+    let properties = m.properties;
+    match properties {
+        MaybePubAckProperties::Absent => MaybeSpan::Absent,
+        MaybePubAckProperties::Present(p) => {
+            let place = p.reason_string;
+            place
+        }
+    }
+}
+
 // The reason string of `m`, which was read from `s`; the empty part if it is absent or lies outside.
 pub fn reason_string<'a>(s: &'a [u8], m: PubAck) -> &'a [u8]
     ensures { λ r. ⌜ now r ≡ reasonIn (now (s .entry)) m ⌝ }
 {
-    let properties = m.properties;
-    match properties {
-        MaybePubAckProperties::Absent => &s[..0],
-        MaybePubAckProperties::Present(p) => {
-            let place = p.reason_string;
-            string::part_if(s, place)
-        }
-    }
+    string::part_if(s, reason_place(m))
 }

@@ -6,7 +6,12 @@ use properties::publish::GotPublishBlock;
 use records::error::Error;
 use records::publish::MaybePublishProperties;
 use records::publish::Publish;
+use records::publish::PublishProperties;
 use records::qos::QoS;
+use records::span::MaybeSpan;
+use records::span::MaybeU8;
+use records::span::MaybeU16;
+use records::span::MaybeU32;
 use records::span::Span;
 use wire::got::GotSpan;
 use wire::qos;
@@ -22,7 +27,7 @@ ghost use Rattle.positions.specs.Position.{fromAt};
 ghost use Rattle.records.specs.Told.{toldBool, toldQoS};
 ghost use Rattle.numbers.specs.Told.{toldGotU16};
 ghost use Rattle.wire.specs.Told.{toldPart};
-ghost use Rattle.publish.specs.Told.{toldGotPublish, topicIn, payloadIn, responseIn, correlationIn, contentIn};
+ghost use Rattle.publish.specs.Told.{toldGotPublish, topicIn, payloadIn, Strings, responseIn, correlationIn, contentIn};
 
 pub enum GotPublish {
     Value(Publish),
@@ -117,42 +122,46 @@ pub fn payload<'a>(s: &'a [u8], m: Publish) -> &'a [u8]
     string::part(s, m.payload)
 }
 
+// The properties, each of them absent where there is no block.
+fn given(m: Publish) -> PublishProperties
+    ensures { λ r. ⌜ Strings m r ⌝ }
+{
+    let properties = m.properties;
+    match properties {
+        MaybePublishProperties::Present(p) => p,
+        MaybePublishProperties::Absent => PublishProperties {
+            payload_format_indicator: MaybeU8::Absent,
+            message_expiry_interval: MaybeU32::Absent,
+            topic_alias: MaybeU16::Absent,
+            response_topic: MaybeSpan::Absent,
+            correlation_data: MaybeSpan::Absent,
+            content_type: MaybeSpan::Absent,
+            block: Span { start: 0, len: 0 },
+        },
+    }
+}
+
 // Empty if it is absent, as the next two.
 pub fn response_topic<'a>(s: &'a [u8], m: Publish) -> &'a [u8]
     ensures { λ r. ⌜ now r ≡ responseIn (now (s .entry)) m ⌝ }
 {
-    let properties = m.properties;
-    match properties {
-        MaybePublishProperties::Absent => &s[..0],
-        MaybePublishProperties::Present(p) => {
-            let place = p.response_topic;
-            string::part_if(s, place)
-        }
-    }
+    let p = given(m);
+    let place = p.response_topic;
+    string::part_if(s, place)
 }
 
 pub fn correlation_data<'a>(s: &'a [u8], m: Publish) -> &'a [u8]
     ensures { λ r. ⌜ now r ≡ correlationIn (now (s .entry)) m ⌝ }
 {
-    let properties = m.properties;
-    match properties {
-        MaybePublishProperties::Absent => &s[..0],
-        MaybePublishProperties::Present(p) => {
-            let place = p.correlation_data;
-            string::part_if(s, place)
-        }
-    }
+    let p = given(m);
+    let place = p.correlation_data;
+    string::part_if(s, place)
 }
 
 pub fn content_type<'a>(s: &'a [u8], m: Publish) -> &'a [u8]
     ensures { λ r. ⌜ now r ≡ contentIn (now (s .entry)) m ⌝ }
 {
-    let properties = m.properties;
-    match properties {
-        MaybePublishProperties::Absent => &s[..0],
-        MaybePublishProperties::Present(p) => {
-            let place = p.content_type;
-            string::part_if(s, place)
-        }
-    }
+    let p = given(m);
+    let place = p.content_type;
+    string::part_if(s, place)
 }

@@ -1,5 +1,5 @@
--- What the answer on a string tells: its place and the index after it, or 01's number and values of the refusal; and strings that may be
--- absent. Assumes nothing.
+-- What the answer on a string tells: its place and the index after it, or 01's number and values of the refusal; and the bytes of a string
+-- that may be absent. Assumes nothing.
 use mathlib.Core.Option.{Option, none, some}
 use mathlib.Core.List.{List, []}
 use Prim.Native.Nat.{ℕ}
@@ -17,13 +17,13 @@ toldPart (Refused e) = bad (toldError e)
 -- ---- strings that may be absent
 
 -- the bytes of a value that is a string, where f says what bytes a string is; none if it is absent
-abbrev pub stringIf : {S : Type 0} → (S → List ℕ) → Option (Val S) → List ℕ
+unfoldable pub stringIf : {S : Type 0} → (S → List ℕ) → Option (Val S) → List ℕ
 stringIf f none = []
 stringIf f (some (num n)) = []
 stringIf f (some (str b)) = f b
 stringIf f (some (duo b c)) = []
 
--- the same of the value v of a block; none if the block is absent
-abbrev pub stringIn : {S P : Type 0} → (S → List ℕ) → (P → Option (Val S)) → Option P → List ℕ
-stringIn f v none = []
-stringIn f v (some ps) = stringIf f (v ps)
+-- the value v of a block; none if the block is absent
+abbrev pub inBlock : {S P : Type 0} → (P → Option (Val S)) → Option P → Option (Val S)
+inBlock v none = none
+inBlock v (some ps) = v ps

@@ -12,7 +12,7 @@ use lib.Seq.{drop-cons}
 use Rattle.grammar.specs.Choice.{pick, lookup}
 use Rattle.grammar.specs.Gram.{forget}
 use Rattle.grammar.specs.Tables.{Form, u8, u16, u32, number, text, bytes, pair, Place, publishPlace, subscribePlace, ackPlace}
-use Rattle.grammar.specs.Record.{Val, Prop, lastOf, unlessEmpty, publishProps, subscribeProps, ackProps}
+use Rattle.grammar.specs.Record.{Val, PropOf, lastOf, unlessEmpty, publishProps, subscribeProps, ackProps}
 use Rattle.reading.specs.Refusal.{Refusal}
 use Rattle.reading.specs.Reader.{Fit, got, bad, _>>=_, handFit, runFit, chainFit, foldFrom, foldFit}
 use Rattle.reading.specs.Read.{valueAt, propertyOf, propertiesFit}
@@ -135,8 +135,8 @@ module _ (w : Row) (lists : Place) (E : Every (Listed w) lists) where
 -- `more` goes property by property, and `made` is it from none on
 pub record Lawful (w : Row) : Type 0 where
   pub nil : (o : w .Props) → w .more o [] ≡ o
-  pub cons : (o : w .Props) (a : Prop Span) (ps : List (Prop Span)) → w .more (applied w o a) ps ≡ w .more o (a ∷ ps)
-  pub whole : (p : Span) (ps : List (Prop Span)) → w .more (w .made p []) ps ≡ w .made p ps
+  pub cons : (o : w .Props) (a : PropOf Span) (ps : List (PropOf Span)) → w .more (applied w o a) ps ≡ w .more o (a ∷ ps)
+  pub whole : (p : Span) (ps : List (PropOf Span)) → w .more (w .made p []) ps ≡ w .made p ps
 
 pub publish-lawful : Lawful publishRow
 unfolding publishProps lastOf
@@ -151,7 +151,7 @@ unfolding ackProps lastOf
 ack-lawful = record { nil = λ o. refl; cons = λ o a ps. refl; whole = λ p ps. refl }
 
 -- 01: "L = 0 means absent"
-abbrev pub blockAs : (w : Row) → List (Prop Span) → List ℕ → ℕ → Option (w .Props)
+abbrev pub blockAs : (w : Row) → List (PropOf Span) → List ℕ → ℕ → Option (w .Props)
 blockAs w ps b end = unlessEmpty (w .made (spanOf b end)) ps
 
 -- a loop of w on what is left; the end of its room is `end`
@@ -159,11 +159,11 @@ abbrev pub loopOn : (w : Row) → ℕ → w .Props → List ℕ → Fit (w .Prop
 loopOn w end o l = foldFit forget (λ _. propertyOf asPlaces (w .place) end) (applied w) o tt l
 
 module _ (w : Row) (W : Lawful w) where
-  fold-more : (o : w .Props) (ps : List (Prop Span)) → foldFrom (applied w) o ps ≡ w .more o ps
+  fold-more : (o : w .Props) (ps : List (PropOf Span)) → foldFrom (applied w) o ps ≡ w .more o ps
   fold-more o [] = sym (W .nil o)
   fold-more o (a ∷ ps) = fold-more (applied w o a) ps ∙ W .cons o a ps
 
-  fold-made : (p : Span) (ps : List (Prop Span)) → foldFrom (applied w) (w .made p []) ps ≡ w .made p ps
+  fold-made : (p : Span) (ps : List (PropOf Span)) → foldFrom (applied w) (w .made p []) ps ≡ w .made p ps
   fold-made p ps = fold-more (w .made p []) ps ∙ W .whole p ps
 
   pub block-none : (end : ℕ) → handFit (blockAs w) (propertiesFit asPlaces (w .place)) end [] ≡ got none
@@ -179,26 +179,26 @@ module _ (w : Row) (W : Lawful w) where
       p : Span
       p = spanOf (x ∷ b) end
 
-      more : Fit (Prop Span × List ℕ) → Fit (List (Prop Span))
+      more : Fit (PropOf Span × List ℕ) → Fit (List (PropOf Span))
       more m = m >>= λ z. runFit forget (λ _. propertyOf asPlaces (w .place) end) tt b (z .1) >>= λ vs. got (z .0 ∷ vs)
 
-      rest : (a : Prop Span) (m : Fit (List (Prop Span)))
+      rest : (a : PropOf Span) (m : Fit (List (PropOf Span)))
           → ((m >>= λ vs. got (a ∷ vs)) >>= λ vs. got (unlessEmpty (w .made p) vs)) ≡ onGot some ((m >>= λ vs. got (a ∷ vs)) >>= λ vs. got (foldFrom (applied w) (w .made p []) vs))
       rest a (got vs) = ap (λ (o : w .Props). got (some o)) (sym (fold-made p (a ∷ vs)))
       rest a (bad k) = refl
 
-      first : (m : Fit (Prop Span × List ℕ)) → (more m >>= λ vs. got (unlessEmpty (w .made p) vs)) ≡ onGot some (more m >>= λ vs. got (foldFrom (applied w) (w .made p []) vs))
+      first : (m : Fit (PropOf Span × List ℕ)) → (more m >>= λ vs. got (unlessEmpty (w .made p) vs)) ≡ onGot some (more m >>= λ vs. got (foldFrom (applied w) (w .made p []) vs))
       first (got z) = rest (z .0) (runFit forget (λ _. propertyOf asPlaces (w .place) end) tt b (z .1))
       first (bad k) = refl
 
 -- ---- how the loop goes on
 
 -- the property at an index
-abbrev pub propertyAt : Row → List ℕ → ℕ → Fit (Prop Span × ℕ)
+abbrev pub propertyAt : Row → List ℕ → ℕ → Fit (PropOf Span × ℕ)
 propertyAt w s at = fromAt (propertyOf asPlaces (w .place) (length s)) s at
 
 module _ (w : Row) (s : List ℕ) (at : ℕ) (h : at < length s) where
-  module _ (a : Prop Span) (n : ℕ) (e : got (a, n) ≡ propertyAt w s at) where
+  module _ (a : PropOf Span) (n : ℕ) (e : got (a, n) ≡ propertyAt w s at) where
     pub loop-next : (o : w .Props) → loopFrom w o s at ≡ loopFrom w (applied w o a) s n
     unfolding loopFrom
     loop-next o =
@@ -228,10 +228,10 @@ pub filling-start : (w : Row) (s : List ℕ) (o : w .Props) (at : ℕ) → Filli
 filling-start w s o at = record { rest = refl }
 
 module _ {w : Row} {s : List ℕ} {whole : Fit (w .Props)} {o : w .Props} {at : ℕ} (f : Filling w s whole o at) where
-  pub filling-next : at < length s → (a : Prop Span) (n : ℕ) → got (a, n) ≡ propertyAt w s at → (o′ : w .Props) → o′ ≡ applied w o a → Filling w s whole o′ n
+  pub filling-next : at < length s → (a : PropOf Span) (n : ℕ) → got (a, n) ≡ propertyAt w s at → (o′ : w .Props) → o′ ≡ applied w o a → Filling w s whole o′ n
   filling-next h a n e o′ i = record { rest = f .rest ∙ loop-next w s at h a n e o ∙ ap (λ (u : w .Props). loopFrom w u s n) (sym i) }
 
-  pub filling-ahead : at < length s → (a : Prop Span) (n : ℕ) → got (a, n) ≡ propertyAt w s at → at < n
+  pub filling-ahead : at < length s → (a : PropOf Span) (n : ℕ) → got (a, n) ≡ propertyAt w s at → at < n
   filling-ahead h a n e = property-ahead (w .place) s at a n e
 
   filling-bad : at < length s → (k : Refusal) → bad k ≡ propertyAt w s at → whole ≡ bad k

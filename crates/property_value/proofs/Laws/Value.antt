@@ -7,7 +7,7 @@ use native.Mathlib.Omega.{arith}
 use lib.ListN.{length, drop, length-drop}
 use Rattle.grammar.specs.Choice.{lookup}
 use Rattle.grammar.specs.Tables.{Form, u8, u16, u32, number, text, bytes, pair, Place}
-use Rattle.grammar.specs.Record.{Val, num, str, Prop}
+use Rattle.grammar.specs.Record.{Val, num, str, PropOf}
 use Rattle.grammar.specs.Sentence.{duoOf}
 use Rattle.reading.specs.Refusal.{Refusal, cut}
 use Rattle.reading.specs.Reader.{Fit, got, bad, Reader, _>>=_, mapOf, thenOf}
@@ -69,7 +69,7 @@ module _ (end : ℕ) where
   of-pair = record { same = refl; trails = trails-then (trails-text asPlaces end) (λ _. trails-text asPlaces end) }
 
 -- the value with its identifier
-abbrev tagged : {A : Type 0} → (A → Val Span) → Reader A → ℕ → Reader (Prop Span)
+abbrev tagged : {A : Type 0} → (A → Val Span) → Reader A → ℕ → Reader (PropOf Span)
 tagged inj p k = mapOf (λ v. (k, v)) (mapOf inj p)
 
 value-tagged : {f : Form} {A : Type 0} {inj : A → Val Span} {p : Reader A} (s : List ℕ) → Reader-of f inj p (length s) → (k at : ℕ)
@@ -148,15 +148,15 @@ module _ {s : List ℕ} {k at : ℕ} where
 -- ---- the identifier before it
 
 -- what is read has the identifier that was asked for
-pub value-tag : (o : Option Form) (k end : ℕ) (l : List ℕ) (y : Prop Span × List ℕ) → valueAt asPlaces o k end l ≡ got y → y .0 .0 ≡ k
+pub value-tag : (o : Option Form) (k end : ℕ) (l : List ℕ) (y : PropOf Span × List ℕ) → valueAt asPlaces o k end l ≡ got y → y .0 .0 ≡ k
 unfolding valueAt
 value-tag none k end l = λ y e. absurd (bad-got e)
-value-tag (some f) k end l = from-bind (valueOf asPlaces f end l) _ λ x e. from-got (λ (y : Prop Span × List ℕ). y .0 .0 ≡ k) ((k, x .0), x .1) refl
+value-tag (some f) k end l = from-bind (valueOf asPlaces f end l) _ λ x e. from-got (λ (y : PropOf Span × List ℕ). y .0 .0 ≡ k) ((k, x .0), x .1) refl
 
-value-id : (o : Option Form) (k end : ℕ) (s : List ℕ) (at : ℕ) (z : Prop Span × ℕ) → fromAt (valueAt asPlaces o k end) s at ≡ got z → z .0 .0 ≡ k
+value-id : (o : Option Form) (k end : ℕ) (s : List ℕ) (at : ℕ) (z : PropOf Span × ℕ) → fromAt (valueAt asPlaces o k end) s at ≡ got z → z .0 .0 ≡ k
 unfolding fromAt
 value-id o k end s at = from-bind (valueAt asPlaces o k end (drop at s)) _ λ y e.
-    from-got (λ (z : Prop Span × ℕ). z .0 .0 ≡ k) (y .0, length s - length (y .1)) (value-tag o k end (drop at s) y e)
+    from-got (λ (z : PropOf Span × ℕ). z .0 .0 ≡ k) (y .0, length s - length (y .1)) (value-tag o k end (drop at s) y e)
 
 byte-cons : (l : List ℕ) (k : ℕ) (r : List ℕ) → byteOf cut l ≡ got (k, r) → l ≡ k ∷ r
 unfolding byteOf
@@ -212,7 +212,7 @@ unlisted PubAck k h = lookup-absent (listsOf PubAck) k (h .0)
 
 -- ---- a property takes a byte at least
 
-module _ (row : Place) (s : List ℕ) (at : ℕ) (a : Prop Span) (n : ℕ) (e : got (a, n) ≡ fromAt (propertyOf asPlaces row (length s)) s at) where
+module _ (row : Place) (s : List ℕ) (at : ℕ) (a : PropOf Span) (n : ℕ) (e : got (a, n) ≡ fromAt (propertyOf asPlaces row (length s)) s at) where
   pub property-left : propertyOf asPlaces row (length s) (drop at s) ≡ got (a, drop n s)
   property-left = got-left (propertyOf asPlaces row (length s)) s at (trails-property asPlaces (length s) row) a n (sym e)
 
