@@ -58,18 +58,13 @@ fn fill(s: &[u8], block: Span) -> GotPubAckBlock
     };
     let mut at = block.start;
     while at < s.len() {
-        let past = property_value::pass_listed(PropertyPlace::PubAck, s, at);
-        if past != at {
-            at = past;
-        } else {
-            match property_value::read_property(PropertyPlace::PubAck, s, at) {
-                GotProperty::Found(k, v, next) => {
-                    p = apply(p, k, v);
-                    at = next;
-                }
-                GotProperty::Refused(e) => {
-                    return GotPubAckBlock::Refused(e);
-                }
+        match property_value::read_property(PropertyPlace::PubAck, s, at) {
+            GotProperty::Found(k, v, next) => {
+                p = apply(p, k, v);
+                at = next;
+            }
+            GotProperty::Refused(e) => {
+                return GotPubAckBlock::Refused(e);
             }
         }
     }

@@ -184,7 +184,7 @@ fn fill(s: &[u8], block: Span) -> GotPublishBlock
     let mut p = none(block);
     let mut at = block.start;
     while at < s.len() {
-        let past = property_value::pass_listed(PropertyPlace::Publish, s, at);
+        let past = property_value::pass_listed(s, at);
         if past != at {
             at = past;
         } else {

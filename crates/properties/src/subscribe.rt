@@ -58,18 +58,13 @@ fn fill(s: &[u8], block: Span) -> GotSubscribeBlock
     };
     let mut at = block.start;
     while at < s.len() {
-        let past = property_value::pass_listed(PropertyPlace::Subscribe, s, at);
-        if past != at {
-            at = past;
-        } else {
-            match property_value::read_property(PropertyPlace::Subscribe, s, at) {
-                GotProperty::Found(k, v, next) => {
-                    p = apply(p, k, v);
-                    at = next;
-                }
-                GotProperty::Refused(e) => {
-                    return GotSubscribeBlock::Refused(e);
-                }
+        match property_value::read_property(PropertyPlace::Subscribe, s, at) {
+            GotProperty::Found(k, v, next) => {
+                p = apply(p, k, v);
+                at = next;
+            }
+            GotProperty::Refused(e) => {
+                return GotSubscribeBlock::Refused(e);
             }
         }
     }

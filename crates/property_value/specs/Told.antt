@@ -13,8 +13,6 @@ use Rattle.positions.specs.Position.{fromAt}
 use Rattle.records.specs.Told.{toldError, toldSpan}
 use Rattle.grammar.specs.Tables as tables
 use Rattle.reading.specs.Place as place
-use Rattle.wire.specs.declared.property.PropertyPlace.{PropertyPlace}
-use Rattle.wire.specs.declared.property.PropertyPlace.the-variants.{Publish, Subscribe, PubAck}
 use Rattle.property_value.specs.declared.Value.{Value}
 use Rattle.property_value.specs.declared.Value.the-variants.{U8, U16, U32, Number, Text, Bytes, Pair}
 use Rattle.property_value.specs.declared.GotProperty.{GotProperty}
@@ -60,11 +58,9 @@ pub record PropertyRead (row : tables.Place) (s : List ℕ) (at : ℕ) (r : GotP
   pub says : toldProperty r ≡ fromAt (propertyOf asPlaces row (length s)) s at
   pub typed : Typed (lookup row) r
 
--- 01, grammar: "38, and 11 in Publish, are lists kept in order": their entries in a place's row
-abbrev pub listsOf : PropertyPlace → tables.Place
-listsOf Publish = (38, tables.pair) ∷ (11, tables.number) ∷ []
-listsOf Subscribe = (38, tables.pair) ∷ []
-listsOf PubAck = (38, tables.pair) ∷ []
+-- 01, grammar: "38, and 11 in Publish, are lists kept in order": their entries in row Publish
+abbrev pub publishLists : tables.Place
+publishLists = (38, tables.pair) ∷ (11, tables.number) ∷ []
 
 -- the index after what was read; `at` if it was refused
 abbrev pub nextOr : {A : Type 0} → ℕ → Fit (A × ℕ) → ℕ

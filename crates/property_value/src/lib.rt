@@ -15,7 +15,7 @@ use wire::string;
 ghost use mathlib.Core.Option.{some};
 ghost use Rattle.grammar.specs.Tables.{number, pair};
 ghost use Rattle.wire.specs.Property.{placeOf, toldForm};
-ghost use Rattle.property_value.specs.Told.{ValueRead, PropertyRead, listsOf, ValuePassed, PropertyPassed};
+ghost use Rattle.property_value.specs.Told.{ValueRead, PropertyRead, publishLists, ValuePassed, PropertyPassed};
 
 // A value, by its form.
 pub enum Value {
@@ -116,20 +116,16 @@ fn pass_number(s: &[u8], at: usize, start: usize) -> usize
     }
 }
 
-// The index after a property of a list, which a block's loop passes over; `at` if none stands there whole. A number and no place, so
-// that the answer needs no memory.
-pub fn pass_listed(place: PropertyPlace, s: &[u8], at: usize) -> usize
-    ensures { λ r. ⌜ PropertyPassed (listsOf place) (now (s .entry)) at r ⌝ }
+// The index after a property that a Publish keeps in a list, which the loop over its block passes over; `at` if none stands there whole.
+// The answer is one number, and no place of it is kept in memory.
+pub fn pass_listed(s: &[u8], at: usize) -> usize
+    ensures { λ r. ⌜ PropertyPassed publishLists (now (s .entry)) at r ⌝ }
 {
     match fixed::read_u8(s, at) {
         GotU8::Refused(_) => at,
         GotU8::Value(k, start) => match k {
             38 => pass_pair(s, at, start),
-            11 => match place {
-                PropertyPlace::Publish => pass_number(s, at, start),
-                PropertyPlace::Subscribe => at,
-                PropertyPlace::PubAck => at,
-            },
+            11 => pass_number(s, at, start),
             0..=10 | 12..=37 | 39..=255 => at,
         },
     }

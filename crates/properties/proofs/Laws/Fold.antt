@@ -23,10 +23,9 @@ use Rattle.positions.specs.Position.{fromAt}
 use Rattle.positions.proofs.Walk.{fold-nil, fold-bad, fold-next}
 use Rattle.positions.proofs.Less.{property-less}
 use Rattle.positions.proofs.Position.{bad-left}
-use Rattle.property_value.specs.Told.{formOf, listsOf, nextOr, PropertyPassed}
+use Rattle.property_value.specs.Told.{formOf, publishLists, nextOr, PropertyPassed}
 use Rattle.properties.specs.Block.{Row, publishRow, subscribeRow, ackRow, applied, loopFrom, filledAt}
 use Rattle.property_value.proofs.Laws.Value.{value-tag, property-left, property-ahead}
-use Rattle.wire.specs.declared.property.PropertyPlace.{PropertyPlace}
 use Rattle.property_value.specs.declared.Value.{Value}
 
 -- ---- a rule of every entry of a place's row holds of what is looked up there
@@ -96,39 +95,30 @@ module _ (k : ℕ) {v v′ : Value} (e : v ≡ v′) where
   pub ack-is : lookup ackPlace k ≡ some (formOf v) → ackIs k (formOf v′)
   ack-is = is ackIs ackPlace ack-every
 
--- ---- a property of a list leaves the record as it is
+-- ---- a property of a list leaves the record of a Publish as it is
 
--- the row has k with the form f, and the record has no value of it
-abbrev pub Listed : Row → ℕ → Form → Type 0
-Listed w k f = (lookup (w .place) k ≡ some f) × ((o : w .Props) (v : Val Span) → applied w o (k, v) ≡ o)
+-- row Publish has k with the form f, and no single value of its record is of k
+abbrev Listed : ℕ → Form → Type 0
+Listed k f = (lookup publishPlace k ≡ some f) × ((o : publishRow .Props) (v : Val Span) → applied publishRow o (k, v) ≡ o)
 
-pub publish-lists : Every (Listed publishRow) (listsOf PropertyPlace.Publish)
+publish-lists : Every Listed publishLists
 unfolding publishPlace
 publish-lists = ((refl, λ o v. refl), ((refl, λ o v. refl), tt))
 
-pub subscribe-lists : Every (Listed subscribeRow) (listsOf PropertyPlace.Subscribe)
-unfolding subscribePlace
-subscribe-lists = ((refl, λ o v. refl), tt)
+-- what is read as a property of a list is the same property of the row
+abbrev Same : ℕ → List ℕ → Prop Span → Type 0
+Same end l a = (propertyOf asPlaces publishLists end l ≡ propertyOf asPlaces publishPlace end l) × ((o : publishRow .Props) → applied publishRow o a ≡ o)
 
-pub ack-lists : Every (Listed ackRow) (listsOf PropertyPlace.PubAck)
-unfolding ackPlace
-ack-lists = ((refl, λ o v. refl), tt)
-
-module _ (w : Row) (lists : Place) (E : Every (Listed w) lists) where
-  -- what is read as a property of a list is the same property of the row, and leaves the record as it is
-  abbrev Same : ℕ → List ℕ → Prop Span → Type 0
-  Same end l a = (propertyOf asPlaces lists end l ≡ propertyOf asPlaces (w .place) end l) × ((o : w .Props) → applied w o a ≡ o)
-
-  same : (end : ℕ) (l : List ℕ) (y : Prop Span × List ℕ) → propertyOf asPlaces lists end l ≡ got y → Same end l (y .0)
-  unfolding propertyOf valueAt
-  same end [] y e = absurd (bad-got e)
-  same end (i ∷ l) y e = go (lookup lists i) refl e
-    where
-      go : (f : Option Form) → lookup lists i ≡ f → valueAt asPlaces f i end l ≡ got y → Same end (i ∷ l) (y .0)
-      go none j h = absurd (bad-got h)
-      go (some f) j h =
-          let (has, still) = looked-up (Listed w) lists E i f j in
-          (rw (j, has), λ o. rw (value-tag (some f) i end l y h) (still o (y .0 .1)))
+same : (end : ℕ) (l : List ℕ) (y : Prop Span × List ℕ) → propertyOf asPlaces publishLists end l ≡ got y → Same end l (y .0)
+unfolding propertyOf valueAt
+same end [] y e = absurd (bad-got e)
+same end (i ∷ l) y e = go (lookup publishLists i) refl e
+  where
+    go : (f : Option Form) → lookup publishLists i ≡ f → valueAt asPlaces f i end l ≡ got y → Same end (i ∷ l) (y .0)
+    go none j h = absurd (bad-got h)
+    go (some f) j h =
+        let (has, still) = looked-up Listed publishLists publish-lists i f j in
+        (rw (j, has), λ o. rw (value-tag (some f) i end l y h) (still o (y .0 .1)))
 
 -- ---- the properties one by one are the properties at once
 
@@ -241,21 +231,24 @@ module _ {w : Row} {s : List ℕ} {whole : Fit (w .Props)} {o : w .Props} {at : 
   filling-end h = f .rest ∙ loop-end w o s at h
 
 -- a property of a list is passed over
-module _ {lists : Place} {s : List ℕ} {at r : ℕ} (P : PropertyPassed lists s at r) (ne : r ≡ at → ⊥) where
-  over : (a : Prop Span) × (got (a, r) ≡ fromAt (propertyOf asPlaces lists (length s)) s at)
-  over = go (fromAt (propertyOf asPlaces lists (length s)) s at) refl (P .says)
+module _ {s : List ℕ} {at r : ℕ} (P : PropertyPassed publishLists s at r) (ne : r ≡ at → ⊥) where
+  abbrev Over : Type 0
+  Over = (a : Prop Span) × (got (a, r) ≡ fromAt (propertyOf asPlaces publishLists (length s)) s at)
+
+  over : Over
+  over = go (fromAt (propertyOf asPlaces publishLists (length s)) s at) refl (P .says)
     where
-      go : (m : Fit (Prop Span × ℕ)) → fromAt (propertyOf asPlaces lists (length s)) s at ≡ m → r ≡ nextOr at m → (a : Prop Span) × (got (a, r) ≡ fromAt (propertyOf asPlaces lists (length s)) s at)
+      go : (m : Fit (Prop Span × ℕ)) → fromAt (propertyOf asPlaces publishLists (length s)) s at ≡ m → r ≡ nextOr at m → Over
       go (got (a, n)) e h = (a, ap (λ (k : ℕ). got (a, k)) h ∙ sym e)
       go (bad k) e h = absurd (ne h)
 
   pub over-ahead : at < r
-  over-ahead = property-ahead lists s at (over .0) r (over .1)
+  over-ahead = property-ahead publishLists s at (over .0) r (over .1)
 
-  pub filling-over : {w : Row} → Every (Listed w) lists → {whole : Fit (w .Props)} {o : w .Props} → Filling w s whole o at → at < length s → Filling w s whole o r
+  pub filling-over : {whole : Fit (publishRow .Props)} {o : publishRow .Props} → Filling publishRow s whole o at → at < length s → Filling publishRow s whole o r
   unfolding fromAt
-  filling-over {w = w} E {o = o} f h =
-      let (e, still) = same w lists E (length s) (drop at s) (over .0, drop r s) (property-left lists s at (over .0) r (over .1)) in
+  filling-over {o = o} f h =
+      let (e, still) = same (length s) (drop at s) (over .0, drop r s) (property-left publishLists s at (over .0) r (over .1)) in
       filling-next f h (over .0) r (over .1 ∙ rw e) o (sym (still o))
 
 module _ {w : Row} {s : List ℕ} {o₀ o : w .Props} {at : ℕ} (p : Span) (i : o₀ ≡ w .made p []) (f : Filling w s (loopFrom w o₀ s (p .start)) o at) where

@@ -21,12 +21,9 @@ use Rattle.positions.proofs.Trails.{Trails, trails-map, trails-then, trails-byt
 use Rattle.positions.proofs.Position.{got-left, bad-left, left-bad}
 use Rattle.positions.proofs.Fill.{then-bad, map-bad, then-got, map-got}
 use Rattle.records.specs.Told.{toldError, toldSpan}
-use Rattle.property_value.specs.Told.{toldValue, formOf, toldProperty, Typed, ValueRead, PropertyRead, listsOf, nextOr, ValuePassed, PropertyPassed}
-use Rattle.wire.proofs.Laws.Property.{Absent, lookup-absent}
+use Rattle.property_value.specs.Told.{toldValue, formOf, toldProperty, Typed, ValueRead, PropertyRead, nextOr, ValuePassed, PropertyPassed}
 use Rattle.records.specs.declared.error.Error.{Error}
 use Rattle.records.specs.declared.span.Span as records
-use Rattle.wire.specs.declared.property.PropertyPlace.{PropertyPlace}
-use Rattle.wire.specs.declared.property.PropertyPlace.the-variants.{Publish, Subscribe, PubAck}
 use Rattle.property_value.specs.declared.Value.{Value}
 use Rattle.property_value.specs.declared.Value.the-variants.{Pair}
 use Rattle.property_value.specs.declared.GotProperty.{GotProperty}
@@ -198,17 +195,6 @@ module _ (row : Place) (s : List ℕ) (at : ℕ) where
     pub past-out : lookup row k ≡ none → PropertyPassed row s at at
     unfolding valueAt fromAt
     past-out h = record { says = sym (ap (nextOr at) property-next ∙ rw h) }
-
--- 01: 38 is a list at every place
-pub user-listed : (p : PropertyPlace) → lookup (listsOf p) 38 ≡ some pair
-user-listed Publish = refl
-user-listed Subscribe = refl
-user-listed PubAck = refl
-
-pub unlisted : (p : PropertyPlace) (k : ℕ) → Absent (Unit {0}) (listsOf Publish) k → lookup (listsOf p) k ≡ none
-unlisted Publish k h = lookup-absent (listsOf Publish) k h
-unlisted Subscribe k h = lookup-absent (listsOf Subscribe) k (h .0)
-unlisted PubAck k h = lookup-absent (listsOf PubAck) k (h .0)
 
 -- ---- a property takes a byte at least
 

@@ -1,6 +1,9 @@
 -- `property_value::pass_listed` is right since the identifier that was read says whether a list's value is to follow. Assumes nothing.
+use mathlib.Core.Path.{refl}
 use borrow.Author.Needs.{needs}
-use Rattle.property_value.proofs.Laws.Value.{past-none, past-in, past-out, user-listed, unlisted}
+use Rattle.wire.proofs.Laws.Property.{lookup-absent}
+use Rattle.property_value.specs.Told.{publishLists}
+use Rattle.property_value.proofs.Laws.Value.{past-none, past-in, past-out}
 use Rattle.property_value.proofs.pass_listed.Statement.{statement}
 use Rattle.property_value.proofs.pass_listed.Tie as tie
 
@@ -16,17 +19,8 @@ enum-known-k c = search needs
 pass-pair-requires : tie.Need-pass-pair-requires
 pass-pair-requires c κs = search needs
 
-enum-told-2 : tie.Need-enum-told-2
-enum-told-2 c = search needs
-
 pass-number-requires : tie.Need-pass-number-requires
 pass-number-requires c κs = search needs
-
-enum-told-3 : tie.Need-enum-told-3
-enum-told-3 c = search needs
-
-enum-told-4 : tie.Need-enum-told-4
-enum-told-4 c = search needs
 
 returns : tie.Need-returns
 returns c = past-none _ _ _ (rw (c .enum-told .given .1) at (c .before .before .read-u8 .ensures))
@@ -34,27 +28,17 @@ returns c = past-none _ _ _ (rw (c .enum-told .given .1) at (c .before .before .
 returns-2 : tie.Need-returns-2
 returns-2 c =
     let b = c .before .before .before in
-    past-in _ _ _ _ _ (rw (b .k .given .1) at (b .before .before .read-u8 .ensures)) _ _ _ (c .before .match2 .keys1) (user-listed (c .before .before .before .before .before .before .before .args .place)) (c .pass-pair .ensures)
+    past-in _ _ _ _ _ (rw (b .k .given .1) at (b .before .before .read-u8 .ensures)) _ _ _ (c .before .match2 .keys1) refl (c .pass-pair .ensures)
 
 returns-3 : tie.Need-returns-3
 returns-3 c =
-    let b = c .before .before .before .before .before in
-    past-in _ _ _ _ _ (rw (b .k .given .1) at (b .before .before .read-u8 .ensures)) _ _ _ (c .before .before .before .match2 .keys2) (rw (c .before .enum-told2 .given .1)) (c .pass-number .ensures)
+    let b = c .before .before .before in
+    past-in _ _ _ _ _ (rw (b .k .given .1) at (b .before .before .read-u8 .ensures)) _ _ _ (c .before .match2 .keys2) refl (c .pass-number .ensures)
 
 returns-4 : tie.Need-returns-4
 returns-4 c =
-    let b = c .before .before .before .before in
-    past-out _ _ _ _ _ (rw (b .k .given .1) at (b .before .before .read-u8 .ensures)) (rw (c .before .before .match2 .keys2, c .enum-told3 .given .1))
-
-returns-5 : tie.Need-returns-5
-returns-5 c =
-    let b = c .before .before .before .before in
-    past-out _ _ _ _ _ (rw (b .k .given .1) at (b .before .before .read-u8 .ensures)) (rw (c .before .before .match2 .keys2, c .enum-told4 .given .1))
-
-returns-6 : tie.Need-returns-6
-returns-6 c =
     let b = c .before .before in
-    past-out _ _ _ _ _ (rw (b .k .given .1) at (b .before .before .read-u8 .ensures)) (unlisted (c .before .before .before .before .before .before .args .place) _ (c .match2 .rest))
+    past-out _ _ _ _ _ (rw (b .k .given .1) at (b .before .before .read-u8 .ensures)) (lookup-absent publishLists _ (c .match2 .rest))
 
 pub pass-listed-spec : {M : Type 1} → statement M
 pass-listed-spec =
@@ -64,13 +48,8 @@ pass-listed-spec =
     enum-told
     enum-known-k
     pass-pair-requires
-    enum-told-2
     pass-number-requires
-    enum-told-3
-    enum-told-4
     returns
     returns-2
     returns-3
-    returns-4
-    returns-5
-    returns-6)
+    returns-4)

@@ -10,7 +10,7 @@ use Rattle.reading.specs.Reader.{got}
 use Rattle.records.specs.Told.{toldSpan}
 use Rattle.property_value.specs.Told.{toldProperty}
 use Rattle.properties.specs.Block.{toldSingles, publishRow, loopFrom}
-use Rattle.properties.proofs.Laws.Fold.{publish-lists, Filling, filling-start, filling-next, filling-ahead, over-ahead, filling-over, filled-bad, filled-end}
+use Rattle.properties.proofs.Laws.Fold.{Filling, filling-start, filling-next, filling-ahead, over-ahead, filling-over, filled-bad, filled-end}
 use Rattle.properties.proofs.publish.fill.Statement.{statement}
 use Rattle.properties.proofs.publish.fill.Tie as tie
 
@@ -33,7 +33,7 @@ loop-less : tie.Need-loop-less Inv-loop μ-loop
 loop-less c = omega (arith, over-ahead (c .before .pass-listed .ensures) (c .if1 .taken))
 
 loop-again : tie.Need-loop-again Inv-loop μ-loop
-loop-again c = filling-over (c .before .pass-listed .ensures) (c .if1 .taken) publish-lists (c .before .before .before .loop .inv) (c .before .before .loop-test .taken)
+loop-again c = filling-over (c .before .pass-listed .ensures) (c .if1 .taken) (c .before .before .before .loop .inv) (c .before .before .loop-test .taken)
 
 read-property-requires : tie.Need-read-property-requires Inv-loop μ-loop
 read-property-requires c κs = search needs
