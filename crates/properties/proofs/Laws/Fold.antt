@@ -106,10 +106,10 @@ unfolding publishPlace
 publish-lists = ((refl, λ o v. refl), ((refl, λ o v. refl), tt))
 
 -- what is read as a property of a list is the same property of the row
-abbrev Same : ℕ → List ℕ → Prop Span → Type 0
+abbrev Same : ℕ → List ℕ → PropOf Span → Type 0
 Same end l a = (propertyOf asPlaces publishLists end l ≡ propertyOf asPlaces publishPlace end l) × ((o : publishRow .Props) → applied publishRow o a ≡ o)
 
-same : (end : ℕ) (l : List ℕ) (y : Prop Span × List ℕ) → propertyOf asPlaces publishLists end l ≡ got y → Same end l (y .0)
+same : (end : ℕ) (l : List ℕ) (y : PropOf Span × List ℕ) → propertyOf asPlaces publishLists end l ≡ got y → Same end l (y .0)
 unfolding propertyOf valueAt
 same end [] y e = absurd (bad-got e)
 same end (i ∷ l) y e = go (lookup publishLists i) refl e
@@ -233,12 +233,12 @@ module _ {w : Row} {s : List ℕ} {whole : Fit (w .Props)} {o : w .Props} {at : 
 -- a property of a list is passed over
 module _ {s : List ℕ} {at r : ℕ} (P : PropertyPassed publishLists s at r) (ne : r ≡ at → ⊥) where
   abbrev Over : Type 0
-  Over = (a : Prop Span) × (got (a, r) ≡ fromAt (propertyOf asPlaces publishLists (length s)) s at)
+  Over = (a : PropOf Span) × (got (a, r) ≡ fromAt (propertyOf asPlaces publishLists (length s)) s at)
 
   over : Over
   over = go (fromAt (propertyOf asPlaces publishLists (length s)) s at) refl (P .says)
     where
-      go : (m : Fit (Prop Span × ℕ)) → fromAt (propertyOf asPlaces publishLists (length s)) s at ≡ m → r ≡ nextOr at m → Over
+      go : (m : Fit (PropOf Span × ℕ)) → fromAt (propertyOf asPlaces publishLists (length s)) s at ≡ m → r ≡ nextOr at m → Over
       go (got (a, n)) e h = (a, ap (λ (k : ℕ). got (a, k)) h ∙ sym e)
       go (bad k) e h = absurd (ne h)
 

@@ -1,5 +1,5 @@
 -- Fields tested one by one: those that are fine are passed, the first that is not says the refusal. Assumes nothing.
-use mathlib.Core.Path.{_≡_, sym, ap, _∙_}
+use mathlib.Core.Path.{_≡_, refl, sym, ap, _∙_}
 use mathlib.Core.Bool.{true, false}
 use mathlib.Core.List.{List, [], _∷_, map, append-nil}
 use Prim.Native.Nat.{ℕ, _+_, _/_, _%_, _≤_, _<_}
