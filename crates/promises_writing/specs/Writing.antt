@@ -13,7 +13,7 @@ use Rattle.records.specs.Answered.{toldSized, toldWritten}
 use Rattle.records.specs.declared.answer.Limit.{Limit}
 use Rattle.records.specs.declared.answer.Sized.{Sized}
 use Rattle.records.specs.declared.answer.Written.{Written}
-use Rattle.publish_write.specs.Handed.{optU8, optU16, optU32}
+use Rattle.rows.specs.Given.{numberU8, numberU16, numberU32}
 use Rattle.publish_write.specs.declared.head.PublishHead.{PublishHead}
 use Rattle.packet_write.specs.Union.{Parts, sizeOfUnion, Wrote}
 use Rattle.packet_write.specs.declared.head.PacketHead.{PacketHead}
@@ -42,9 +42,9 @@ writerRows = 9 ∷ 11 ∷ 12 ∷ 13 ∷ 14 ∷ 16 ∷ 17 ∷ 18 ∷ 19 ∷ 20 �
 -- of a Publish by value
 pub record PublishWidths (m : PublishHead) : Type 0 where
   pub pkid : m .pkid < 65536
-  pub format : Below 256 (optU8 (m .«payload_format_indicator»))
-  pub expiry : Below 4294967296 (optU32 (m .«message_expiry_interval»))
-  pub alias : Below 65536 (optU16 (m .«topic_alias»))
+  pub format : Below 256 (numberU8 (m .«payload_format_indicator»))
+  pub expiry : Below 4294967296 (numberU32 (m .«message_expiry_interval»))
+  pub alias : Below 65536 (numberU16 (m .«topic_alias»))
 
 -- of a packet by value
 abbrev pub Widths : PacketHead → Type 0
