@@ -117,7 +117,7 @@ fn pass_number(s: &[u8], at: usize, start: usize) -> usize
 }
 
 // The index after a property that a Publish keeps in a list, which the loop over its block passes over; `at` if none stands there whole.
-// The answer is one number, and no place of it is kept in memory.
+// The answer is one number and no place, so that it stays in a register.
 pub fn pass_listed(s: &[u8], at: usize) -> usize
     ensures { λ r. ⌜ PropertyPassed publishLists (now (s .entry)) at r ⌝ }
 {

@@ -67,19 +67,24 @@ fn readers() -> Vec<Reader> {
     ]
 }
 
-/// The median of each reader in ns for the stream. They read in turn, and agree unless `apart`.
+/// The median of each reader in ns for the stream. They read in turn, forth and back, twice each, and the second time
+/// counts, so that none pays for what the one before it left of caches and time slice. They agree unless `apart`.
 fn medians(stream: &[u8], readers: &[Reader], rounds: usize, apart: bool) -> Vec<f64> {
     let mut times = vec![vec![]; readers.len()];
     let agreed = hand::<true>(black_box(stream));
-    for _ in 0..rounds {
-        for (i, (name, read)) in readers.iter().enumerate() {
-            let mut copy = if *name == "crate" { BytesMut::from(stream) } else { BytesMut::new() };
-            // touched each time, so that no reader pays for what the one before it left in the caches
-            black_box(stream.iter().fold(0, |all, b| all | b));
-            let start = now();
-            let sum = read(black_box(stream), black_box(&mut copy));
-            times[i].push((now() - start) as f64);
-            assert!(apart || sum == agreed, "{name} gives {sum}, hand {agreed}");
+    for round in 0..rounds {
+        for turn in 0..readers.len() {
+            let i = if round % 2 == 0 { turn } else { readers.len() - 1 - turn };
+            let (name, read) = &readers[i];
+            let mut taken = 0;
+            for _ in 0..2 {
+                let mut copy = if *name == "crate" { BytesMut::from(stream) } else { BytesMut::new() };
+                let start = now();
+                let sum = read(black_box(stream), black_box(&mut copy));
+                taken = now() - start;
+                assert!(apart || sum == agreed, "{name} gives {sum}, hand {agreed}");
+            }
+            times[i].push(taken as f64);
         }
     }
     times.into_iter().map(median).collect()

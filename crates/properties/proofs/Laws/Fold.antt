@@ -95,31 +95,6 @@ module _ (k : ℕ) {v v′ : Value} (e : v ≡ v′) where
   pub ack-is : lookup ackPlace k ≡ some (formOf v) → ackIs k (formOf v′)
   ack-is = is ackIs ackPlace ack-every
 
--- ---- a property of a list leaves the record of a Publish as it is
-
--- row Publish has k with the form f, and no single value of its record is of k
-abbrev Listed : ℕ → Form → Type 0
-Listed k f = (lookup publishPlace k ≡ some f) × ((o : publishRow .Props) (v : Val Span) → applied publishRow o (k, v) ≡ o)
-
-publish-lists : Every Listed publishLists
-unfolding publishPlace
-publish-lists = ((refl, λ o v. refl), ((refl, λ o v. refl), tt))
-
--- what is read as a property of a list is the same property of the row
-abbrev Same : ℕ → List ℕ → PropOf Span → Type 0
-Same end l a = (propertyOf asPlaces publishLists end l ≡ propertyOf asPlaces publishPlace end l) × ((o : publishRow .Props) → applied publishRow o a ≡ o)
-
-same : (end : ℕ) (l : List ℕ) (y : PropOf Span × List ℕ) → propertyOf asPlaces publishLists end l ≡ got y → Same end l (y .0)
-unfolding propertyOf valueAt
-same end [] y e = absurd (bad-got e)
-same end (i ∷ l) y e = go (lookup publishLists i) refl e
-  where
-    go : (f : Option Form) → lookup publishLists i ≡ f → valueAt asPlaces f i end l ≡ got y → Same end (i ∷ l) (y .0)
-    go none j h = absurd (bad-got h)
-    go (some f) j h =
-        let (has, still) = looked-up Listed publishLists publish-lists i f j in
-        (rw (j, has), λ o. rw (value-tag (some f) i end l y h) (still o (y .0 .1)))
-
 -- ---- the properties one by one are the properties at once
 
 -- `more` goes property by property, and `made` is it from none on
@@ -180,6 +155,31 @@ module _ (w : Row) (W : Lawful w) where
       first : (m : Fit (PropOf Span × List ℕ)) → (more m >>= λ vs. got (unlessEmpty (w .made p) vs)) ≡ onGot some (more m >>= λ vs. got (foldFrom (applied w) (w .made p []) vs))
       first (got z) = rest (z .0) (runFit forget (λ _. propertyOf asPlaces (w .place) end) tt b (z .1))
       first (bad k) = refl
+
+-- ---- a property of a list leaves the record of a Publish as it is
+
+-- row Publish has k with the form f, and no single value of its record is of k
+abbrev Listed : ℕ → Form → Type 0
+Listed k f = (lookup publishPlace k ≡ some f) × ((o : publishRow .Props) (v : Val Span) → applied publishRow o (k, v) ≡ o)
+
+publish-lists : Every Listed publishLists
+unfolding publishPlace
+publish-lists = ((refl, λ o v. refl), ((refl, λ o v. refl), tt))
+
+-- what is read as a property of a list is the same property of the row
+abbrev Same : ℕ → List ℕ → PropOf Span → Type 0
+Same end l a = (propertyOf asPlaces publishLists end l ≡ propertyOf asPlaces publishPlace end l) × ((o : publishRow .Props) → applied publishRow o a ≡ o)
+
+same : (end : ℕ) (l : List ℕ) (y : PropOf Span × List ℕ) → propertyOf asPlaces publishLists end l ≡ got y → Same end l (y .0)
+unfolding propertyOf valueAt
+same end [] y e = absurd (bad-got e)
+same end (i ∷ l) y e = go (lookup publishLists i) refl e
+  where
+    go : (f : Option Form) → lookup publishLists i ≡ f → valueAt asPlaces f i end l ≡ got y → Same end (i ∷ l) (y .0)
+    go none j h = absurd (bad-got h)
+    go (some f) j h =
+        let (has, still) = looked-up Listed publishLists publish-lists i f j in
+        (rw (j, has), λ o. rw (value-tag (some f) i end l y h) (still o (y .0 .1)))
 
 -- ---- how the loop goes on
 
