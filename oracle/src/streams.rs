@@ -55,13 +55,12 @@ pub fn text(len: usize, every: u64) -> Vec<u8> {
     out.into_bytes()
 }
 
-/// P13: `count` Publish frames with 40-byte payloads and two user properties.
-pub fn publishes(count: usize, qos: QoS) -> BytesMut {
-    let mut out = BytesMut::new();
-    for i in 0..count {
+/// P13: `count` Publish records with 40-byte payloads and two user properties.
+pub fn records(count: usize, qos: QoS) -> Vec<Publish> {
+    let record = |i: usize| {
         let mut payload = format!("{{\"seq\":{:08},\"len\":{:010.3},\"ok\":1}}", i, i as f64 * 0.125).into_bytes();
         payload.resize(40, b'.');
-        let publish = Publish {
+        Publish {
             dup: false,
             qos,
             retain: false,
@@ -72,7 +71,15 @@ pub fn publishes(count: usize, qos: QoS) -> BytesMut {
                 user_properties: vec![("unit".into(), "m".into()), ("gateway".into(), "gw-07".into())],
                 ..Default::default()
             }),
-        };
+        }
+    };
+    (0..count).map(record).collect()
+}
+
+/// The frames of these records, one behind the other.
+pub fn publishes(count: usize, qos: QoS) -> BytesMut {
+    let mut out = BytesMut::new();
+    for publish in records(count, qos) {
         publish.write(&mut out).unwrap();
     }
     out
