@@ -55,6 +55,9 @@ pub fn text(len: usize, every: u64) -> Vec<u8> {
     out.into_bytes()
 }
 
+/// The topic of P13's records.
+pub const TOPIC: &[u8] = b"line3/armour/length";
+
 /// P13: `count` Publish records with 40-byte payloads and two user properties.
 pub fn records(count: usize, qos: QoS) -> Vec<Publish> {
     let record = |i: usize| {
@@ -64,7 +67,7 @@ pub fn records(count: usize, qos: QoS) -> Vec<Publish> {
             dup: false,
             qos,
             retain: false,
-            topic: Bytes::from_static(b"line3/armour/length"),
+            topic: Bytes::from_static(TOPIC),
             pkid: if qos == QoS::AtMostOnce { 0 } else { (i % 65_535 + 1) as u16 },
             payload: Bytes::from(payload),
             properties: Some(PublishProperties {

@@ -1,8 +1,8 @@
 //! 02's P13, the other way round: 100,000 Publish records with 40-byte payloads and two user properties, written by the port (port) and by
-//! the trimmed text of the crate (crate), one call a record. Once into a short output that is used again for each record, once one behind
-//! the other. Built without the feature `write_bench`, the port is left out.
+//! the trimmed text of the crate (crate), one call a record: one behind the other, then into a short output that is used again, then the
+//! first 1,000 a hundred times. Built without the feature `write_bench`, the port is left out.
 use bytes::BytesMut;
-use oracle::codec::{Packet, Publish};
+use oracle::codec::Packet;
 use oracle::timing::{load, median, now, rounds};
 use oracle::{streams, QoS};
 use std::hint::black_box;
@@ -31,33 +31,57 @@ mod port {
     }
 }
 
-/// A record as it is lent to the port: its strings, and its user properties as one run of bytes and their lengths.
-pub struct Lent {
+/// A record as it is lent to the port, its user properties as one run of bytes and their lengths.
+pub struct Lent<'a> {
     pkid: u16,
-    topic: Vec<u8>,
-    user: Vec<u8>,
-    lengths: Vec<usize>,
-    payload: Vec<u8>,
+    topic: &'a [u8],
+    user: &'a [u8],
+    lengths: &'a [usize],
+    payload: &'a [u8],
 }
 
-fn lent(m: &Publish) -> Lent {
-    let pairs = &m.properties.as_ref().unwrap().user_properties;
-    let strings: Vec<&String> = pairs.iter().flat_map(|(k, v)| [k, v]).collect();
-    Lent {
-        pkid: m.pkid,
-        topic: m.topic.to_vec(),
-        user: strings.iter().flat_map(|s| s.bytes()).collect(),
-        lengths: strings.iter().map(|s| s.len()).collect(),
-        payload: m.payload.to_vec(),
+/// The parts of all records, one kind of part behind the other, as a desk that lends them would keep them.
+#[derive(Default)]
+struct Parts {
+    users: Vec<u8>,
+    lengths: Vec<usize>,
+    payloads: Vec<u8>,
+    // where the parts of a record end, and its identifier
+    ends: Vec<(usize, usize, usize, u16)>,
+}
+
+fn parts(packets: &[Packet]) -> Parts {
+    let mut p = Parts::default();
+    for m in packets {
+        let Packet::Publish(m) = m else { panic!("a Publish") };
+        for s in m.properties.as_ref().unwrap().user_properties.iter().flat_map(|(k, v)| [k, v]) {
+            p.users.extend(s.bytes());
+            p.lengths.push(s.len());
+        }
+        p.payloads.extend(&m.payload);
+        p.ends.push((p.users.len(), p.lengths.len(), p.payloads.len(), m.pkid));
     }
+    p
+}
+
+fn lent(p: &Parts) -> Vec<Lent<'_>> {
+    let mut at = (0, 0, 0);
+    let mut all = vec![];
+    for &(u, l, b, pkid) in &p.ends {
+        all.push(Lent { pkid, topic: streams::TOPIC, user: &p.users[at.0..u], lengths: &p.lengths[at.1..l], payload: &p.payloads[at.2..b] });
+        at = (u, l, b);
+    }
+    all
 }
 
 /// What each contender has: the records in its own form, and an output of its own that keeps its room.
-struct Desk {
-    packets: Vec<Packet>,
-    lent: Vec<Lent>,
+struct Desk<'a> {
+    packets: &'a [Packet],
+    lent: Vec<Lent<'a>>,
     kept: BytesMut,
     out: Vec<u8>,
+    // how often all records are written
+    times: usize,
 }
 
 /// The sizes and last bytes, added; `again` says whether each record is written over the one before.
@@ -65,7 +89,7 @@ struct Desk {
 fn text(d: &mut Desk, again: bool) -> u64 {
     d.kept.clear();
     let mut sum = 0u64;
-    for m in &d.packets {
+    for m in (0..d.times).flat_map(|_| d.packets) {
         if again {
             d.kept.clear();
         }
@@ -79,7 +103,7 @@ fn text(d: &mut Desk, again: bool) -> u64 {
 #[inline(never)]
 fn ported(d: &mut Desk, again: bool) -> u64 {
     let (mut at, mut sum) = (0, 0u64);
-    for m in &d.lent {
+    for m in (0..d.times).flat_map(|_| &d.lent) {
         let n = port::write(m, &mut d.out[at..]);
         sum = sum.wrapping_add(n as u64 + d.out[at + n - 1] as u64);
         at = if again { 0 } else { at + n };
@@ -114,24 +138,21 @@ fn medians(d: &mut Desk, again: bool, rounds: usize) -> Vec<f64> {
     times.into_iter().map(median).collect()
 }
 
-fn records(what: &str, count: usize, qos: QoS) {
-    let records = streams::records(count, qos);
+/// `count` records, `times` times, each over the one before or one behind the other.
+fn records(count: usize, times: usize, again: bool, qos: QoS) {
+    let packets: Vec<Packet> = streams::records(count, qos).into_iter().map(Packet::Publish).collect();
     let frames = streams::publishes(count, qos);
-    let mut d = Desk {
-        lent: records.iter().map(lent).collect(),
-        packets: records.into_iter().map(Packet::Publish).collect(),
-        kept: BytesMut::with_capacity(frames.len()),
-        out: vec![0; frames.len()],
-    };
-    for (how, again) in [("one output for each", true), ("one behind the other", false)] {
-        let ns = medians(&mut d, again, rounds().min(101));
-        println!("{what}, {how}: {count} records of {} bytes", frames.len() / count);
-        for ((name, _), t) in writers().iter().zip(&ns) {
-            println!("  {name:6} {:8.2} ns a record, {:6.2} of port", t / count as f64, t / ns[0]);
-        }
+    let parts = parts(&packets);
+    let room = if again { 128 } else { frames.len() * times };
+    let mut d = Desk { packets: &packets, lent: lent(&parts), kept: BytesMut::with_capacity(room), out: vec![0; room], times };
+    let ns = medians(&mut d, again, rounds().min(101));
+    let how = if again { "one output for each" } else { "one behind the other" };
+    println!("{qos:?}, {count} records of {} bytes, {times} times, {how}", frames.len() / count);
+    for ((name, _), t) in writers().iter().zip(&ns) {
+        println!("  {name:6} {:8.2} ns a record, {:6.2} of port", t / (count * times) as f64, t / ns[0]);
     }
-    if cfg!(feature = "write_bench") {
-        assert!(d.out == frames[..], "the port's bytes are not the crate's");
+    if cfg!(feature = "write_bench") && !again {
+        assert!(d.out == frames[..].repeat(times), "the port's bytes are not the crate's");
     }
 }
 
@@ -140,7 +161,11 @@ fn main() {
     if cfg!(not(feature = "write_bench")) {
         println!("the port is not linked: its crate write_bench is not there");
     }
-    records("QoS 0", 100_000, QoS::AtMostOnce);
-    records("QoS 1", 100_000, QoS::AtLeastOnce);
+    for qos in [QoS::AtMostOnce, QoS::AtLeastOnce] {
+        records(100_000, 1, false, qos);
+        records(100_000, 1, true, qos);
+        // all of it stays in the cache
+        records(1_000, 100, true, qos);
+    }
     println!("load {}", load());
 }
