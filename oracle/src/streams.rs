@@ -55,24 +55,34 @@ pub fn text(len: usize, every: u64) -> Vec<u8> {
     out.into_bytes()
 }
 
-/// P13: `count` Publish frames with 40-byte payloads and two user properties.
-pub fn publishes(count: usize, qos: QoS) -> BytesMut {
-    let mut out = BytesMut::new();
-    for i in 0..count {
+/// The topic of P13's records.
+pub const TOPIC: &[u8] = b"line3/armour/length";
+
+/// P13: `count` Publish records with 40-byte payloads and two user properties.
+pub fn records(count: usize, qos: QoS) -> Vec<Publish> {
+    let record = |i: usize| {
         let mut payload = format!("{{\"seq\":{:08},\"len\":{:010.3},\"ok\":1}}", i, i as f64 * 0.125).into_bytes();
         payload.resize(40, b'.');
-        let publish = Publish {
+        Publish {
             dup: false,
             qos,
             retain: false,
-            topic: Bytes::from_static(b"line3/armour/length"),
+            topic: Bytes::from_static(TOPIC),
             pkid: if qos == QoS::AtMostOnce { 0 } else { (i % 65_535 + 1) as u16 },
             payload: Bytes::from(payload),
             properties: Some(PublishProperties {
                 user_properties: vec![("unit".into(), "m".into()), ("gateway".into(), "gw-07".into())],
                 ..Default::default()
             }),
-        };
+        }
+    };
+    (0..count).map(record).collect()
+}
+
+/// The frames of these records, one behind the other.
+pub fn publishes(count: usize, qos: QoS) -> BytesMut {
+    let mut out = BytesMut::new();
+    for publish in records(count, qos) {
         publish.write(&mut out).unwrap();
     }
     out

@@ -33,12 +33,13 @@ pub fn plain(qos: QoS, pkid: u16) -> PublishHead {
     head(qos, pkid, false, false)
 }
 
-pub fn with_block(qos: QoS, pkid: u16, response: bool) -> PublishHead {
-    head(qos, pkid, true, response)
+// With a property set.
+pub fn with_block(response: bool) -> PublishHead {
+    head(QoS::AtMostOnce, 0, true, response)
 }
 
 // Topic a/b and payload hi.
-pub fn message(
+fn message(
     rows: u64,
     what: &[u8],
     m: PublishHead,
@@ -68,6 +69,36 @@ pub fn message(
         &mut out,
     );
     show::row(rows, what, limit, w, &out)
+}
+
+pub fn bare(rows: u64, what: &[u8], m: PublishHead, limit: Limit) -> u64 {
+    message(rows, what, m, b"", b"", &[], &[], b"", limit)
+}
+
+pub fn with_ids(rows: u64, what: &[u8], m: PublishHead, ids: &[u32], limit: Limit) -> u64 {
+    message(rows, what, m, b"", b"", &[], ids, b"", limit)
+}
+
+pub fn with_user(
+    rows: u64,
+    what: &[u8],
+    m: PublishHead,
+    user: &[u8],
+    lengths: &[usize],
+    limit: Limit,
+) -> u64 {
+    message(rows, what, m, b"", user, lengths, &[], b"", limit)
+}
+
+pub fn with_strings(
+    rows: u64,
+    what: &[u8],
+    m: PublishHead,
+    response: &[u8],
+    reason: &[u8],
+    limit: Limit,
+) -> u64 {
+    message(rows, what, m, response, b"", &[], &[], reason, limit)
 }
 
 // The same into an output that is too short.

@@ -3,8 +3,6 @@
 mod hand;
 mod show;
 
-use numbers::length::write_remaining_length;
-use publish_write::head::PublishHead;
 use records::answer::Limit;
 use records::puback::PubAckReason;
 use records::qos::QoS;
@@ -31,213 +29,128 @@ fn lengths(rows: u64) -> u64 {
     length(n, 268435455)
 }
 
-// The a/b record, its limits and its identifiers.
-fn plain_messages(rows: u64) -> u64 {
+// The a/b record under its limits and into too short an output.
+fn limits(rows: u64) -> u64 {
     let plain = hand::plain(QoS::AtMostOnce, 0);
-    let mut n = hand::message(
-        rows,
-        b"a/b",
-        plain,
-        b"",
-        b"",
-        &[],
-        &[],
-        b"",
-        Limit::AtMost(9),
-    );
-    n = hand::message(n, b"a/b", plain, b"", b"", &[], &[], b"", Limit::AtMost(10));
-    n = hand::tight(n, b"a/b into 9 bytes", plain);
+    let mut n = hand::bare(rows, b"a/b", plain, Limit::AtMost(9));
+    n = hand::bare(n, b"a/b", plain, Limit::AtMost(10));
+    hand::tight(n, b"a/b into 9 bytes", plain)
+}
+
+// The a/b record with and without an identifier.
+fn names(rows: u64) -> u64 {
     let named = hand::plain(QoS::AtLeastOnce, 10);
-    n = hand::message(
-        n,
-        b"a/b, QoS 1",
-        named,
-        b"",
-        b"",
-        &[],
-        &[],
-        b"",
-        Limit::Unlimited,
-    );
+    let mut n = hand::bare(rows, b"a/b, QoS 1", named, Limit::Unlimited);
     let unnamed = hand::plain(QoS::AtLeastOnce, 0);
-    n = hand::message(
+    n = hand::bare(n, b"a/b, QoS 1, no identifier", unnamed, Limit::Unlimited);
+    n = hand::bare(n, b"a/b, QoS 1, no identifier", unnamed, Limit::AtMost(9));
+    let odd = hand::plain(QoS::AtMostOnce, 7);
+    hand::bare(n, b"a/b, QoS 0, identifier 7", odd, Limit::Unlimited)
+}
+
+// Subscription identifiers.
+fn identifiers(rows: u64) -> u64 {
+    let set = hand::with_block(false);
+    let mut n = hand::bare(rows, b"a/b, empty set", set, Limit::Unlimited);
+    n = hand::with_ids(
         n,
-        b"a/b, QoS 1, no identifier",
-        unnamed,
-        b"",
-        b"",
-        &[],
-        &[],
-        b"",
+        b"a/b, identifiers 1, 128",
+        set,
+        &[1, 128],
         Limit::Unlimited,
     );
-    n = hand::message(
+    n = hand::with_ids(
         n,
-        b"a/b, QoS 1, no identifier",
-        unnamed,
-        b"",
-        b"",
-        &[],
-        &[],
-        b"",
-        Limit::AtMost(9),
+        b"a/b, identifier 268435456",
+        set,
+        &[268435456],
+        Limit::Unlimited,
     );
-    let odd = hand::plain(QoS::AtMostOnce, 7);
-    hand::message(
+    hand::with_ids(
         n,
-        b"a/b, QoS 0, identifier 7",
-        odd,
-        b"",
-        b"",
-        &[],
-        &[],
-        b"",
+        b"a/b, identifier 268435456",
+        set,
+        &[268435456],
+        Limit::AtMost(0),
+    )
+}
+
+// User properties.
+fn pairs(rows: u64) -> u64 {
+    let set = hand::with_block(false);
+    let mut n = hand::with_user(
+        rows,
+        b"a/b, user k v",
+        set,
+        b"kv",
+        &[1, 1],
+        Limit::Unlimited,
+    );
+    n = hand::with_user(
+        n,
+        b"a/b, user not UTF-8",
+        set,
+        b"k\xFF",
+        &[1, 1],
+        Limit::AtMost(0),
+    );
+    n = hand::with_user(
+        n,
+        b"a/b, user lengths too long",
+        set,
+        b"kv",
+        &[1, 18446744073709551615],
+        Limit::Unlimited,
+    );
+    hand::with_user(
+        n,
+        b"a/b, one user length",
+        set,
+        b"k",
+        &[1],
         Limit::Unlimited,
     )
 }
 
-// The a/b record with properties.
-fn messages(rows: u64) -> u64 {
-    let set = hand::with_block(QoS::AtMostOnce, 0, false);
-    let text = hand::with_block(QoS::AtMostOnce, 0, true);
+// Strings, and what is lent for an absent value or another kind.
+fn strings(rows: u64) -> u64 {
+    let set = hand::with_block(false);
+    let text = hand::with_block(true);
     let plain = hand::plain(QoS::AtMostOnce, 0);
-    let mut n = hand::message(
+    let mut n = hand::with_strings(
         rows,
-        b"a/b, empty set",
-        set,
-        b"",
-        b"",
-        &[],
-        &[],
-        b"",
-        Limit::Unlimited,
-    );
-    n = hand::message(
-        n,
-        b"a/b, identifiers 1, 128",
-        set,
-        b"",
-        b"",
-        &[],
-        &[1, 128],
-        b"",
-        Limit::Unlimited,
-    );
-    n = hand::message(
-        n,
-        b"a/b, identifier 268435456",
-        set,
-        b"",
-        b"",
-        &[],
-        &[268435456],
-        b"",
-        Limit::Unlimited,
-    );
-    n = hand::message(
-        n,
-        b"a/b, identifier 268435456",
-        set,
-        b"",
-        b"",
-        &[],
-        &[268435456],
-        b"",
-        Limit::AtMost(0),
-    );
-    n = hand::message(
-        n,
-        b"a/b, user k v",
-        set,
-        b"",
-        b"kv",
-        &[1, 1],
-        &[],
-        b"",
-        Limit::Unlimited,
-    );
-    n = hand::message(
-        n,
-        b"a/b, user not UTF-8",
-        set,
-        b"",
-        b"k\xFF",
-        &[1, 1],
-        &[],
-        b"",
-        Limit::AtMost(0),
-    );
-    n = hand::message(
-        n,
-        b"a/b, user lengths too long",
-        set,
-        b"",
-        b"kv",
-        &[1, 18446744073709551615],
-        &[],
-        b"",
-        Limit::Unlimited,
-    );
-    n = hand::message(
-        n,
-        b"a/b, one user length",
-        set,
-        b"",
-        b"k",
-        &[1],
-        &[],
-        b"",
-        Limit::Unlimited,
-    );
-    n = hand::message(
-        n,
         b"a/b, response topic not UTF-8",
         text,
         b"\xFF",
         b"",
-        &[],
-        &[],
-        b"",
         Limit::AtMost(0),
     );
-    n = hand::message(
+    n = hand::with_strings(
         n,
         b"a/b, bytes for no response topic",
         set,
         b"r",
         b"",
-        &[],
-        &[],
-        b"",
         Limit::Unlimited,
     );
-    n = hand::message(
+    n = hand::with_ids(
         n,
         b"a/b, identifier for no set",
         plain,
-        b"",
-        b"",
-        &[],
         &[1],
-        b"",
         Limit::Unlimited,
     );
-    n = hand::message(
-        n,
-        b"a/b, reason string",
-        plain,
-        b"",
-        b"",
-        &[],
-        &[],
-        b"r",
-        Limit::Unlimited,
-    );
-    n = hand::long(n, b"topic of 65536 bytes", plain, Limit::AtMost(0));
+    hand::with_strings(n, b"a/b, reason string", plain, b"", b"r", Limit::Unlimited)
+}
+
+fn other_messages(rows: u64) -> u64 {
+    let plain = hand::plain(QoS::AtMostOnce, 0);
+    let n = hand::long(rows, b"topic of 65536 bytes", plain, Limit::AtMost(0));
     hand::laden(n, b"every property")
 }
 
-fn wishes(rows: u64) -> u64 {
+// Options.
+fn options(rows: u64) -> u64 {
     let mut n = hand::wish(
         rows,
         b"filter a, options 01",
@@ -262,16 +175,20 @@ fn wishes(rows: u64) -> u64 {
         &[1],
         b"\x33",
     );
-    n = hand::wish(
+    hand::wish(
         n,
         b"filter a, options 03",
         MaybeU32::Absent,
         b"a",
         &[1],
         b"\x03",
-    );
-    n = hand::wish(
-        n,
+    )
+}
+
+// Filters that are not written.
+fn filters(rows: u64) -> u64 {
+    let mut n = hand::wish(
+        rows,
         b"filter not UTF-8, options 33",
         MaybeU32::Absent,
         b"\xFF",
@@ -297,7 +214,7 @@ fn wishes(rows: u64) -> u64 {
     hand::wish(n, b"no filters", MaybeU32::Absent, b"", &[], b"")
 }
 
-fn answers(rows: u64) -> u64 {
+fn acks(rows: u64) -> u64 {
     let mut n = hand::acked(
         rows,
         b"PubAck",
@@ -334,7 +251,7 @@ fn answers(rows: u64) -> u64 {
         b"a",
         b"",
     );
-    n = hand::acked(
+    hand::acked(
         n,
         b"PubAck, payload",
         PubAckReason::Success,
@@ -342,15 +259,19 @@ fn answers(rows: u64) -> u64 {
         false,
         b"",
         b"hi",
-    );
-    n = hand::ping(n, b"PingReq", true, b"", Limit::Unlimited);
+    )
+}
+
+fn pings(rows: u64) -> u64 {
+    let mut n = hand::ping(rows, b"PingReq", true, b"", Limit::Unlimited);
     n = hand::ping(n, b"PingResp", false, b"", Limit::Unlimited);
     n = hand::ping(n, b"PingReq", true, b"", Limit::AtMost(1));
     hand::ping(n, b"PingReq, topic", true, b"a", Limit::AtMost(1))
 }
 
 fn main() {
-    let rows = answers(wishes(messages(plain_messages(lengths(0)))));
+    let messages = other_messages(strings(pairs(identifiers(names(limits(lengths(0)))))));
+    let rows = pings(acks(filters(options(messages))));
     io::print_decimal(1, rows);
     io::write_all(1, b" rows\n");
 }
