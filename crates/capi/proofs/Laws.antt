@@ -1,12 +1,16 @@
 -- A store of one number more; and what is returned and stored of a refusal, from its row and its values. Assumes nothing.
-use mathlib.Core.Path.{_≡_, refl}
-use mathlib.Core.List.{List}
-use Prim.Native.Nat.{ℕ, _+_, _<_}
+use mathlib.Core.Path.{_≡_, refl, sym, ap, _∙_}
+use mathlib.Core.List.{List, [], _∷_, _++_}
+use Prim.Native.Nat.{ℕ, _+_, _-_, _<_}
 use native.Mathlib.Omega.{arith}
-use lib.ListN.{length, getD, set}
+use lib.ListN.{length, getD, set, take, replicate, length-append}
+use lib.Seq.{sets, take-append-seam}
 use Rattle.reading.specs.Refusal.{Refusal, nr, refusedAs}
+use Rattle.reading.specs.Place.{heldOf}
 use Rattle.records.specs.Told.{rowOf, valuesOf}
-use Rattle.wire.proofs.Laws.Strings.{Putting, putting-next}
+use Rattle.records.specs.Names.{padded}
+use Rattle.records.specs.declared.shown.Name.{Name}
+use Rattle.wire.proofs.Laws.Strings.{Putting, putting-next, held-within}
 use Rattle.capi.specs.Layout.{numbersOf}
 use Rattle.capi.specs.Record.{noBlock, refusedHead, valueAt, numberOf, encoded}
 
@@ -20,4 +24,18 @@ pub refused-number : (k : Refusal) (n : ℕ) → rowOf k ≡ numberOf (refusedAs
 refused-number (nr k vs) n = refl
 
 pub refused-encoded : (k : Refusal) (n : ℕ) → numbersOf (refusedHead n (valueAt (valuesOf k) 0) (valueAt (valuesOf k) 1)) noBlock ≡ encoded (refusedAs k n)
+unfolding encoded
 refused-encoded (nr k vs) n = refl
+
+-- ---- names
+
+-- the front of a list, as it is looked up by its place
+pub front-held : (b r : List ℕ) → heldOf (b ++ r) (record { start = 0; len = length b }) ≡ b
+front-held b r = sym (held-within (b ++ r) (record { start = 0; len = length b }) (omega (arith, length-append b r))) ∙ take-append-seam b r
+
+-- the name m of b, put as the part that its length says
+pub name-put : (out : List ℕ) {m : Name} {b n part after : List ℕ} → m ≡ padded b → b ≡ n → part ≡ heldOf (m .bytes) (record { start = 0; len = m .len }) → after ≡ sets out 0 part → (m .len ≡ length n) × (after ≡ sets out 0 n)
+name-put out {m} {b} {n} e f p q = (
+  ap (λ (a : Name). a .len) e ∙ ap length f,
+  q ∙ ap (λ (l : List ℕ). sets out 0 l) (p ∙ ap (λ (a : Name). heldOf (a .bytes) (record { start = 0; len = a .len })) e ∙ front-held b (replicate (24 - length b) 0) ∙ f),
+)

@@ -1,2 +1,4 @@
 pub mod Layout
 pub mod Record
+pub mod Item
+pub mod Name

@@ -210,7 +210,7 @@ numberOf (accepted p n) = 0
 numberOf (refused k vs n) = k
 
 -- the numbers that are stored
-abbrev pub encoded : Answer Placed → List ℕ
+unfoldable pub encoded : Answer Placed → List ℕ
 encoded (accepted p n) = numbersOf (headOf n p) (blockOf p)
 encoded (refused k vs n) = numbersOf (refusedHead n (valueAt vs 0) (valueAt vs 1)) noBlock
 

@@ -1,6 +1,7 @@
 -- `capi::record::read_numbers` is right since each answer has its own arm. Assumes nothing.
 use mathlib.Core.Path.{_∙_}
 use borrow.Author.Needs.{needs}
+use Rattle.capi.specs.Record.{encoded}
 use Rattle.capi.proofs.record.read_numbers.Statement.{statement}
 use Rattle.capi.proofs.record.read_numbers.Tie as tie
 
@@ -23,6 +24,7 @@ error-numbers-requires : tie.Need-error-numbers-requires
 error-numbers-requires c κs = search needs
 
 returns : tie.Need-returns
+unfolding encoded
 returns c = rw (c .before .before .before .before .read .given .1) (c .numbers .ensures ∙ rw (c .before .before .packet-head .ensures, c .before .packet-block .ensures))
 
 returns-2 : tie.Need-returns-2
