@@ -1,4 +1,2 @@
-pub mod Layout
-pub mod Record
-pub mod Item
-pub mod Name
+pub mod Given
+pub mod Written

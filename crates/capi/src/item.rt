@@ -1,38 +1,16 @@
 // The n-th item of a list at a place of the stream.
-use crate::record::flag;
-use crate::store::store;
-use records::answer::FilterItem;
-use records::answer::IdentifierItem;
+use layout::item;
+use layout::store::store;
 use records::answer::UserItem;
-use records::qos::qos_number;
 use records::span::Span;
-use records::subscribe::rule_number;
 use subscribe::filter;
 use wire::property::PropertyPlace;
 ghost use mathlib.Core.Path.{_≡_};
 ghost use lib.Seq.{sets};
 ghost use Rattle.reading.specs.Place.{asPlaces, subscriptionAt, filterAt};
 ghost use Rattle.records.specs.Told.{toldSpan};
-ghost use Rattle.records.specs.Answered.{toldUser, toldIdentifier, toldFilterItem};
-ghost use Rattle.capi.specs.Item.{fitNumber, userNumbers, identifierNumbers, filterNumbers, userOf};
-
-fn user_number(item: UserItem) -> u32
-    ensures { λ r. ⌜ r ≡ fitNumber (toldUser item) ⌝ }
-{
-    match item {
-        UserItem::Pair(_, _) => 0,
-        UserItem::NoItem => 21,
-    }
-}
-
-fn user_numbers(item: UserItem) -> [u64; 4]
-    ensures { λ r. ⌜ r ≡ userNumbers (toldUser item) ⌝ }
-{
-    match item {
-        UserItem::Pair(k, v) => [k.start as u64, k.len as u64, v.start as u64, v.len as u64],
-        UserItem::NoItem => [0, 0, 0, 0],
-    }
-}
+ghost use Rattle.records.specs.Answered.{toldUser};
+ghost use Rattle.layout.specs.Item.{fitNumber, userNumbers, identifierNumbers, filterNumbers, userOf};
 
 // Of the block of a kind that has one.
 fn user_item(stream: &[u8], kind: u8, p: Span, n: usize) -> UserItem
@@ -59,28 +37,10 @@ pub extern "C" fn ecch_user_property(
     ensures number { λ r. ⌜ r ≡ fitNumber (userOf kind (now (stream .entry)) (record { start = start; len = len }) n) ⌝ }
     ensures stored { λ r. ⌜ now (into .exit) ≡ sets (now (into .entry)) 0 (userNumbers (userOf kind (now (stream .entry)) (record { start = start; len = len }) n)) ⌝ }
 {
-    let item = user_item(stream, kind, Span { start, len }, n);
-    let numbers = user_numbers(item);
+    let found = user_item(stream, kind, Span { start, len }, n);
+    let numbers = item::user_numbers(found);
     store(&mut *into, &numbers);
-    user_number(item)
-}
-
-fn identifier_number(item: IdentifierItem) -> u32
-    ensures { λ r. ⌜ r ≡ fitNumber (toldIdentifier item) ⌝ }
-{
-    match item {
-        IdentifierItem::Number(_) => 0,
-        IdentifierItem::NoItem => 21,
-    }
-}
-
-fn identifier_numbers(item: IdentifierItem) -> [u64; 1]
-    ensures { λ r. ⌜ r ≡ identifierNumbers (toldIdentifier item) ⌝ }
-{
-    match item {
-        IdentifierItem::Number(n) => [n as u64],
-        IdentifierItem::NoItem => [0],
-    }
+    item::user_number(found)
 }
 
 // Of a Publish.
@@ -95,39 +55,10 @@ pub extern "C" fn ecch_subscription_identifier(
     ensures number { λ r. ⌜ r ≡ fitNumber (subscriptionAt asPlaces (now (stream .entry)) (record { start = start; len = len }) n) ⌝ }
     ensures stored { λ r. ⌜ now (into .exit) ≡ sets (now (into .entry)) 0 (identifierNumbers (subscriptionAt asPlaces (now (stream .entry)) (record { start = start; len = len }) n)) ⌝ }
 {
-    let item = items::subscription_identifier(stream, Span { start, len }, n);
-    let numbers = identifier_numbers(item);
+    let found = items::subscription_identifier(stream, Span { start, len }, n);
+    let numbers = item::identifier_numbers(found);
     store(&mut *into, &numbers);
-    identifier_number(item)
-}
-
-fn filter_number(item: FilterItem) -> u32
-    ensures { λ r. ⌜ r ≡ fitNumber (toldFilterItem item) ⌝ }
-{
-    match item {
-        FilterItem::Filter(_) => 0,
-        FilterItem::NoItem => 21,
-    }
-}
-
-fn filter_numbers(item: FilterItem) -> [u64; 6]
-    ensures { λ r. ⌜ r ≡ filterNumbers (toldFilterItem item) ⌝ }
-{
-    match item {
-        FilterItem::Filter(f) => {
-            let qos = f.qos;
-            let rule = f.retain_forward_rule;
-            [
-                f.path.start as u64,
-                f.path.len as u64,
-                qos_number(qos) as u64,
-                flag(f.nolocal),
-                flag(f.preserve_retain),
-                rule_number(rule) as u64,
-            ]
-        }
-        FilterItem::NoItem => [0, 0, 0, 0, 0, 0],
-    }
+    item::identifier_number(found)
 }
 
 // Text and options.
@@ -142,8 +73,8 @@ pub extern "C" fn ecch_filter(
     ensures number { λ r. ⌜ r ≡ fitNumber (filterAt asPlaces (now (stream .entry)) (record { start = start; len = len }) n) ⌝ }
     ensures stored { λ r. ⌜ now (into .exit) ≡ sets (now (into .entry)) 0 (filterNumbers (filterAt asPlaces (now (stream .entry)) (record { start = start; len = len }) n)) ⌝ }
 {
-    let item = filter::filter(stream, Span { start, len }, n);
-    let numbers = filter_numbers(item);
+    let found = filter::filter(stream, Span { start, len }, n);
+    let numbers = item::filter_numbers(found);
     store(&mut *into, &numbers);
-    filter_number(item)
+    item::filter_number(found)
 }

@@ -1,24 +1,14 @@
 // The packet at the start of a stream, and the part at a place.
-use crate::record;
-use crate::store::store;
-use records::answer::Limit;
+use crate::given::bound;
+use layout::record;
+use layout::store::store;
 use records::span::Span;
 use wire::string;
 ghost use mathlib.Core.Path.{_≡_};
 ghost use lib.ListN.{length};
 ghost use lib.Seq.{sets};
 ghost use Rattle.reading.specs.Place.{readPlacedOf, heldOf};
-ghost use Rattle.records.specs.Told.{limitOf};
-ghost use Rattle.capi.specs.Record.{limitGiven, numberOf, encoded};
-
-fn bound(limited: u8, limit: usize) -> Limit
-    ensures { λ r. ⌜ limitOf r ≡ limitGiven limited limit ⌝ }
-{
-    if limited == 0 {
-        return Limit::Unlimited;
-    }
-    Limit::AtMost(limit)
-}
+ghost use Rattle.layout.specs.Record.{limitGiven, numberOf, encoded};
 
 // 0, or the refusal's number; every number of the layout is stored.
 #[no_mangle]

@@ -1,7 +1,7 @@
 -- `capi::item::user_item` is right since each kind with a block has its own arm. Assumes nothing.
 use borrow.Author.Needs.{needs}
 use Rattle.wire.proofs.Laws.Property.{lookup-absent}
-use Rattle.capi.specs.Item.{blocks}
+use Rattle.layout.specs.Item.{blocks}
 use Rattle.capi.proofs.item.user_item.Statement.{statement}
 use Rattle.capi.proofs.item.user_item.Tie as tie
 

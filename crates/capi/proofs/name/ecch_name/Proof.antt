@@ -1,7 +1,7 @@
 -- `capi::name::ecch_name` is right since the name of the row is put, and there is none without a row. Assumes nothing.
 use mathlib.Core.Path.{refl, sym}
 use borrow.Author.Needs.{needs}
-use Rattle.capi.proofs.Laws.{name-put}
+use Rattle.layout.proofs.Laws.{name-put}
 use Rattle.capi.proofs.name.ecch_name.Statement.{statement}
 use Rattle.capi.proofs.name.ecch_name.Tie as tie
 
