@@ -1,8 +1,8 @@
 // What the numbers of C stand for: flags, limits and numbers that may be absent.
 use records::answer::Limit;
+use records::span::MaybeU8;
 use records::span::MaybeU16;
 use records::span::MaybeU32;
-use records::span::MaybeU8;
 ghost use mathlib.Core.Path.{_≡_};
 ghost use Rattle.records.specs.Told.{limitOf};
 ghost use Rattle.publish_write.specs.Handed.{optU8, optU16, optU32};

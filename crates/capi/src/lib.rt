@@ -3,8 +3,8 @@
 mod given;
 pub mod item;
 pub mod name;
-pub mod ping;
-pub mod puback;
-pub mod publish;
+pub mod put_ping;
+pub mod put_puback;
+pub mod put_publish;
+pub mod put_subscribe;
 pub mod read;
-pub mod subscribe;

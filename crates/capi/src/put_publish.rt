@@ -1,9 +1,9 @@
 // A Publish: its size, and written.
 use crate::given::bound;
 use crate::given::is_on;
+use crate::given::maybe_u8;
 use crate::given::maybe_u16;
 use crate::given::maybe_u32;
-use crate::given::maybe_u8;
 use layout::answer;
 use layout::store::store;
 use publish_write::head::PublishHead;
@@ -109,14 +109,14 @@ fn sized(
                 correlation_on,
                 content_on,
             ),
-                topic,
-                response,
-                correlation,
-                user,
-                user_lengths,
-                identifiers,
-                content,
-                payload,
+            topic,
+            response,
+            correlation,
+            user,
+            user_lengths,
+            identifiers,
+            content,
+            payload,
         )),
     }
 }
@@ -228,16 +228,16 @@ fn written(
                 correlation_on,
                 content_on,
             ),
-                topic,
-                response,
-                correlation,
-                user,
-                user_lengths,
-                identifiers,
-                content,
-                payload,
-                bound(limited, limit),
-                &mut *out,
+            topic,
+            response,
+            correlation,
+            user,
+            user_lengths,
+            identifiers,
+            content,
+            payload,
+            bound(limited, limit),
+            &mut *out,
         ),
     }
 }

@@ -24,7 +24,12 @@ pub extern "C" fn ecch_ping_size(answer: &mut [u64]) -> u32
 }
 
 #[no_mangle]
-pub extern "C" fn ecch_pingreq_write(limited: u8, limit: usize, out: &mut [u8], answer: &mut [u64]) -> u32
+pub extern "C" fn ecch_pingreq_write(
+    limited: u8,
+    limit: usize,
+    out: &mut [u8],
+    answer: &mut [u64],
+) -> u32
     ensures number { λ r. ⌜ r ≡ fitNumber (answerOf (limitGiven limited limit) (length (now (out .entry))) (ping 12)) ⌝ }
     ensures output { λ r. ⌜ now (out .exit) ≡ outOf (limitGiven limited limit) (now (out .entry)) (ping 12) ⌝ }
     ensures stored { λ r. ⌜ now (answer .exit) ≡ sets (now (answer .entry)) 0 (answerNumbers (answerOf (limitGiven limited limit) (length (now (out .entry))) (ping 12))) ⌝ }
@@ -36,7 +41,12 @@ pub extern "C" fn ecch_pingreq_write(limited: u8, limit: usize, out: &mut [u8], 
 }
 
 #[no_mangle]
-pub extern "C" fn ecch_pingresp_write(limited: u8, limit: usize, out: &mut [u8], answer: &mut [u64]) -> u32
+pub extern "C" fn ecch_pingresp_write(
+    limited: u8,
+    limit: usize,
+    out: &mut [u8],
+    answer: &mut [u64],
+) -> u32
     ensures number { λ r. ⌜ r ≡ fitNumber (answerOf (limitGiven limited limit) (length (now (out .entry))) (ping 13)) ⌝ }
     ensures output { λ r. ⌜ now (out .exit) ≡ outOf (limitGiven limited limit) (now (out .entry)) (ping 13) ⌝ }
     ensures stored { λ r. ⌜ now (answer .exit) ≡ sets (now (answer .entry)) 0 (answerNumbers (answerOf (limitGiven limited limit) (length (now (out .entry))) (ping 13))) ⌝ }

@@ -5,9 +5,9 @@ use layout::answer;
 use layout::store::store;
 use puback_write::PubAckHead;
 use records::answer::Written;
-use records::puback;
 use records::puback::GotReason;
 use records::puback::PubAckReason;
+use records::puback::reason as reason_of;
 ghost use mathlib.Core.Path.{_≡_};
 ghost use mathlib.Core.List.{List};
 ghost use Prim.Native.Nat.{ℕ};
@@ -45,7 +45,7 @@ fn sized(
 ) -> Written
     ensures { λ r. ⌜ toldWritten r ≡ sizedBehind (reasonOf reason) (ack 4 (ackBy pkid reason block «reason_string_on» (now («reason_string» .entry)) (now (user .entry)) (now («user_lengths» .entry)))) ⌝ }
 {
-    match puback::reason(reason) {
+    match reason_of(reason) {
         GotReason::Refused(e) => Written::Refused(e),
         GotReason::Value(a) => answer::as_written(puback_write::size(
             head(pkid, a, block, reason_string_on),
@@ -99,7 +99,7 @@ fn written(
     ensures answer { λ r. ⌜ toldWritten r ≡ answeredBehind (reasonOf reason) (limitGiven limited limit) (ack 4 (ackBy pkid reason block «reason_string_on» (now («reason_string» .entry)) (now (user .entry)) (now («user_lengths» .entry)))) (now (out .entry)) ⌝ }
     ensures output { λ r. ⌜ now (out .exit) ≡ outBehind (reasonOf reason) (limitGiven limited limit) (ack 4 (ackBy pkid reason block «reason_string_on» (now («reason_string» .entry)) (now (user .entry)) (now («user_lengths» .entry)))) (now (out .entry)) ⌝ }
 {
-    match puback::reason(reason) {
+    match reason_of(reason) {
         GotReason::Refused(e) => Written::Refused(e),
         GotReason::Value(a) => puback_write::write(
             head(pkid, a, block, reason_string_on),
