@@ -9,7 +9,7 @@ use lib.Seq.{sets}
 use Rattle.grammar.specs.Choice.{isIn}
 use Rattle.grammar.specs.Tables.{reasons}
 use Rattle.reading.specs.Refusal.{Refusal, nr}
-use Rattle.reading.specs.Reader.{Fit, got, bad, _>>_, guard}
+use Rattle.reading.specs.Reader.{Fit, got, _>>_, guard}
 use Rattle.reading.proofs.Reading.{bad-got}
 use Rattle.writing.specs.Handed.{Handed}
 use Rattle.writing.specs.Write.{sizeOf, Written}

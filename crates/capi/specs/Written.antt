@@ -1,5 +1,4 @@
 -- What a size and a write give where a number may be none of the record's, which is refused before all else. Assumes nothing.
-use mathlib.Core.Path.{_≡_}
 use mathlib.Core.Option.{Option}
 use mathlib.Core.List.{List}
 use Prim.Native.Nat.{ℕ}

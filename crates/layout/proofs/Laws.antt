@@ -3,7 +3,7 @@ use mathlib.Core.Path.{_≡_, refl, sym, ap, _∙_}
 use mathlib.Core.List.{List, [], _∷_, _++_}
 use Prim.Native.Nat.{ℕ, _+_, _-_, _<_}
 use native.Mathlib.Omega.{arith}
-use lib.ListN.{length, getD, set, take, replicate, length-append}
+use lib.ListN.{length, getD, set, replicate, length-append}
 use lib.Seq.{sets, take-append-seam}
 use Rattle.reading.specs.Refusal.{Refusal, nr, refusedAs}
 use Rattle.reading.specs.Reader.{bad}
