@@ -5,7 +5,7 @@ use records::span::MaybeU16;
 use records::span::MaybeU32;
 ghost use mathlib.Core.Path.{_≡_};
 ghost use Rattle.records.specs.Told.{limitOf};
-ghost use Rattle.publish_write.specs.Handed.{optU8, optU16, optU32};
+ghost use Rattle.rows.specs.Given.{numberU8, numberU16, numberU32};
 ghost use Rattle.layout.specs.Record.{limitGiven};
 ghost use Rattle.capi.specs.Given.{isOn, maybe};
 
@@ -25,7 +25,7 @@ pub fn bound(limited: u8, limit: usize) -> Limit
 }
 
 pub fn maybe_u8(on: u8, n: u8) -> MaybeU8
-    ensures { λ r. ⌜ optU8 r ≡ maybe on n ⌝ }
+    ensures { λ r. ⌜ numberU8 r ≡ maybe on n ⌝ }
 {
     if is_on(on) {
         return MaybeU8::Present(n);
@@ -34,7 +34,7 @@ pub fn maybe_u8(on: u8, n: u8) -> MaybeU8
 }
 
 pub fn maybe_u16(on: u8, n: u16) -> MaybeU16
-    ensures { λ r. ⌜ optU16 r ≡ maybe on n ⌝ }
+    ensures { λ r. ⌜ numberU16 r ≡ maybe on n ⌝ }
 {
     if is_on(on) {
         return MaybeU16::Present(n);
@@ -43,7 +43,7 @@ pub fn maybe_u16(on: u8, n: u16) -> MaybeU16
 }
 
 pub fn maybe_u32(on: u8, n: u32) -> MaybeU32
-    ensures { λ r. ⌜ optU32 r ≡ maybe on n ⌝ }
+    ensures { λ r. ⌜ numberU32 r ≡ maybe on n ⌝ }
 {
     if is_on(on) {
         return MaybeU32::Present(n);

@@ -1,7 +1,6 @@
 // The name of a refusal by its number.
 use layout::name;
 use layout::name::Row;
-use records::error;
 use records::span::Span;
 use wire::string;
 ghost use mathlib.Core.Path.{_≡_};
@@ -18,7 +17,7 @@ pub extern "C" fn ecch_name(number: u32, into: &mut [u8]) -> usize
     match name::of_number(number) {
         Row::None => 0,
         Row::Some(e) => {
-            let name = error::name(e);
+            let name = names::name(e);
             let bytes = name.bytes;
             let len = name.len;
             let name = string::part(&bytes, Span { start: 0, len });

@@ -1,9 +1,9 @@
 // Whether a stream starts with a whole frame, after `parse_fixed_header` and `check` of v5/mod.rs: refusals 1, 2 and 3 in 01's order.
 use crate::header::FixedHeader;
+use numbers::length;
+use numbers::length::GotLength;
 use records::answer::Limit;
 use records::error::Error;
-use wire::length;
-use wire::length::GotLength;
 ghost use mathlib.Core.Path.{_≡_};
 ghost use Rattle.positions.specs.Position.{fromAt};
 ghost use Rattle.records.specs.Told.{limitOf};

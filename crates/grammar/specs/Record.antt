@@ -15,25 +15,25 @@ pub data Val (S : Type 0) : Type 0 where
   duo : S → S → Val S
 
 -- 01, grammar: "an identifier byte and a value"
-abbrev pub Prop : Type 0 → Type 0
-Prop S = ℕ × Val S
+abbrev pub PropOf : Type 0 → Type 0
+PropOf S = ℕ × Val S
 
 -- 01, grammar: "Of a single-valued property given twice the last counts"; o is what came before
-abbrev pub lastFrom : {S : Type 0} → Option (Val S) → ℕ → List (Prop S) → Option (Val S)
+abbrev pub lastFrom : {S : Type 0} → Option (Val S) → ℕ → List (PropOf S) → Option (Val S)
 lastFrom o i [] = o
 lastFrom o i (p ∷ ps) = lastFrom (pick (eqb (p .0) i) (some (p .1)) o) i ps
 
 -- 01, grammar: the same of a whole block, before which nothing came
-unfoldable pub lastOf : {S : Type 0} → ℕ → List (Prop S) → Option (Val S)
+unfoldable pub lastOf : {S : Type 0} → ℕ → List (PropOf S) → Option (Val S)
 lastOf i ps = lastFrom none i ps
 
 -- 01, grammar: "38, and 11 in Publish, are lists kept in order"
-unfoldable pub allOf : {S : Type 0} → ℕ → List (Prop S) → List (Val S)
+unfoldable pub allOf : {S : Type 0} → ℕ → List (PropOf S) → List (Val S)
 allOf i [] = []
 allOf i (p ∷ ps) = pick (eqb (p .0) i) (p .1 ∷ allOf i ps) (allOf i ps)
 
 -- 01, grammar: "L = 0 means absent"
-abbrev pub unlessEmpty : {S A : Type 0} → (List (Prop S) → A) → List (Prop S) → Option A
+abbrev pub unlessEmpty : {S A : Type 0} → (List (PropOf S) → A) → List (PropOf S) → Option A
 unlessEmpty f [] = none
 unlessEmpty f (p ∷ ps) = some (f (p ∷ ps))
 
@@ -49,7 +49,7 @@ pub record PublishProps (S : Type 0) (L : Type 0 → Type 0) : Type 0 where
   pub content : Option (Val S)
 
 -- 01, table of properties, row Publish: the fields by their identifiers; `keep` says what a list is handed back as
-unfoldable pub publishProps : (S : Type 0) (L : Type 0 → Type 0) (keep : List (Val S) → L (Val S)) → List (Prop S) → PublishProps S L
+unfoldable pub publishProps : (S : Type 0) (L : Type 0 → Type 0) (keep : List (Val S) → L (Val S)) → List (PropOf S) → PublishProps S L
 publishProps S L keep ps = record {
   format = lastOf 1 ps;
   expiry = lastOf 2 ps;
@@ -67,7 +67,7 @@ pub record SubscribeProps (S : Type 0) (L : Type 0 → Type 0) : Type 0 where
   pub user : L (Val S)
 
 -- 01, table of properties, row Subscribe; here 11 is no list
-unfoldable pub subscribeProps : (S : Type 0) (L : Type 0 → Type 0) (keep : List (Val S) → L (Val S)) → List (Prop S) → SubscribeProps S L
+unfoldable pub subscribeProps : (S : Type 0) (L : Type 0 → Type 0) (keep : List (Val S) → L (Val S)) → List (PropOf S) → SubscribeProps S L
 subscribeProps S L keep ps = record { ident = lastOf 11 ps; user = keep (allOf 38 ps) }
 
 -- 01, table of properties, row PubAck
@@ -76,7 +76,7 @@ pub record AckProps (S : Type 0) (L : Type 0 → Type 0) : Type 0 where
   pub user : L (Val S)
 
 -- 01, table of properties, row PubAck
-unfoldable pub ackProps : (S : Type 0) (L : Type 0 → Type 0) (keep : List (Val S) → L (Val S)) → List (Prop S) → AckProps S L
+unfoldable pub ackProps : (S : Type 0) (L : Type 0 → Type 0) (keep : List (Val S) → L (Val S)) → List (PropOf S) → AckProps S L
 ackProps S L keep ps = record { reason = lastOf 31 ps; user = keep (allOf 38 ps) }
 
 -- ---- the records

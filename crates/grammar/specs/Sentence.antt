@@ -10,7 +10,7 @@ use Rattle.grammar.specs.Number.{Byte, Big, Spells}
 use Rattle.grammar.specs.Text.{Utf8}
 use Rattle.grammar.specs.Gram.{Gram, Nothing, Map, Only, Then, Sized, Many, Is}
 use Rattle.grammar.specs.Tables.{Form, u8, u16, u32, number, text, bytes, pair, Place, publishPlace, subscribePlace, ackPlace, Layout, aPublish, anAck, aSubscribe, aPing, kinds}
-use Rattle.grammar.specs.Record.{Val, num, str, duo, unlessEmpty, PublishProps, publishProps, SubscribeProps, subscribeProps, AckProps, ackProps, Filter, PacketOf, kindOf, flagQos, optionQos, optionRule, mkPublish, mkAck, mkFilter, mkSubscribe, mkPing}
+use Rattle.grammar.specs.Record.{Val, num, str, duo, PropOf, unlessEmpty, PublishProps, publishProps, SubscribeProps, subscribeProps, AckProps, ackProps, Filter, PacketOf, kindOf, flagQos, optionQos, optionRule, mkPublish, mkAck, mkFilter, mkSubscribe, mkPing}
 
 -- ---- strings
 
@@ -32,9 +32,9 @@ Text = Sized (Big 2) (Is Utf8)
 abbrev pub Value : Type 0
 Value = Val (List ℕ)
 
--- 01, grammar: "an identifier byte and a value"
+-- the same of a property
 abbrev pub Prop : Type 0
-Prop = ℕ × Value
+Prop = PropOf (List ℕ)
 
 -- 01, table of properties: "text pair"
 abbrev pub duoOf : {S : Type 0} → S × S → Val S

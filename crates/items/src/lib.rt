@@ -6,12 +6,9 @@ use records::answer::IdentifierItem;
 use records::answer::UserItem;
 use records::span::Span;
 use wire::property::PropertyPlace;
-ghost use mathlib.Core.Path.{_≡_};
-ghost use Rattle.reading.specs.Place.{asPlaces, userAt, subscriptionAt};
 ghost use Rattle.records.specs.Told.{toldSpan};
-ghost use Rattle.records.specs.Answered.{toldUser, toldIdentifier};
 ghost use Rattle.wire.specs.Property.{placeOf};
-ghost use Rattle.items.specs.Nth.{SeekOn, SeekIn, NthRead};
+ghost use Rattle.items.specs.Nth.{SeekOn, SeekIn, NthRead, NthUser, NthIdentifier};
 
 // The search for a value: how many are to be passed before it, or the value.
 enum Seek {
@@ -74,7 +71,7 @@ fn nth_value(place: PropertyPlace, id: u8, s: &[u8], p: Span, n: usize) -> Seek
 }
 
 pub fn user_property(place: PropertyPlace, s: &[u8], p: Span, n: usize) -> UserItem
-    ensures { λ r. ⌜ toldUser r ≡ userAt asPlaces (now (s .entry)) (toldSpan p) (placeOf place) n ⌝ }
+    ensures { λ r. ⌜ NthUser (placeOf place) (now (s .entry)) p n r ⌝ }
 {
     match nth_value(place, 38, s, p, n) {
         Seek::Left(_) => UserItem::NoItem,
@@ -89,7 +86,7 @@ pub fn user_property(place: PropertyPlace, s: &[u8], p: Span, n: usize) -> UserI
 
 // Of a Publish.
 pub fn subscription_identifier(s: &[u8], p: Span, n: usize) -> IdentifierItem
-    ensures { λ r. ⌜ toldIdentifier r ≡ subscriptionAt asPlaces (now (s .entry)) (toldSpan p) n ⌝ }
+    ensures { λ r. ⌜ NthIdentifier (now (s .entry)) p n r ⌝ }
 {
     match nth_value(PropertyPlace::Publish, 11, s, p, n) {
         Seek::Left(_) => IdentifierItem::NoItem,

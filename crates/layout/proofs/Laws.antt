@@ -9,8 +9,8 @@ use Rattle.reading.specs.Refusal.{Refusal, nr, refusedAs}
 use Rattle.reading.specs.Reader.{bad}
 use Rattle.reading.specs.Place.{heldOf}
 use Rattle.records.specs.Told.{rowOf, valuesOf}
-use Rattle.records.specs.Names.{padded}
-use Rattle.records.specs.declared.shown.Name.{Name}
+use Rattle.names.specs.Names.{padded}
+use Rattle.names.specs.declared.shown.Name.{Name}
 use Rattle.wire.proofs.Laws.Strings.{Putting, putting-next, held-within}
 use Rattle.layout.specs.Item.{fitNumber}
 use Rattle.layout.specs.Answer.{answerNumbers}

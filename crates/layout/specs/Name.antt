@@ -4,7 +4,7 @@ use mathlib.Core.List.{List, [], _∷_}
 use Prim.Native.Nat.{ℕ, suc}
 use Prim.Native.String.{String}
 use Rattle.grammar.specs.Choice.{lookup}
-use Rattle.records.specs.Names.{names, codesOf, nameOf}
+use Rattle.names.specs.Names.{names, codesOf, nameOf}
 use Rattle.layout.specs.declared.name.Row.{Row}
 
 -- the items with their numbers, from k on

@@ -1,7 +1,7 @@
-// Leaves of `wire` for the benchmark in oracle/, as functions that Rust calls: one text or one number a call, or a whole run of numbers.
+// Leaves (`numbers`, `utf8`) for the benchmark in oracle/, as functions that Rust calls: one text or one number a call, or a whole run of numbers.
+use numbers::got::GotU32;
+use numbers::length;
 use std::num;
-use wire::got::GotU32;
-use wire::length;
 ghost use mathlib.Core.Path.{_≡_};
 ghost use Rattle.reading.specs.Refusal.{cut};
 ghost use Rattle.reading.specs.Read.{isText, numOf};

@@ -8,10 +8,11 @@ use Rattle.grammar.specs.Sentence.{Packet}
 use Rattle.reading.specs.Refusal.{Answer, accepted, refused}
 use Rattle.reading.specs.Fault.{Verdict}
 use Rattle.reading.specs.Reader.{Fit, got, bad}
-use Rattle.reading.specs.Place.{Placed, sayAnswer}
-use Rattle.records.specs.Told.{toldError}
+use Rattle.reading.specs.Place.{Placed, readPlacedOf, sayAnswer}
+use Rattle.records.specs.Told.{toldError, limitOf}
 use Rattle.records.specs.Said.{toldPacket}
 use Rattle.records.specs.Answered.{told}
+use Rattle.records.specs.declared.answer.Limit.{Limit}
 use Rattle.records.specs.declared.answer.Read.{Read}
 use Rattle.packet.specs.declared.GotBody.{GotBody}
 
@@ -19,6 +20,10 @@ use Rattle.packet.specs.declared.GotBody.{GotBody}
 abbrev pub toldBody : GotBody → Fit Placed
 toldBody (GotBody.Value p) = got (toldPacket p)
 toldBody (GotBody.Refused e) = bad (toldError e)
+
+-- the contract of `read`: the answer r to the stream s tells what `reading` answers, every number and place in it
+abbrev pub Meets : Limit → List ℕ → Read → Type 0
+Meets limit s r = told r ≡ readPlacedOf (limitOf limit) s
 
 -- 01: "Taken is the count of stream bytes used up"
 abbrev pub takenIn : {A : Type 0} → Answer A → ℕ

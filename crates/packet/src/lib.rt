@@ -15,13 +15,12 @@ ghost use mathlib.Core.List.{[]};
 ghost use Prim.Native.Nat.{ℕ, _≤_, _<_};
 ghost use lib.ListN.{length, drop};
 ghost use Rattle.reading.specs.Read.{bodyFit};
-ghost use Rattle.reading.specs.Place.{asPlaces, readPlacedOf};
+ghost use Rattle.reading.specs.Place.{asPlaces};
 ghost use Rattle.records.specs.Told.{limitOf};
-ghost use Rattle.records.specs.Answered.{told};
 ghost use Rattle.puback.specs.Told.{toldGotPubAck};
 ghost use Rattle.publish.specs.Told.{toldGotPublish};
 ghost use Rattle.subscribe.specs.Told.{toldGotSubscribe};
-ghost use Rattle.packet.specs.Told.{toldBody, takenBy, Judged};
+ghost use Rattle.packet.specs.Told.{toldBody, Meets, takenBy, Judged};
 
 // What a whole frame says, or why it is refused.
 enum GotBody {
@@ -101,7 +100,7 @@ fn read_body(s: &[u8], h: FixedHeader) -> GotBody
 // The packet at the start of the stream and the bytes it takes, or the refusal with the bytes that it takes: none while there is no
 // whole frame within the limit, else the frame.
 pub fn read(stream: &[u8], limit: Limit) -> Read
-    ensures answer { λ r. ⌜ told r ≡ readPlacedOf (limitOf limit) (now (stream .entry)) ⌝ }
+    ensures answer { λ r. ⌜ Meets limit (now (stream .entry)) r ⌝ }
     ensures within { λ r. ⌜ takenBy r ≤ length (now (stream .entry)) ⌝ }
     ensures verdict { λ r. ⌜ Judged (limitOf limit) (now (stream .entry)) r ⌝ }
 {

@@ -1,7 +1,5 @@
 -- The readers at a position of a stream: what code that holds the whole slice and a position goes by. Assumes nothing.
-use mathlib.Core.Path.{_≡_, refl, ap, _∙_}
-use mathlib.Core.Bool.{true}
-use mathlib.Core.Option.{Option}
+use mathlib.Core.Path.{_≡_, refl, ap}
 use mathlib.Core.List.{List, [], _∷_}
 use Prim.Native.Nat.{ℕ, zero, suc, _+_, _-_, _*_, _≤_, _<_}
 use native.Mathlib.Omega.{arith}
@@ -9,10 +7,10 @@ use native.Mathlib.Numerals.{add-one}
 use lib.ListN.{length, take, drop, getD, length-drop, drop-of-length-le}
 use lib.Seq.{drop-cons, drop-drop, length-take-le, take-add, drop-at}
 use Rattle.grammar.specs.Number.{bigFrom}
-use Rattle.reading.specs.Refusal.{Refusal, nr, cut, crossed, lacking, within, over}
-use Rattle.reading.specs.Reader.{Fit, got, bad, Reader, Filler, _>>=_, onlyOf, thenOf, sizedOf, isFit, handFit}
-use Rattle.reading.specs.Read.{bigOf, byteOf, groupOf, numOf, isText, anyBytes, Shape, frameOf, stringFit, bytesOf, textOf, wholeAnswer, frameAnswer, readAs}
-use Rattle.reading.specs.Place.{spanOf, asPlaces}
+use Rattle.reading.specs.Refusal.{Refusal}
+use Rattle.reading.specs.Reader.{Fit, got, bad, Reader, Filler, _>>=_, sizedOf}
+use Rattle.reading.specs.Read.{bigOf, groupOf, numOf}
+use Rattle.reading.specs.Place.{spanOf}
 use Rattle.reading.proofs.Lists.{leb-yes, leb-no, ltb-yes, ltb-no}
 
 -- k elements from index at
@@ -28,10 +26,6 @@ module _ (c : Refusal) (k at : ℕ) (s : List ℕ) where
   pub big-at : at + k ≤ length s → bigOf c k (drop at s) ≡ got (bigFrom 0 (listAt k at s), drop (at + k) s)
   unfolding bigOf
   big-at h = rw (leb-yes k (length (drop at s)) (rw length-drop (omega arith)), take-at k at s h, drop-drop k at s)
-
-  pub big-cut : length s < at + k → at ≤ length s → bigOf c k (drop at s) ≡ bad c
-  unfolding bigOf
-  big-cut h h′ = rw (leb-no k (length (drop at s)) (rw length-drop (omega arith)))
 
 -- what is read of a number so far, and what follows it
 abbrev pub scale : ℕ → ℕ → Fit (ℕ × List ℕ) → Fit (ℕ × List ℕ)
@@ -85,31 +79,6 @@ module _ (s : List ℕ) (l m : ℕ) (o : m + l ≤ length s) where
       let i : m + l - l ≡ m = omega arith in
       rw (n, i)
 
-  -- a string whose length l ends at m, of a slice that is read to its end
-  pub bytes-at : (at : ℕ) → bigOf cut 2 (drop at s) ≡ got (l, drop m s) → bytesOf asPlaces (length s) (drop at s) ≡ got (record { start = m; len = l }, drop (m + l) s)
-  unfolding bytesOf stringFit handFit isFit
-  bytes-at at e = sized-at (bigOf cut 2) crossed (stringFit asPlaces anyBytes cut) (length s) s at l m e (omega arith) o refl ∙ rw span-at
-
-  pub text-at : (at : ℕ) → bigOf cut 2 (drop at s) ≡ got (l, drop m s) → isText (take l (drop m s)) ≡ true → textOf asPlaces (length s) (drop at s) ≡ got (record { start = m; len = l }, drop (m + l) s)
-  unfolding textOf stringFit handFit isFit
-  text-at at e t = sized-at (bigOf cut 2) crossed (stringFit asPlaces isText (nr 9 [])) (length s) s at l m e (omega arith) o refl ∙ rw (t, span-at)
-
 -- the l bytes from m, as the rest from m of a slice that ends at m + l
 pub part-slice : (s : List ℕ) (l m : ℕ) → m + l ≤ length s → take l (drop m s) ≡ drop m (take (m + l) s)
 part-slice s l m o = rw (take-add m l s, drop-at (take m s) (take l (drop m s)) m (length-take-le m s (omega arith)))
-
--- a stream whose length number l ends at m, with all its bytes there: the answer is that to the frame of m + l bytes
-module _ (limit : Option ℕ) (x l m : ℕ) (t : List ℕ) (e : numOf (nr 1 (1 ∷ [])) 4 t ≡ got (l, drop m (x ∷ t))) (w : within limit l ≡ true) (o : m + l ≤ length (x ∷ t)) where
-  length-at : onlyOf (within limit) (over limit) (numOf (nr 1 (1 ∷ [])) 4) (drop 1 (x ∷ t)) ≡ got (l, drop m (x ∷ t))
-  unfolding onlyOf
-  length-at = rw (e, w)
-
-  frame-at : frameOf limit (length (x ∷ t)) (x ∷ t) ≡ got ((x, take l (drop m (x ∷ t))), drop (m + l) (x ∷ t))
-  unfolding frameOf thenOf byteOf isFit
-  frame-at = rw (sized-at (onlyOf (within limit) (over limit) (numOf (nr 1 (1 ∷ [])) 4)) lacking (λ _. isFit anyBytes cut) (length (x ∷ t)) (x ∷ t) 1 l m length-at (omega arith) o refl)
-
-  pub read-at : (h : Shape) → readAs h limit (x ∷ t) ≡ wholeAnswer h (m + l) (x, drop m (take (m + l) (x ∷ t)))
-  unfolding readAs frameAnswer
-  read-at h =
-      let n : length (x ∷ t) - length (drop (m + l) (x ∷ t)) ≡ m + l = rw length-drop (omega arith) in
-      rw (frame-at, n, part-slice (x ∷ t) l m o)

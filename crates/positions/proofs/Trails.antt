@@ -10,7 +10,7 @@ use lib.ListN.{length, take, drop, take-append-drop}
 use Rattle.grammar.specs.Choice.{lookup}
 use Rattle.grammar.specs.Gram.{Gram}
 use Rattle.grammar.specs.Tables.{Form, u8, u16, u32, number, text, bytes, pair, Place}
-use Rattle.grammar.specs.Record.{num, str, Prop, mkFilter}
+use Rattle.grammar.specs.Record.{num, str, PropOf, mkFilter}
 use Rattle.grammar.specs.Sentence.{duoOf}
 use Rattle.reading.specs.Refusal.{Refusal, cut}
 use Rattle.reading.specs.Reader.{got, Reader, Filler, mapOf, onlyOf, thenOf, sizedOf}
@@ -86,18 +86,18 @@ module _ (h : Shape) (end : ℕ) where
   trails-value bytes = trails-map trails-bytes str
   trails-value pair = trails-map (trails-then trails-text (λ _. trails-text)) duoOf
 
-  trails-at : (o : Option Form) (i : ℕ) (s : List ℕ) (z : Prop (h .Str) × List ℕ) → valueAt h o i end s ≡ got z → Ends (i ∷ s) (z .1)
+  trails-at : (o : Option Form) (i : ℕ) (s : List ℕ) (z : PropOf (h .Str) × List ℕ) → valueAt h o i end s ≡ got z → Ends (i ∷ s) (z .1)
   unfolding valueAt
   trails-at none i s = λ z e. absurd (bad-got e)
   trails-at (some f) i s = from-bind (valueOf h f end s) _ λ y e.
-      from-got (λ (z : Prop (h .Str) × List ℕ). Ends (i ∷ s) (z .1)) _ (ends-then (i ∷ s) s (y .1) (i ∷ [], refl) (trails-value f s y e))
+      from-got (λ (z : PropOf (h .Str) × List ℕ). Ends (i ∷ s) (z .1)) _ (ends-then (i ∷ s) s (y .1) (i ∷ [], refl) (trails-value f s y e))
 
   pub trails-property : (place : Place) → Trails (propertyOf h place end)
   unfolding propertyOf
   trails-property place [] = λ z e. absurd (bad-got e)
   trails-property place (i ∷ s) = trails-at (lookup place i) i s
 
-  pub trails-block : {A : Type 0} (place : Place) (f : List (Prop (h .Str)) → List ℕ → ℕ → A) → Trails (blockOf h place f end)
+  pub trails-block : {A : Type 0} (place : Place) (f : List (PropOf (h .Str)) → List ℕ → ℕ → A) → Trails (blockOf h place f end)
   unfolding blockOf
   trails-block place f = trails-sized (trails-num cut 4) _ _ end
 

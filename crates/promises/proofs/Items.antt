@@ -25,8 +25,8 @@ use Rattle.records.specs.declared.publish.MaybePublishProperties.{MaybePublishP
 use Rattle.records.specs.declared.subscribe.Subscribe.{Subscribe}
 use Rattle.records.specs.declared.subscribe.SubscribeProperties.{SubscribeProperties}
 use Rattle.records.specs.declared.subscribe.MaybeSubscribeProperties.{MaybeSubscribeProperties}
-use Rattle.packet.specs.Told.{Says}
-use Rattle.promises.specs.Reading.{Meets, UserItems, IdentifierItems, FilterItems}
+use Rattle.packet.specs.Told.{Meets, Says}
+use Rattle.promises.specs.Reading.{UserItems, IdentifierItems, FilterItems}
 use Rattle.promises.proofs.Reading.{items}
 
 -- two different constructors are not equal

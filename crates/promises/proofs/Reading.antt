@@ -28,9 +28,8 @@ use Rattle.records.specs.declared.answer.Limit.{Limit}
 use Rattle.records.specs.declared.answer.Read.{Read}
 use Rattle.records.specs.declared.error.Error.{Error}
 use Rattle.records.specs.declared.packet.Packet as code
-use Rattle.packet.specs.Told.{takenBy, Says, Judged}
+use Rattle.packet.specs.Told.{Meets, takenBy, Says, Judged}
 use Rattle.packet.proofs.Laws as packet
-use Rattle.promises.specs.Reading.{Meets}
 
 -- first one, then the other
 both : {A B C : Type 0} → A ↔ B → B ↔ C → A ↔ C

@@ -6,7 +6,7 @@ use Prim.Native.Nat.{ℕ}
 use lib.ListN.{length, drop}
 use Rattle.grammar.specs.Gram.{forget}
 use Rattle.grammar.specs.Tables.{Place, publishPlace, subscribePlace, ackPlace}
-use Rattle.grammar.specs.Record.{Val, num, str, Prop, lastFrom, PublishProps, publishProps, SubscribeProps, subscribeProps, AckProps, ackProps}
+use Rattle.grammar.specs.Record.{Val, num, str, PropOf, lastFrom, PublishProps, publishProps, SubscribeProps, subscribeProps, AckProps, ackProps}
 use Rattle.reading.specs.Refusal.{cut, crossed}
 use Rattle.reading.specs.Reader.{Fit, got, bad, Reader, sizedOf, foldFit}
 use Rattle.reading.specs.Read.{numOf, anyBytes, stringFit, propertyOf}
@@ -31,8 +31,8 @@ roomOf = sizedOf (numOf cut 4) crossed (stringFit asPlaces anyBytes cut)
 pub record Row : Type 1 where
   pub place : Place
   pub Props : Type 0
-  pub made : Span → List (Prop Span) → Props
-  pub more : Props → List (Prop Span) → Props
+  pub made : Span → List (PropOf Span) → Props
+  pub more : Props → List (PropOf Span) → Props
 
 -- 01, table of properties, row Publish; "Of a single-valued property given twice the last counts", the lists stay where they are
 abbrev pub publishRow : Row
@@ -72,7 +72,7 @@ ackRow = record {
 
 module _ (w : Row) where
   -- one property more
-  abbrev pub applied : w .Props → Prop Span → w .Props
+  abbrev pub applied : w .Props → PropOf Span → w .Props
   applied o a = w .more o (a ∷ [])
 
   -- a loop over the properties of s from index `at` to its end, o before them

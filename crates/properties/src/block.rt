@@ -1,10 +1,10 @@
 // The place of a property block: its length, as the `read`s of publish.rs, subscribe.rs and puback.rs begin. The end of the slice is
 // the end of its room.
+use numbers::got::GotU32;
+use numbers::length;
 use records::error::Error;
 use records::span::Span;
 use wire::got::GotSpan;
-use wire::got::GotU32;
-use wire::length;
 ghost use mathlib.Core.Path.{_≡_};
 ghost use lib.ListN as list;
 ghost use Rattle.positions.specs.Position.{fromAt};

@@ -184,13 +184,18 @@ fn fill(s: &[u8], block: Span) -> GotPublishBlock
     let mut p = none(block);
     let mut at = block.start;
     while at < s.len() {
-        match property_value::read_property(PropertyPlace::Publish, s, at) {
-            GotProperty::Found(k, v, next) => {
-                p = apply(p, k, v);
-                at = next;
-            }
-            GotProperty::Refused(e) => {
-                return GotPublishBlock::Refused(e);
+        let past = property_value::pass_listed(s, at);
+        if past != at {
+            at = past;
+        } else {
+            match property_value::read_property(PropertyPlace::Publish, s, at) {
+                GotProperty::Found(k, v, next) => {
+                    p = apply(p, k, v);
+                    at = next;
+                }
+                GotProperty::Refused(e) => {
+                    return GotPublishBlock::Refused(e);
+                }
             }
         }
     }

@@ -1,11 +1,11 @@
 -- What a property tells, and what the readers of one promise. Assumes nothing.
 use mathlib.Core.Path.{_≡_}
 use mathlib.Core.Option.{Option, some}
-use mathlib.Core.List.{List}
+use mathlib.Core.List.{List, [], _∷_}
 use Prim.Native.Nat.{ℕ}
 use lib.ListN.{length}
 use Rattle.grammar.specs.Choice.{lookup}
-use Rattle.grammar.specs.Record.{Val, num, str, duo, Prop}
+use Rattle.grammar.specs.Record.{Val, num, str, duo, PropOf}
 use Rattle.reading.specs.Reader.{Fit, got, bad}
 use Rattle.reading.specs.Read.{valueAt, propertyOf}
 use Rattle.reading.specs.Place.{asPlaces}
@@ -39,7 +39,7 @@ formOf (Bytes p) = tables.bytes
 formOf (Pair p q) = tables.pair
 
 -- 01, grammar: "an identifier byte and a value", and the index after them; or the refusal
-abbrev pub toldProperty : GotProperty → Fit (Prop place.Span × ℕ)
+abbrev pub toldProperty : GotProperty → Fit (PropOf place.Span × ℕ)
 toldProperty (Found k v n) = got ((k, toldValue v), n)
 toldProperty (Refused e) = bad (toldError e)
 
@@ -57,3 +57,20 @@ pub record ValueRead (o : Option tables.Form) (k : ℕ) (s : List ℕ) (at : ℕ
 pub record PropertyRead (row : tables.Place) (s : List ℕ) (at : ℕ) (r : GotProperty) : Type 0 where
   pub says : toldProperty r ≡ fromAt (propertyOf asPlaces row (length s)) s at
   pub typed : Typed (lookup row) r
+
+-- 01, grammar: "38, and 11 in Publish, are lists kept in order": their entries in row Publish
+abbrev pub publishLists : tables.Place
+publishLists = (38, tables.pair) ∷ (11, tables.number) ∷ []
+
+-- the index after what was read; `at` if it was refused
+abbrev pub nextOr : {A : Type 0} → ℕ → Fit (A × ℕ) → ℕ
+nextOr at (got z) = z .1
+nextOr at (bad k) = at
+
+-- the index after a value of the form f at `start`; `at` if none stands there
+pub record ValuePassed (f : tables.Form) (k : ℕ) (s : List ℕ) (at start r : ℕ) : Type 0 where
+  pub says : r ≡ nextOr at (fromAt (valueAt asPlaces (some f) k (length s)) s start)
+
+-- the index after the property at index `at` of s, in a row; `at` if none stands there
+pub record PropertyPassed (row : tables.Place) (s : List ℕ) (at r : ℕ) : Type 0 where
+  pub says : r ≡ nextOr at (fromAt (propertyOf asPlaces row (length s)) s at)

@@ -1,21 +1,21 @@
 // One property at an index of a slice, an identifier byte and a value: the body of the loops in publish.rs, subscribe.rs and puback.rs,
 // once for all places. The end of the slice is the end of its room.
+use numbers::fixed;
+use numbers::got::GotU8;
+use numbers::got::GotU16;
+use numbers::got::GotU32;
+use numbers::length;
 use records::error::Error;
 use records::span::Span;
-use wire::fixed;
 use wire::got::GotSpan;
-use wire::got::GotU8;
-use wire::got::GotU16;
-use wire::got::GotU32;
-use wire::length;
 use wire::property;
 use wire::property::PropertyForm;
 use wire::property::PropertyPlace;
 use wire::string;
 ghost use mathlib.Core.Option.{some};
-ghost use Rattle.grammar.specs.Tables.{pair};
+ghost use Rattle.grammar.specs.Tables.{number, pair};
 ghost use Rattle.wire.specs.Property.{placeOf, toldForm};
-ghost use Rattle.property_value.specs.Told.{ValueRead, PropertyRead};
+ghost use Rattle.property_value.specs.Told.{ValueRead, PropertyRead, publishLists, ValuePassed, PropertyPassed};
 
 // A value, by its form.
 pub enum Value {
@@ -90,5 +90,43 @@ pub fn read_property(place: PropertyPlace, s: &[u8], at: usize) -> GotProperty
             let form = property::property(place, k);
             read_value(form, k, s, next)
         }
+    }
+}
+
+// The index after the two texts of a user property, which begin at `start`; `at` if they do not stand there.
+fn pass_pair(s: &[u8], at: usize, start: usize) -> usize
+    ensures { λ r. ⌜ ValuePassed pair 38 (now (s .entry)) at start r ⌝ }
+{
+    match string::read_mqtt_string(s, start) {
+        GotSpan::Refused(_) => at,
+        GotSpan::Value(_, m) => match string::read_mqtt_string(s, m) {
+            GotSpan::Refused(_) => at,
+            GotSpan::Value(_, n) => n,
+        },
+    }
+}
+
+// The same of the number of a subscription identifier.
+fn pass_number(s: &[u8], at: usize, start: usize) -> usize
+    ensures { λ r. ⌜ ValuePassed number 11 (now (s .entry)) at start r ⌝ }
+{
+    match length::read_length(s, start) {
+        GotU32::Refused(_) => at,
+        GotU32::Value(_, n) => n,
+    }
+}
+
+// The index after a property that a Publish keeps in a list, which the loop over its block passes over; `at` if none stands there whole.
+// The answer is one number, and no place of it is kept in memory.
+pub fn pass_listed(s: &[u8], at: usize) -> usize
+    ensures { λ r. ⌜ PropertyPassed publishLists (now (s .entry)) at r ⌝ }
+{
+    match fixed::read_u8(s, at) {
+        GotU8::Refused(_) => at,
+        GotU8::Value(k, start) => match k {
+            38 => pass_pair(s, at, start),
+            11 => pass_number(s, at, start),
+            0..=10 | 12..=37 | 39..=255 => at,
+        },
     }
 }

@@ -1,18 +1,17 @@
--- What the answers on a PubAck tell, and which of its places its parts are. Assumes nothing.
+-- What the answers on a PubAck tell, and what its part is. Assumes nothing.
 use mathlib.Core.Option.{Option}
 use mathlib.Core.List.{List}
 use Prim.Native.Nat.{ℕ}
 use Rattle.grammar.specs.Tables.{reasons}
-use Rattle.grammar.specs.Record.{AckProps, ack}
+use Rattle.grammar.specs.Record.{Val, AckProps, ack}
 use Rattle.reading.specs.Reader.{Fit, got, bad, _>>=_}
 use Rattle.reading.specs.Read.{ackRestFit}
-use Rattle.reading.specs.Place.{asPlaces, Placed}
+use Rattle.reading.specs.Place.{asPlaces, Placed, heldOf}
 use Rattle.reading.specs.Place as place
 use Rattle.records.specs.Told.{toldError}
 use Rattle.records.specs.Said.{toldPubAck, toldPubAckBlock}
-use Rattle.records.specs.declared.puback.PubAckProperties.{PubAckProperties}
-use Rattle.records.specs.declared.puback.MaybePubAckProperties.{MaybePubAckProperties}
-use Rattle.records.specs.declared.span.MaybeSpan.{MaybeSpan}
+use Rattle.records.specs.declared.puback.PubAck.{PubAck}
+use Rattle.wire.specs.Told.{stringIf, inBlock}
 use Rattle.puback.specs.declared.GotPubAck.{GotPubAck}
 use Rattle.puback.specs.declared.GotLastBlock.{GotLastBlock}
 
@@ -26,11 +25,6 @@ abbrev pub toldLastBlock : GotLastBlock → Fit (Option (AckProps place.Span (λ
 toldLastBlock (GotLastBlock.Value p) = got (toldPubAckBlock p)
 toldLastBlock (GotLastBlock.Refused e) = bad (toldError e)
 
--- a place of the block, if there is a block
-abbrev pub inBlock : (PubAckProperties → MaybeSpan) → MaybePubAckProperties → MaybeSpan
-inBlock f MaybePubAckProperties.Absent = MaybeSpan.Absent
-inBlock f (MaybePubAckProperties.Present p) = f p
-
 -- 01, grammar, PubAck: the identifier, then a reason and a block
 abbrev pub acked : ℕ → ℕ × Option (AckProps place.Span (λ A. place.Span)) → Fit Placed
 acked i v = got (ack 4 (record { ident = i; reason = v .0; props = v .1 }))
@@ -38,3 +32,13 @@ acked i v = got (ack 4 (record { ident = i; reason = v .0; props = v .1 }))
 -- 01, grammar, PubAck: what follows the identifier, in bytes that end at index `end`
 abbrev pub restOf : ℕ → ℕ → List ℕ → Fit Placed
 restOf i end b = ackRestFit asPlaces reasons end b >>= acked i
+
+-- ---- the reason string
+
+-- 01, table of properties, 31: the reason string of m; absent where there is no block
+abbrev pub reason : PubAck → Option (Val place.Span)
+reason m = inBlock (λ ps. ps .reason) (toldPubAckBlock (m .properties))
+
+-- the part of it in the stream s; demand 1: any record with any stream, so what lies outside is empty, and what is absent
+abbrev pub reasonIn : List ℕ → PubAck → List ℕ
+reasonIn s m = stringIf (heldOf s) (reason m)

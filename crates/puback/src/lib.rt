@@ -1,4 +1,6 @@
 // A PubAck, after puback.rs: the read of its fields (MQTT 3.4), and its reason string as a part of the stream.
+use numbers::fixed;
+use numbers::got::GotU16;
 use properties::puback;
 use properties::puback::GotPubAckBlock;
 use records::error::Error;
@@ -6,8 +8,7 @@ use records::puback::GotReason;
 use records::puback::MaybePubAckProperties;
 use records::puback::PubAck;
 use records::puback::PubAckReason;
-use wire::fixed;
-use wire::got::GotU16;
+use records::span::MaybeSpan;
 use wire::string;
 ghost use mathlib.Core.Path.{_≡_};
 ghost use Prim.Native.Nat.{ℕ};
@@ -16,8 +17,8 @@ ghost use Rattle.grammar.specs.Tables.{anAck, reasons};
 ghost use Rattle.grammar.specs.Record.{kindOf};
 ghost use Rattle.reading.specs.Read.{ackBlockFit, fieldsFit};
 ghost use Rattle.reading.specs.Place.{asPlaces};
-ghost use Rattle.wire.specs.Told.{heldIf};
-ghost use Rattle.puback.specs.Told.{toldGotPubAck, toldLastBlock, restOf, inBlock};
+ghost use Rattle.records.specs.Told.{toldString};
+ghost use Rattle.puback.specs.Told.{toldGotPubAck, toldLastBlock, restOf, reason, reasonIn};
 
 pub enum GotPubAck {
     Value(PubAck),
@@ -82,16 +83,23 @@ pub fn read(s: &[u8], at: usize) -> GotPubAck
     }
 }
 
-// The reason string of `m`, which was read from `s`; the empty part if it is absent or lies outside.
-pub fn reason_string<'a>(s: &'a [u8], m: PubAck) -> &'a [u8]
-    ensures { λ r. ⌜ now r ≡ heldIf (now (s .entry)) (inBlock (λ p. p .«reason_string») (m .properties)) ⌝ }
+// Where the reason string stands; absent where there is no block.
+fn reason_place(m: PubAck) -> MaybeSpan
+    ensures { λ r. ⌜ toldString r ≡ reason m ⌝ }
 {
     let properties = m.properties;
     match properties {
-        MaybePubAckProperties::Absent => &s[..0],
+        MaybePubAckProperties::Absent => MaybeSpan::Absent,
         MaybePubAckProperties::Present(p) => {
             let place = p.reason_string;
-            string::part_if(s, place)
+            place
         }
     }
+}
+
+// The reason string of `m`, which was read from `s`; the empty part if it is absent or lies outside.
+pub fn reason_string<'a>(s: &'a [u8], m: PubAck) -> &'a [u8]
+    ensures { λ r. ⌜ now r ≡ reasonIn (now (s .entry)) m ⌝ }
+{
+    string::part_if(s, reason_place(m))
 }

@@ -1,6 +1,6 @@
 -- What is found of an acknowledgement, and its bytes. Assumes nothing.
 use mathlib.Core.Path.{_≡_, refl, sym, ap, _∙_}
-use mathlib.Core.Bool.{Bool, true, false, not, _&&_}
+use mathlib.Core.Bool.{Bool, true, false, not, _&&_, and-true}
 use mathlib.Core.List.{List, [], _∷_, _++_, append-nil}
 use Prim.Native.Nat.{ℕ, _+_, _≤_, _<_, min}
 use native.Mathlib.Omega.{arith}
@@ -9,8 +9,7 @@ use lib.ListN.{length}
 use lib.Seq.{sets}
 use Rattle.grammar.specs.Choice.{pick}
 use Rattle.grammar.specs.Tables.{text, pair, ackPlace}
-use Rattle.reading.specs.Refusal.{Refusal}
-use Rattle.reading.specs.Reader.{got, bad, _>>_}
+use Rattle.reading.specs.Reader.{Fit, got}
 use Rattle.writing.specs.Lists.{flat}
 use Rattle.writing.specs.Handed.{AckHanded, ack, lent, pairs, ackGiven, rowBelongs, belongs}
 use Rattle.writing.specs.Size.{most, withLength, givenSize, propsSize, isPlain, restIs, cap}
@@ -21,21 +20,17 @@ use Rattle.writing.proofs.ForCode.{judgeAll, judge-if, ack-belongs, ack-tests, 
 use Rattle.writing.proofs.Pins.{ack-props, first-bytes}
 use Rattle.records.specs.declared.puback.PubAckReason.{PubAckReason}
 use Rattle.records.specs.Told.{toldReason}
-use Rattle.wire.proofs.Laws.Put.{length-wide, wide-one}
-use Rattle.rows.specs.Put.{Put}
+use Rattle.numbers.proofs.Laws.Put.{length-wide, wide-one}
+use Rattle.rows.specs.Tested.{first}
+use Rattle.rows.proofs.Laws.Size.{cap-left, cap-last}
+use Rattle.row_puts.specs.Put.{Put}
+use Rattle.row_puts.proofs.Laws.{store-next, put-next, next-last}
 use Rattle.settle.specs.Found.{earlyOf, lateOf}
-use Rattle.settle.proofs.Laws.{cap-left, cap-last, Upto, upto-start, upto-sets, upto-put, upto-last}
-
-and-true : (c : Bool) → (c && true) ≡ c
-and-true true = refl
-and-true false = refl
+use Rattle.settle.proofs.Laws.{early-fields}
 
 module _ (h : AckHanded) where
-  pub ack-foreign : (b : Bool) → b ≡ rowBelongs (h .block) (lent (h .text)) → b ≡ false → false ≡ belongs (ack 4 h)
-  ack-foreign b e f = sym (ack-belongs 4 h ∙ rw (← e, f))
-
-  pub ack-both : (b c : Bool) → b ≡ rowBelongs (h .block) (lent (h .text)) → b ≡ true → c ≡ rowBelongs (h .block) (pairs (h .user)) → c ≡ belongs (ack 4 h)
-  ack-both b c e f g = sym (ack-belongs 4 h ∙ rw (← e, f, ← g) (and-true c))
+  pub belong-all : {x y r : Bool} → x ≡ rowBelongs (h .block) (lent (h .text)) → y ≡ rowBelongs (h .block) (pairs (h .user)) → r ≡ (x && y) → r ≡ belongs (ack 4 h)
+  belong-all {y = y} e f g = sym (ack-belongs 4 h ∙ rw (← e, ← f, and-true y, ← g))
 
   pub ack-length : (a b r : ℕ) → a ≡ cap (givenSize text (lent (h .text))) → b ≡ cap (givenSize pair (pairs (h .user))) → r ≡ cap (a + b) → r ≡ cap (propsSize ackPlace (ackGiven h))
   ack-length a b r e f g = g ∙ cap-last a b (givenSize text (lent (h .text))) (givenSize pair (pairs (h .user))) e f ∙ ap cap (sym (ack-sum h))
@@ -56,15 +51,9 @@ module _ (h : AckHanded) where
 
   -- ---- 20 and the fields
 
-  module _ (b : Bool) (e : b ≡ belongs (ack 4 h)) (f : b ≡ true) where
-    tests : earlyOf (ack 4 h) ≡ (judge (flat fieldTests (givenFields text (lent (h .text)))) >> judgeAll (h .user))
-    tests = rw (← e, f, judge-if (h .text .on) (word (h .text .bytes))) (ack-tests 4 h)
-
-    pub early-text : (k : Refusal) → bad k ≡ judge (flat fieldTests (givenFields text (lent (h .text)))) → bad k ≡ earlyOf (ack 4 h)
-    early-text k j = sym (tests ∙ rw (← j))
-
-    pub early-user : got tt ≡ judge (flat fieldTests (givenFields text (lent (h .text)))) → judgeAll (h .user) ≡ earlyOf (ack 4 h)
-    early-user j = sym (tests ∙ rw (← j))
+  pub early-all : {b : Bool} {x y r : Fit (Unit {0})} → b ≡ belongs (ack 4 h) → b ≡ true → x ≡ judge (flat fieldTests (givenFields text (lent (h .text)))) → y ≡ judgeAll (h .user)
+      → r ≡ first x y → r ≡ earlyOf (ack 4 h)
+  early-all {b} e f i j k = k ∙ rw (i, j, judge-if (h .text .on) (word (h .text .bytes))) (sym (ack-tests 4 h)) ∙ early-fields (ack 4 h) b e f
 
   pub ack-late : got tt ≡ lateOf (ack 4 h)
   unfolding judge
@@ -90,15 +79,15 @@ module _ (h : AckHanded) where
         let i : len ≡ restIs (ack 4 h) = l ∙ cap-small (restIs (ack 4 h)) s in
         ack-frame 4 h e ∙ rw (i, first-bytes .0)
 
-    headed : Upto before 0 (frameBytes (ack 4 h)) out₁ first (wide 2 (h .ident) ++ pick (isPlain h) [] behind)
-    headed = upto-put (upto-start before 0 (frameBytes (ack 4 h))) (0x40 ∷ short len) (wide 2 (h .ident) ++ pick (isPlain h) [] behind) frame out₁ n p first m
-
     pub put-plain : isPlain h ≡ true → out₂ ≡ sets before 0 (frameBytes (ack 4 h))
-    put-plain t = upto-last headed (wide 2 (h .ident)) (rw t (append-nil (wide 2 (h .ident)))) out₂ q
+    put-plain t =
+        let f : frameBytes (ack 4 h) ≡ (0x40 ∷ short len) ++ wide 2 (h .ident) = frame ∙ rw (t, append-nil (wide 2 (h .ident))) in
+        next-last (put-next p m) (wide 2 (h .ident)) q ∙ ap (sets before 0) (sym f)
 
     pub put-full : isPlain h ≡ false → (out₃ : List ℕ) (second : ℕ) → second ≡ min (first + 2) (length out₂) → out₃ ≡ sets out₂ second behind → out₃ ≡ sets before 0 (frameBytes (ack 4 h))
     put-full t out₃ second o r =
-        upto-last (upto-sets headed (wide 2 (h .ident)) behind (rw t) out₂ q second (o ∙ rw (length-wide 2 (h .ident)))) behind refl out₃ r
+        let f : frameBytes (ack 4 h) ≡ (0x40 ∷ short len) ++ (wide 2 (h .ident) ++ behind) = frame ∙ rw t in
+        next-last (put-next p m) (wide 2 (h .ident) ++ behind) (next-last (store-next (wide 2 (h .ident)) q (sym (length-wide 2 (h .ident))) o) behind r) ∙ ap (sets before 0) (sym f)
 
   pub put-behind : (before out₁ out₂ out₃ out₄ : List ℕ) (at len first n second k third j : ℕ) → len ≡ cap (propsSize ackPlace (ackGiven h)) → h .reason < 256
       → out₁ ≡ sets before at (wide 1 (h .reason)) → first ≡ min (at + 1) (length out₁)
@@ -108,11 +97,12 @@ module _ (h : AckHanded) where
       → propsSize ackPlace (ackGiven h) ≤ most → out₄ ≡ sets before at behind
   put-behind before out₁ out₂ out₃ out₄ at len first n second k third j l b q₁ m₁ (q₂, c₂) m₂ p₃ m₃ p₄ s =
       let i : len ≡ propsSize ackPlace (ackGiven h) = l ∙ cap-small (propsSize ackPlace (ackGiven h)) s in
-      let rest₁ : List ℕ = short (propsSize ackPlace (ackGiven h)) ++ propsBytes ackPlace (ackGiven h) in
-      let u₁ : Upto before at behind out₁ first rest₁ = upto-sets (upto-start before at behind) (h .reason ∷ []) rest₁ refl out₁ (q₁ ∙ rw (← wide-one b)) first m₁ in
-      let u₂ : Upto before at behind out₂ second (propsBytes ackPlace (ackGiven h)) = upto-sets u₁ (short len) (propsBytes ackPlace (ackGiven h)) (rw i) out₂ q₂ second (rw c₂ at m₂) in
-      let u₃ = upto-put u₂ (rowBytes (31, text) (lent (h .text))) (rowBytes (38, pair) (pairs (h .user)) ++ []) (ack-props h) out₃ k p₃ third m₃ in
-      upto-last u₃ (rowBytes (38, pair) (pairs (h .user))) (append-nil (rowBytes (38, pair) (pairs (h .user)))) out₄ (p₄ .stores)
+      let q : out₁ ≡ sets before at (h .reason ∷ []) = q₁ ∙ rw (← wide-one b) in
+      let t : List ℕ = rowBytes (31, text) (lent (h .text)) in
+      let u : List ℕ = rowBytes (38, pair) (pairs (h .user)) in
+      rw (← i, ack-props h, append-nil u)
+      (next-last (store-next (h .reason ∷ []) {l = before} {n = 1} q refl m₁) (short len ++ (t ++ u))
+      (next-last (store-next (short len) q₂ c₂ m₂) (t ++ u) (next-last (put-next p₃ m₃) u (p₄ .stores))))
 
 -- ---- whether it is a plain success
 

@@ -1,5 +1,7 @@
 // A PubAck, written, after `write` and `size` of puback.rs: first every refusal and the size, touching nothing, then the bytes. A plain
 // success is four bytes.
+use numbers::fixed;
+use numbers::length::write_remaining_length;
 use records::answer::Limit;
 use records::answer::Sized;
 use records::answer::Written;
@@ -7,13 +9,10 @@ use records::error::Error;
 use records::puback::PubAckReason;
 use records::puback::reason_code;
 use rows::belong;
-use rows::put;
 use rows::run;
 use rows::size;
 use rows::test;
 use rows::test::Tested;
-use wire::fixed;
-use wire::length::write_remaining_length;
 ghost use mathlib.Core.Path.{_≡_};
 ghost use mathlib.Core.Bool.{true};
 ghost use mathlib.Core.List.{[], _∷_, _++_};
@@ -44,10 +43,10 @@ pub struct PubAckHead {
 fn belongs(m: PubAckHead, reason_string: &[u8], user: &[u8], user_lengths: &[usize]) -> bool
     ensures { λ r. ⌜ r ≡ belongsOf (ack 4 (handed m (now («reason_string» .entry)) (now (user .entry)) (now («user_lengths» .entry)))) ⌝ }
 {
-    if !belong::lent_belongs(m.block, m.reason_string, reason_string) {
-        return false;
-    }
-    belong::pairs_belong(m.block, user, user_lengths)
+    belong::both(
+        belong::lent_belongs(m.block, m.reason_string, reason_string),
+        belong::pairs_belong(m.block, user, user_lengths),
+    )
 }
 
 // L, cut off where it is too large.
@@ -99,10 +98,10 @@ fn early(m: PubAckHead, reason_string: &[u8], user: &[u8], user_lengths: &[usize
     if !belongs(m, reason_string, user, user_lengths) {
         return Tested::Refused(Error::ListMismatch);
     }
-    match test::test_text(m.reason_string, reason_string) {
-        Tested::Refused(e) => Tested::Refused(e),
-        Tested::Fine => test::test_words(user, user_lengths),
-    }
+    test::then(
+        test::test_text(m.reason_string, reason_string),
+        test::test_words(user, user_lengths),
+    )
 }
 
 // The reason, L and the properties.
@@ -122,9 +121,9 @@ fn put_block(
     let first = run::after(out.len(), at, 1);
     let n = write_remaining_length(&mut *out, first, len);
     let second = run::after(out.len(), first, n);
-    let k = put::put_lent(&mut *out, second, 31, m.reason_string, reason_string);
+    let k = row_puts::put_lent(&mut *out, second, 31, m.reason_string, reason_string);
     let third = run::after(out.len(), second, k);
-    put::put_pairs(&mut *out, third, user, user_lengths);
+    row_puts::put_pairs(&mut *out, third, user, user_lengths);
 }
 
 // The frame.

@@ -1,14 +1,19 @@
 // A Publish, after publish.rs: the read of its fields, and its strings as parts of the stream.
+use numbers::fixed;
+use numbers::got::GotU16;
 use properties::publish;
 use properties::publish::GotPublishBlock;
 use records::error::Error;
 use records::publish::MaybePublishProperties;
 use records::publish::Publish;
+use records::publish::PublishProperties;
 use records::qos::QoS;
+use records::span::MaybeSpan;
+use records::span::MaybeU8;
+use records::span::MaybeU16;
+use records::span::MaybeU32;
 use records::span::Span;
-use wire::fixed;
 use wire::got::GotSpan;
-use wire::got::GotU16;
 use wire::qos;
 use wire::qos::GotQos;
 use wire::string;
@@ -17,11 +22,12 @@ ghost use Prim.Native.Nat.{_%_, _≤_};
 ghost use lib.ListN.{length, drop};
 ghost use Rattle.grammar.specs.Tables.{aPublish};
 ghost use Rattle.reading.specs.Read.{identOf, bytesOf, fieldsFit};
-ghost use Rattle.reading.specs.Place.{asPlaces, heldOf};
+ghost use Rattle.reading.specs.Place.{asPlaces};
 ghost use Rattle.positions.specs.Position.{fromAt};
-ghost use Rattle.records.specs.Told.{toldBool, toldQoS, toldSpan};
-ghost use Rattle.wire.specs.Told.{toldU16, toldPart, heldIf};
-ghost use Rattle.publish.specs.Told.{toldGotPublish, inBlock};
+ghost use Rattle.records.specs.Told.{toldBool, toldQoS};
+ghost use Rattle.numbers.specs.Told.{toldGotU16};
+ghost use Rattle.wire.specs.Told.{toldPart};
+ghost use Rattle.publish.specs.Told.{toldGotPublish, topicIn, payloadIn, Strings, responseIn, correlationIn, contentIn};
 
 pub enum GotPublish {
     Value(Publish),
@@ -37,7 +43,7 @@ fn read_topic(s: &[u8], at: usize) -> GotSpan
 
 // An identifier that must not be 0: 7, then 12.
 fn read_some_pkid(s: &[u8], at: usize) -> GotU16
-    ensures { λ r. ⌜ toldU16 r ≡ fromAt (identOf 1) (now (s .entry)) at ⌝ }
+    ensures { λ r. ⌜ toldGotU16 r ≡ fromAt (identOf 1) (now (s .entry)) at ⌝ }
 {
     match fixed::read_u16(s, at) {
         GotU16::Refused(e) => GotU16::Refused(e),
@@ -53,7 +59,7 @@ fn read_some_pkid(s: &[u8], at: usize) -> GotU16
 // The identifier, which stands there only if QoS is 1 or 2.
 fn read_pkid(s: &[u8], at: usize, qos: QoS) -> GotU16
     requires { ⌜ at ≤ length (now s) ⌝ }
-    ensures { λ r. ⌜ toldU16 r ≡ fromAt (identOf (toldQoS qos)) (now (s .entry)) at ⌝ }
+    ensures { λ r. ⌜ toldGotU16 r ≡ fromAt (identOf (toldQoS qos)) (now (s .entry)) at ⌝ }
 {
     match qos {
         QoS::AtMostOnce => GotU16::Value(0, at),
@@ -105,53 +111,57 @@ pub fn read(s: &[u8], at: usize, byte1: u8) -> GotPublish
 
 // The topic of `m`, which was read from `s`; the empty part if it lies outside. The same goes for every part.
 pub fn topic<'a>(s: &'a [u8], m: Publish) -> &'a [u8]
-    ensures { λ r. ⌜ now r ≡ heldOf (now (s .entry)) (toldSpan (m .topic)) ⌝ }
+    ensures { λ r. ⌜ now r ≡ topicIn (now (s .entry)) m ⌝ }
 {
     string::part(s, m.topic)
 }
 
 pub fn payload<'a>(s: &'a [u8], m: Publish) -> &'a [u8]
-    ensures { λ r. ⌜ now r ≡ heldOf (now (s .entry)) (toldSpan (m .payload)) ⌝ }
+    ensures { λ r. ⌜ now r ≡ payloadIn (now (s .entry)) m ⌝ }
 {
     string::part(s, m.payload)
 }
 
-// Empty if it is absent, as the next two.
-pub fn response_topic<'a>(s: &'a [u8], m: Publish) -> &'a [u8]
-    ensures { λ r. ⌜ now r ≡ heldIf (now (s .entry)) (inBlock (λ p. p .«response_topic») (m .properties)) ⌝ }
+// The properties, each of them absent where there is no block.
+fn given(m: Publish) -> PublishProperties
+    ensures { λ r. ⌜ Strings m r ⌝ }
 {
     let properties = m.properties;
     match properties {
-        MaybePublishProperties::Absent => &s[..0],
-        MaybePublishProperties::Present(p) => {
-            let place = p.response_topic;
-            string::part_if(s, place)
-        }
+        MaybePublishProperties::Present(p) => p,
+        MaybePublishProperties::Absent => PublishProperties {
+            payload_format_indicator: MaybeU8::Absent,
+            message_expiry_interval: MaybeU32::Absent,
+            topic_alias: MaybeU16::Absent,
+            response_topic: MaybeSpan::Absent,
+            correlation_data: MaybeSpan::Absent,
+            content_type: MaybeSpan::Absent,
+            block: Span { start: 0, len: 0 },
+        },
     }
+}
+
+// Empty if it is absent, as the next two.
+pub fn response_topic<'a>(s: &'a [u8], m: Publish) -> &'a [u8]
+    ensures { λ r. ⌜ now r ≡ responseIn (now (s .entry)) m ⌝ }
+{
+    let p = given(m);
+    let place = p.response_topic;
+    string::part_if(s, place)
 }
 
 pub fn correlation_data<'a>(s: &'a [u8], m: Publish) -> &'a [u8]
-    ensures { λ r. ⌜ now r ≡ heldIf (now (s .entry)) (inBlock (λ p. p .«correlation_data») (m .properties)) ⌝ }
+    ensures { λ r. ⌜ now r ≡ correlationIn (now (s .entry)) m ⌝ }
 {
-    let properties = m.properties;
-    match properties {
-        MaybePublishProperties::Absent => &s[..0],
-        MaybePublishProperties::Present(p) => {
-            let place = p.correlation_data;
-            string::part_if(s, place)
-        }
-    }
+    let p = given(m);
+    let place = p.correlation_data;
+    string::part_if(s, place)
 }
 
 pub fn content_type<'a>(s: &'a [u8], m: Publish) -> &'a [u8]
-    ensures { λ r. ⌜ now r ≡ heldIf (now (s .entry)) (inBlock (λ p. p .«content_type») (m .properties)) ⌝ }
+    ensures { λ r. ⌜ now r ≡ contentIn (now (s .entry)) m ⌝ }
 {
-    let properties = m.properties;
-    match properties {
-        MaybePublishProperties::Absent => &s[..0],
-        MaybePublishProperties::Present(p) => {
-            let place = p.content_type;
-            string::part_if(s, place)
-        }
-    }
+    let p = given(m);
+    let place = p.content_type;
+    string::part_if(s, place)
 }

@@ -1,3 +1,2 @@
-pub mod Given
 pub mod Plan
 pub mod Put

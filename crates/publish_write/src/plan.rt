@@ -1,59 +1,27 @@
-// The refusals and the size of a Publish, touching nothing (01, writing order), after `len` and `size` of publish.rs.
+// What is found of a Publish before a byte is put, touching nothing (01, writing order), after `len` and `size` of publish.rs.
 use crate::head::PublishHead;
-use records::answer::Limit;
 use records::error::Error;
 use records::qos::qos_number;
 use rows::belong;
+use rows::belong::both;
 use rows::size;
 use rows::test;
 use rows::test::Tested;
-use wire::length::len_len;
+use rows::test::then;
 ghost use mathlib.Core.Path.{_≡_};
-ghost use mathlib.Core.Bool.{_&&_, _||_};
+ghost use mathlib.Core.Bool.{_||_};
 ghost use mathlib.Core.List.{List};
-ghost use Prim.Native.Nat.{ℕ, _+_, _≤_};
+ghost use Prim.Native.Nat.{ℕ};
 ghost use lib.Dec.{eqb};
-ghost use lib.ListN as list;
 ghost use Rattle.grammar.specs.Tables.{publishPlace};
 ghost use Rattle.grammar.specs.Sentence.{notZero};
-ghost use Rattle.reading.specs.Reader.{guard};
 ghost use Rattle.writing.specs.Lists.{flat};
 ghost use Rattle.writing.specs.Handed.{publish, publishGiven, belongs};
-ghost use Rattle.writing.specs.Size.{most, withLength, propsSize, noIdent, identSize, restIs, cap};
-ghost use Rattle.writing.specs.Order.{judge, fieldTests, fieldsOf, limitTests, permit};
-ghost use Rattle.records.specs.Told.{toldError, toldQoS, limitOf};
+ghost use Rattle.writing.specs.Size.{propsSize, noIdent, identSize, restIs, cap};
+ghost use Rattle.writing.specs.Order.{judge, fieldTests, fieldsOf};
 ghost use Rattle.rows.specs.Tested.{toldTested};
-ghost use Rattle.publish_write.specs.Handed.{handed, first, settles};
-
-const MOST: usize = 268435455;
-
-fn both(a: bool, b: bool) -> bool
-    ensures { λ r. ⌜ r ≡ (a && b) ⌝ }
-{
-    if a {
-        return b;
-    }
-    false
-}
-
-// The first refusal of two.
-fn then(a: Tested, b: Tested) -> Tested
-    ensures { λ r. ⌜ toldTested r ≡ first (toldTested a) (toldTested b) ⌝ }
-{
-    match a {
-        Tested::Refused(e) => Tested::Refused(e),
-        Tested::Fine => b,
-    }
-}
-
-fn refuse_unless(ok: bool, e: Error) -> Tested
-    ensures { λ r. ⌜ toldTested r ≡ guard ok (toldError e) ⌝ }
-{
-    if ok {
-        return Tested::Fine;
-    }
-    Tested::Refused(e)
-}
+ghost use Rattle.settle.specs.Found.{earlyOf, lateOf};
+ghost use Rattle.publish_write.specs.Handed.{handed};
 
 // 20: the eight rows.
 pub fn all_belong(
@@ -106,6 +74,42 @@ fn test_fields(
     then(
         test::test_raw(topic),
         then(response, then(correlation, lists)),
+    )
+}
+
+// 20, then the fields.
+pub fn early(
+    head: PublishHead,
+    topic: &[u8],
+    response_topic: &[u8],
+    correlation_data: &[u8],
+    user: &[u8],
+    user_lengths: &[usize],
+    subscription_identifiers: &[u32],
+    content_type: &[u8],
+) -> Tested
+    ensures { λ r. ⌜ ((p : List ℕ) → toldTested r ≡ earlyOf (publish (handed head (now (topic .entry)) (now («response_topic» .entry)) (now («correlation_data» .entry)) (now (user .entry)) (now («user_lengths» .entry)) (now («subscription_identifiers» .entry)) (now («content_type» .entry)) p))) ⌝ }
+{
+    let together = all_belong(
+        head,
+        response_topic,
+        correlation_data,
+        user,
+        user_lengths,
+        subscription_identifiers,
+        content_type,
+    );
+    if !together {
+        return Tested::Refused(Error::ListMismatch);
+    }
+    test_fields(
+        head,
+        topic,
+        response_topic,
+        correlation_data,
+        user,
+        user_lengths,
+        content_type,
     )
 }
 
@@ -169,6 +173,17 @@ fn is_named(qos: u8, pkid: u16) -> bool
     pkid != 0
 }
 
+// 12, then 17 for identifiers.
+pub fn late(head: PublishHead, subscription_identifiers: &[u32]) -> Tested
+    ensures { λ r. ⌜ ((t a b u l c p : List ℕ) → toldTested r ≡ lateOf (publish (handed head t a b u l (now («subscription_identifiers» .entry)) c p))) ⌝ }
+{
+    let qos = head.qos;
+    if !is_named(qos_number(qos), head.pkid) {
+        return Tested::Refused(Error::PacketIdZero);
+    }
+    test::test_numbers(subscription_identifiers)
+}
+
 // R, cut off above the largest; `properties` is L, cut off.
 fn rest_size(head: PublishHead, topic: &[u8], properties: usize, payload: &[u8]) -> usize
     ensures { λ r. ⌜ ((a b u l i c : List ℕ) → properties ≡ cap (propsSize publishPlace (publishGiven (handed head (now (topic .entry)) a b u l i c (now (payload .entry))))) → r ≡ cap (restIs (publish (handed head (now (topic .entry)) a b u l i c (now (payload .entry)))))) ⌝ }
@@ -177,97 +192,6 @@ fn rest_size(head: PublishHead, topic: &[u8], properties: usize, payload: &[u8])
     let block = size::add(size::with_length(properties), payload.len());
     let pkid = pkid_size(qos_number(qos), head.pkid);
     size::add(2 + topic.len(), size::add(pkid, block))
-}
-
-// The first byte, R, and R bytes; 0 if R is too large.
-pub fn frame_size(rest: usize) -> usize
-    ensures { λ r. ⌜ (rest ≤ most → r ≡ 1 + withLength rest) ⌝ }
-{
-    if MOST < rest {
-        return 0;
-    }
-    1 + len_len(rest) + rest
-}
-
-// 16.
-fn within(limit: Limit, n: usize) -> Tested
-    ensures { λ r. ⌜ toldTested r ≡ judge (limitTests (limitOf limit) n) ⌝ }
-{
-    match limit {
-        Limit::Unlimited => Tested::Fine,
-        Limit::AtMost(m) => {
-            let ok = n <= m;
-            refuse_unless(ok, Error::OutgoingPacketTooLarge(n, m))
-        }
-    }
-}
-
-// What is left after the fields: 17 for R, 16, 12, 17 for identifiers, 19.
-fn settled(
-    head: PublishHead,
-    subscription_identifiers: &[u32],
-    rest: usize,
-    limit: Limit,
-    room: usize,
-) -> Tested
-    ensures { λ r. ⌜ toldTested r ≡ settles (limitOf limit) room rest (eqb (toldQoS (head .qos)) 0 || notZero (head .pkid)) (now («subscription_identifiers» .entry)) ⌝ }
-{
-    let qos = head.qos;
-    let n = frame_size(rest);
-    let small = rest <= MOST;
-    let named = is_named(qos_number(qos), head.pkid);
-    let fits = n <= room;
-    let last = then(
-        test::test_numbers(subscription_identifiers),
-        refuse_unless(fits, Error::NoRoom(n)),
-    );
-    let pkid = then(refuse_unless(named, Error::PacketIdZero), last);
-    let long = refuse_unless(small, Error::PayloadTooLong);
-    let over = within(limit, n);
-    then(long, then(over, pkid))
-}
-
-// Every refusal, in 01's order; `rest` is R, cut off above the largest.
-pub fn permitted(
-    head: PublishHead,
-    topic: &[u8],
-    response_topic: &[u8],
-    correlation_data: &[u8],
-    user: &[u8],
-    user_lengths: &[usize],
-    subscription_identifiers: &[u32],
-    content_type: &[u8],
-    rest: usize,
-    limit: Limit,
-    room: usize,
-) -> Tested
-    ensures { λ r. ⌜ ((p : List ℕ) → rest ≡ cap (restIs (publish (handed head (now (topic .entry)) (now («response_topic» .entry)) (now («correlation_data» .entry)) (now (user .entry)) (now («user_lengths» .entry)) (now («subscription_identifiers» .entry)) (now («content_type» .entry)) p))) → toldTested r ≡ permit (limitOf limit) room (publish (handed head (now (topic .entry)) (now («response_topic» .entry)) (now («correlation_data» .entry)) (now (user .entry)) (now («user_lengths» .entry)) (now («subscription_identifiers» .entry)) (now («content_type» .entry)) p))) ⌝ }
-{
-    let together = all_belong(
-        head,
-        response_topic,
-        correlation_data,
-        user,
-        user_lengths,
-        subscription_identifiers,
-        content_type,
-    );
-    let fields = test_fields(
-        head,
-        topic,
-        response_topic,
-        correlation_data,
-        user,
-        user_lengths,
-        content_type,
-    );
-    then(
-        refuse_unless(together, Error::ListMismatch),
-        then(
-            fields,
-            settled(head, subscription_identifiers, rest, limit, room),
-        ),
-    )
 }
 
 // R and L, both cut off above the largest R.

@@ -2,11 +2,10 @@
 // What would lie past the end is not stored.
 use crate::head::PublishHead;
 use crate::plan::no_pkid;
+use numbers::fixed;
+use numbers::length::write_remaining_length;
 use records::qos::qos_number;
-use rows::put;
 use rows::run::after;
-use wire::fixed;
-use wire::length::write_remaining_length;
 use wire::string;
 ghost use mathlib.Core.Path.{_≡_};
 ghost use mathlib.Core.List.{List, _∷_, _++_};
@@ -18,22 +17,22 @@ ghost use Rattle.writing.specs.Spell.{short, string as spelled, rowBytes, props
 ghost use Rattle.writing.specs.Write.{firstByte, identBytes};
 ghost use Rattle.records.specs.Told.{toldBool, toldQoS};
 ghost use Rattle.rows.specs.Given.{givenU8, givenU16, givenU32, givenLent, givenPairs};
-ghost use Rattle.rows.specs.Put.{Put};
+ghost use Rattle.row_puts.specs.Put.{Put};
+ghost use Rattle.row_puts.specs.Behind.{Behind};
 ghost use Rattle.publish_write.specs.Handed.{handed};
-ghost use Rattle.publish_write.specs.Next.{Next};
 
 // 1, 2 and 35.
 fn put_numbers(out: &mut [u8], at: usize, head: PublishHead) -> usize
-    ensures { λ r. ⌜ Next (now (out .entry)) at (rowBytes (1, u8) (givenU8 (head .«payload_format_indicator»)) ++ (rowBytes (2, u32) (givenU32 (head .«message_expiry_interval»)) ++ rowBytes (35, u16) (givenU16 (head .«topic_alias»)))) (now (out .exit)) r ⌝ }
+    ensures { λ r. ⌜ Behind (now (out .entry)) at (rowBytes (1, u8) (givenU8 (head .«payload_format_indicator»)) ++ (rowBytes (2, u32) (givenU32 (head .«message_expiry_interval»)) ++ rowBytes (35, u16) (givenU16 (head .«topic_alias»)))) (now (out .exit)) r ⌝ }
 {
     let format = head.payload_format_indicator;
     let expiry = head.message_expiry_interval;
     let alias = head.topic_alias;
-    let n = put::put_u8_if(&mut *out, at, 1, format);
+    let n = row_puts::put_u8_if(&mut *out, at, 1, format);
     let second = after(out.len(), at, n);
-    let m = put::put_u32_if(&mut *out, second, 2, expiry);
+    let m = row_puts::put_u32_if(&mut *out, second, 2, expiry);
     let third = after(out.len(), second, m);
-    let k = put::put_u16_if(&mut *out, third, 35, alias);
+    let k = row_puts::put_u16_if(&mut *out, third, 35, alias);
     after(out.len(), third, k)
 }
 
@@ -45,11 +44,11 @@ fn put_strings(
     response_topic: &[u8],
     correlation_data: &[u8],
 ) -> usize
-    ensures { λ r. ⌜ Next (now (out .entry)) at (rowBytes (8, text) (givenLent (head .«response_topic») (now («response_topic» .entry))) ++ rowBytes (9, bytesForm) (givenLent (head .«correlation_data») (now («correlation_data» .entry)))) (now (out .exit)) r ⌝ }
+    ensures { λ r. ⌜ Behind (now (out .entry)) at (rowBytes (8, text) (givenLent (head .«response_topic») (now («response_topic» .entry))) ++ rowBytes (9, bytesForm) (givenLent (head .«correlation_data») (now («correlation_data» .entry)))) (now (out .exit)) r ⌝ }
 {
-    let n = put::put_lent(&mut *out, at, 8, head.response_topic, response_topic);
+    let n = row_puts::put_lent(&mut *out, at, 8, head.response_topic, response_topic);
     let second = after(out.len(), at, n);
-    let m = put::put_lent(
+    let m = row_puts::put_lent(
         &mut *out,
         second,
         9,
@@ -69,13 +68,13 @@ fn put_lists(
     subscription_identifiers: &[u32],
     content_type: &[u8],
 ) -> usize
-    ensures { λ r. ⌜ Next (now (out .entry)) at (rowBytes (38, pair) (givenPairs (now (user .entry)) (now («user_lengths» .entry))) ++ (rowBytes (11, number) (several (now («subscription_identifiers» .entry))) ++ rowBytes (3, text) (givenLent (head .«content_type») (now («content_type» .entry))))) (now (out .exit)) r ⌝ }
+    ensures { λ r. ⌜ Behind (now (out .entry)) at (rowBytes (38, pair) (givenPairs (now (user .entry)) (now («user_lengths» .entry))) ++ (rowBytes (11, number) (several (now («subscription_identifiers» .entry))) ++ rowBytes (3, text) (givenLent (head .«content_type») (now («content_type» .entry))))) (now (out .exit)) r ⌝ }
 {
-    let n = put::put_pairs(&mut *out, at, user, user_lengths);
+    let n = row_puts::put_pairs(&mut *out, at, user, user_lengths);
     let second = after(out.len(), at, n);
-    let m = put::put_ids(&mut *out, second, subscription_identifiers);
+    let m = row_puts::put_ids(&mut *out, second, subscription_identifiers);
     let third = after(out.len(), second, m);
-    let k = put::put_lent(&mut *out, third, 3, head.content_type, content_type);
+    let k = row_puts::put_lent(&mut *out, third, 3, head.content_type, content_type);
     after(out.len(), third, k)
 }
 
@@ -91,7 +90,7 @@ fn put_properties(
     subscription_identifiers: &[u32],
     content_type: &[u8],
 ) -> usize
-    ensures { λ r. ⌜ ((t p : List ℕ) → Next (now (out .entry)) at (propsBytes publishPlace (publishGiven (handed head t (now («response_topic» .entry)) (now («correlation_data» .entry)) (now (user .entry)) (now («user_lengths» .entry)) (now («subscription_identifiers» .entry)) (now («content_type» .entry)) p))) (now (out .exit)) r) ⌝ }
+    ensures { λ r. ⌜ ((t p : List ℕ) → Behind (now (out .entry)) at (propsBytes publishPlace (publishGiven (handed head t (now («response_topic» .entry)) (now («correlation_data» .entry)) (now (user .entry)) (now («user_lengths» .entry)) (now («subscription_identifiers» .entry)) (now («content_type» .entry)) p))) (now (out .exit)) r) ⌝ }
 {
     let strings = put_numbers(&mut *out, at, head);
     let lists = put_strings(&mut *out, strings, head, response_topic, correlation_data);
@@ -135,17 +134,15 @@ fn put_pkid(out: &mut [u8], at: usize, qos: u8, pkid: u16) -> usize
 
 // The first byte, R, the topic and the identifier, from place 0 on.
 fn put_front(out: &mut [u8], head: PublishHead, rest: usize, topic: &[u8]) -> usize
-    ensures { λ r. ⌜ ((a b u l i c p : List ℕ) → Next (now (out .entry)) 0 (firstByte (publish (handed head (now (topic .entry)) a b u l i c p)) ∷ (short rest ++ (spelled (now (topic .entry)) ++ identBytes (toldQoS (head .qos)) (head .pkid)))) (now (out .exit)) r) ⌝ }
+    ensures { λ r. ⌜ ((a b u l i c p : List ℕ) → Behind (now (out .entry)) 0 (firstByte (publish (handed head (now (topic .entry)) a b u l i c p)) ∷ (short rest ++ (spelled (now (topic .entry)) ++ identBytes (toldQoS (head .qos)) (head .pkid)))) (now (out .exit)) r) ⌝ }
 {
     let qos = head.qos;
-    fixed::put_u8(&mut *out, 0, first_byte(head));
-    let second = after(out.len(), 0, 1);
-    let n = write_remaining_length(&mut *out, second, rest);
-    let third = after(out.len(), second, n);
-    string::write_mqtt_bytes(&mut *out, third, topic);
-    let fourth = after(out.len(), third, 2 + topic.len());
-    let m = put_pkid(&mut *out, fourth, qos_number(qos), head.pkid);
-    after(out.len(), fourth, m)
+    let n = settle::put_header(&mut *out, first_byte(head), rest);
+    let second = after(out.len(), 0, n);
+    string::write_mqtt_bytes(&mut *out, second, topic);
+    let third = after(out.len(), second, 2 + topic.len());
+    let m = put_pkid(&mut *out, third, qos_number(qos), head.pkid);
+    after(out.len(), third, m)
 }
 
 // L, the properties and the payload; `properties` is L.

@@ -5,8 +5,6 @@ use crate::put::put_frame;
 use records::answer::Limit;
 use records::answer::Sized;
 use records::answer::Written;
-use records::error::Error;
-use rows::test::Tested;
 ghost use mathlib.Core.Path.{_≡_};
 ghost use Rattle.writing.specs.Handed.{publish};
 ghost use Rattle.writing.specs.Write.{sizeOf, Written as Writes};
@@ -37,9 +35,6 @@ pub fn size(
         subscription_identifiers,
         content_type,
     );
-    if !together {
-        return Sized::Refused(Error::ListMismatch);
-    }
     let sizes = plan::sizes(
         head,
         topic,
@@ -51,11 +46,7 @@ pub fn size(
         content_type,
         payload,
     );
-    let rest = sizes.rest;
-    if 268435455 < rest {
-        return Sized::Refused(Error::PayloadTooLong);
-    }
-    Sized::Size(plan::frame_size(rest))
+    settle::size(together, sizes.rest)
 }
 
 // The frame from place 0 on, and its size; a refused write leaves the output as it stood.
@@ -74,6 +65,16 @@ pub fn write(
 ) -> Written
     ensures { λ r. ⌜ Writes (limitOf limit) (publish (handed head (now (topic .entry)) (now («response_topic» .entry)) (now («correlation_data» .entry)) (now (user .entry)) (now («user_lengths» .entry)) (now («subscription_identifiers» .entry)) (now («content_type» .entry)) (now (payload .entry)))) (now (out .entry)) (now (out .exit)) (toldWritten r) ⌝ }
 {
+    let fields = plan::early(
+        head,
+        topic,
+        response_topic,
+        correlation_data,
+        user,
+        user_lengths,
+        subscription_identifiers,
+        content_type,
+    );
     let sizes = plan::sizes(
         head,
         topic,
@@ -87,22 +88,10 @@ pub fn write(
     );
     let rest = sizes.rest;
     let properties = sizes.properties;
-    let tested = plan::permitted(
-        head,
-        topic,
-        response_topic,
-        correlation_data,
-        user,
-        user_lengths,
-        subscription_identifiers,
-        content_type,
-        rest,
-        limit,
-        out.len(),
-    );
-    match tested {
-        Tested::Refused(e) => Written::Refused(e),
-        Tested::Fine => {
+    let end = plan::late(head, subscription_identifiers);
+    match settle::settle(fields, rest, limit, end, out.len()) {
+        Written::Refused(e) => Written::Refused(e),
+        Written::Size(n) => {
             put_frame(
                 &mut *out,
                 head,
@@ -117,7 +106,7 @@ pub fn write(
                 content_type,
                 payload,
             );
-            Written::Size(plan::frame_size(rest))
+            Written::Size(n)
         }
     }
 }

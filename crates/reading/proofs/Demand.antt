@@ -11,8 +11,8 @@ use Rattle.grammar.specs.Gram.{Gram, Only, only}
 use Rattle.grammar.specs.Number.{Spells}
 use Rattle.grammar.specs.Sentence.{Any, Packet, Frame, Framed, framed, Sentence, ShortSentence}
 use Rattle.reading.specs.Refusal.{nr, accepted, refused, cut, lacking, within, over}
-use Rattle.reading.specs.Reader.{Fit, got, bad, Reader, onlyOf}
-use Rattle.reading.specs.Read.{numOf, anyBytes, Shape, asBytes, frameOf, bodyAnswer, bodyFit, wholeAnswer, frameAnswer, readAs, readOf}
+use Rattle.reading.specs.Reader.{Fit, got, bad}
+use Rattle.reading.specs.Read.{numOf, anyBytes, Shape, asBytes, lengthOf, frameOf, bodyAnswer, bodyFit, wholeAnswer, frameAnswer, readAs, readOf}
 use Rattle.reading.specs.Demand.{Begins}
 use Rattle.reading.proofs.Reading.{Cut, Reads, reads-only, reads-then, reads-sized, fills-is, reads-iff}
 use Rattle.reading.proofs.Fields.{reads-byte, reads-num, any-fine}
@@ -22,9 +22,6 @@ pub no-accept : {A : Type 0} {k n m : ℕ} {vs : List ℕ} {v : A} → refused k
 no-accept e = let z : _≡_ {A = ℕ} 0 1 = cc in omega arith
 
 -- ---- under any limit, where N spells the lengths that it lets pass
-
-abbrev pub lengthOf : Option ℕ → Reader ℕ
-lengthOf limit = onlyOf (within limit) (over limit) (numOf (nr 1 (1 ∷ [])) 4)
 
 pub reads-length : (limit : Option ℕ) → Reads (lengthOf limit) (Only (within limit) Spells)
 reads-length limit = reads-only (within limit) (over limit) (reads-num (nr 1 (1 ∷ [])) 4)

@@ -146,17 +146,17 @@ module _ (place : Place) (end : ℕ) where
   unfolding propertyOf valueAt
   property-whole _ _ r (property {f = k} {v = v} {b = b} e g) = rw (e, reads-value k end .whole v b r g)
 
-  kind-split : (i : ℕ) (s : List ℕ) (k : Option Form) → lookup place i ≡ k → (z : Prop × List ℕ) → valueAt asBytes k i end s ≡ got z → Cut (Property place) (i ∷ s) z
+  value-split : (i : ℕ) (s : List ℕ) (k : Option Form) → lookup place i ≡ k → (z : Prop × List ℕ) → valueAt asBytes k i end s ≡ got z → Cut (Property place) (i ∷ s) z
   unfolding valueAt
-  kind-split i s none e = λ z e′. absurd (bad-got e′)
-  kind-split i s (some k) e = from-bind (valueOf asBytes k end s) (λ y. got ((i, y .0), y .1)) λ y e₁.
+  value-split i s none e = λ z e′. absurd (bad-got e′)
+  value-split i s (some k) e = from-bind (valueOf asBytes k end s) (λ y. got ((i, y .0), y .1)) λ y e₁.
       let (b, e₂, g) = reads-value k end .split s y e₁ in
       from-got (Cut (Property place) (i ∷ s)) ((i, y .0), y .1) (i ∷ b, ap (λ (l : List ℕ). i ∷ l) e₂, property e g)
 
   property-split : (s : List ℕ) (z : Prop × List ℕ) → propertyOf asBytes place end s ≡ got z → Cut (Property place) s z
   unfolding propertyOf
   property-split [] = λ z e. absurd (bad-got e)
-  property-split (i ∷ s) = kind-split i s (lookup place i) refl
+  property-split (i ∷ s) = value-split i s (lookup place i) refl
 
   pub reads-property : Reads (propertyOf asBytes place end) (Property place)
   reads-property = record { whole = property-whole; split = property-split }

@@ -135,17 +135,17 @@ module _ (x end : ℕ) where
   unfolding bodyFit layoutFit
   body-whole v b (body {l = f} e g) = rw (kind-fine (kindOf x) f e, e, bytes-fine f x v b g, fills-fields f x end .whole v b g)
 
-  form-back : (b : List ℕ) (o : Option Layout) → lookup kinds (kindOf x) ≡ o → (z : Packet) → layoutFit asBytes o x end b ≡ got z → Body x z b
+  layout-back : (b : List ℕ) (o : Option Layout) → lookup kinds (kindOf x) ≡ o → (z : Packet) → layoutFit asBytes o x end b ≡ got z → Body x z b
   unfolding layoutFit
-  form-back b none e z h = absurd (bad-got h)
-  form-back b (some f) e z h = body e (fills-fields f x end .back b z h)
+  layout-back b none e z h = absurd (bad-got h)
+  layout-back b (some f) e z h = body e (fills-fields f x end .back b z h)
 
   body-back : (b : List ℕ) (z : Packet) → bodyFit asBytes x end b ≡ got z → Body x z b
   unfolding bodyFit
   body-back b =
       from-guard (not (isIn (kindOf x) reserved)) _ _ λ _.
       from-guard (or (isPing (lookup kinds (kindOf x))) (not (isEmpty b))) _ _ λ _.
-      form-back b (lookup kinds (kindOf x)) refl
+      layout-back b (lookup kinds (kindOf x)) refl
 
   pub fills-body : Fills (bodyFit asBytes x end) (Body x)
   fills-body = record { whole = body-whole; back = body-back }

@@ -13,7 +13,7 @@ use Rattle.grammar.specs.Choice.{pick, or, isIn, lookup, isEmpty}
 use Rattle.grammar.specs.Gram.{Gram, Only, both, sized, Many, is}
 use Rattle.grammar.specs.Number.{byte}
 use Rattle.grammar.specs.Tables.{Form, u8, u16, u32, number, text, bytes, pair, Place, publishPlace, subscribePlace, ackPlace, Layout, aPublish, anAck, aSubscribe, aPing, kinds, reserved, isPing}
-use Rattle.grammar.specs.Record.{Val, num, str, Prop, lastFrom, lastOf, allOf, unlessEmpty, publishProps, subscribeProps, AckProps, ackProps, Filter, kindOf, flagQos, mkPublish, mkAck, mkFilter, mkSubscribe, mkPing}
+use Rattle.grammar.specs.Record.{Val, num, str, PropOf, lastFrom, lastOf, allOf, unlessEmpty, publishProps, subscribeProps, AckProps, ackProps, Filter, kindOf, flagQos, mkPublish, mkAck, mkFilter, mkSubscribe, mkPing}
 use Rattle.grammar.specs.Sentence.{Value, duoOf, Property, notThree, FilterOf, someOf, Packet, Frame}
 use Rattle.reading.specs.Refusal.{Refusal, nr, Answer, accepted, refused, cut, crossed}
 use Rattle.reading.specs.Reader.{Fit, got, bad, Filler, _>>_, guard, isFit}
@@ -46,7 +46,7 @@ module _ {A : Type 0} {q : ℕ → Filler A} {G : Gram A} (S : (e : ℕ) → Fil
     λ t. rw (leb-yes (p .start + p .len) (length s) (t .0), S (p .start + p .len) .whole v (partOf s p) (t .1)),
   )
 
-pub block-iff : (place : Place) (s : List ℕ) (p : Span) (ps : List (Prop (List ℕ))) → (again (propertiesFit asBytes place) s p ≡ got ps) ↔ ((p .start + p .len ≤ length s) × Many (Property place) ps (partOf s p))
+pub block-iff : (place : Place) (s : List ℕ) (p : Span) (ps : List (PropOf (List ℕ))) → (again (propertiesFit asBytes place) s p ≡ got ps) ↔ ((p .start + p .len ≤ length s) × Many (Property place) ps (partOf s p))
 block-iff place s p ps = again-iff (fills-properties place) s p ps
 
 pub run-iff : (s : List ℕ) (p : Span) (fs : List (Filter (List ℕ))) → (again (filtersFit asBytes) s p ≡ got fs) ↔ ((p .start + p .len ≤ length s) × Only someOf (Many FilterOf) fs (partOf s p))
@@ -58,7 +58,7 @@ again-right {s} {end} S b v w e =
     let (h, i) = stands-within b w in
     again-iff S s (spanOf b end) v .1 (omega arith, rw (stands-span b w) (S end .back b v e))
 
-values-right : {s : List ℕ} {end : ℕ} (place : Place) (i : ℕ) (b : List ℕ) (ps : List (Prop (List ℕ))) → Stands s end b → propertiesFit asBytes place end b ≡ got ps
+values-right : {s : List ℕ} {end : ℕ} (place : Place) (i : ℕ) (b : List ℕ) (ps : List (PropOf (List ℕ))) → Stands s end b → propertiesFit asBytes place end b ≡ got ps
     → valuesAt asBytes s (spanOf b end) place i ≡ got (allOf i ps)
 unfolding valuesAt
 values-right place i b ps w e = rw (again-right (fills-properties place) b ps w e)
@@ -66,7 +66,7 @@ values-right place i b ps w e = rw (again-right (fills-properties place) b ps w 
 -- ---- single values
 
 module _ (s : List ℕ) where
-  last-from : (i : ℕ) (o : Option (Val Span)) (ps : List (Prop Span)) → onSome (sayVal s) (lastFrom o i ps) ≡ lastFrom (onSome (sayVal s) o) i (map (sayProp s) ps)
+  last-from : (i : ℕ) (o : Option (Val Span)) (ps : List (PropOf Span)) → onSome (sayVal s) (lastFrom o i ps) ≡ lastFrom (onSome (sayVal s) o) i (map (sayProp s) ps)
   last-from i o [] = refl
   last-from i o (p ∷ ps) =
       last-from i (pick (eqb (p .0) i) (some (p .1)) o) ps
@@ -76,11 +76,11 @@ module _ (s : List ℕ) where
       one true = refl
       one false = refl
 
-  last-says : (i : ℕ) (ps : List (Prop Span)) → onSome (sayVal s) (lastOf i ps) ≡ lastOf i (map (sayProp s) ps)
+  last-says : (i : ℕ) (ps : List (PropOf Span)) → onSome (sayVal s) (lastOf i ps) ≡ lastOf i (map (sayProp s) ps)
   unfolding lastOf
   last-says i ps = last-from i none ps
 
-  unless-says : {A B : Type 0} (g : A → Fit B) (f : List (Prop Span) → A) (f′ : List (Prop (List ℕ)) → B) (ps : List (Prop Span)) → g (f ps) ≡ got (f′ (map (sayProp s) ps))
+  unless-says : {A B : Type 0} (g : A → Fit B) (f : List (PropOf Span) → A) (f′ : List (PropOf (List ℕ)) → B) (ps : List (PropOf Span)) → g (f ps) ≡ got (f′ (map (sayProp s) ps))
       → ifSome g (unlessEmpty f ps) ≡ got (unlessEmpty f′ (map (sayProp s) ps))
   unless-says g f f′ [] e = refl
   unless-says g f f′ (p ∷ ps) e = ap (onGot some) e
@@ -135,26 +135,26 @@ module _ (s : List ℕ) where
   properties-says place end = drops-many (property-says place end) (reads-property place end)
 
   -- what a block reader hands back, read at its places, is what it hands back in bytes
-  block-says : {A B : Type 0} (place : Place) (f : List (Prop Span) → List ℕ → ℕ → A) (f′ : List (Prop (List ℕ)) → List ℕ → ℕ → B) (h : A → Fit B)
-      → ((end : ℕ) (ps : List (Prop Span)) (b : List ℕ) → Stands s end b → propertiesFit asBytes place end b ≡ got (map (sayProp s) ps) → h (f ps b end) ≡ got (f′ (map (sayProp s) ps) b end))
+  block-says : {A B : Type 0} (place : Place) (f : List (PropOf Span) → List ℕ → ℕ → A) (f′ : List (PropOf (List ℕ)) → List ℕ → ℕ → B) (h : A → Fit B)
+      → ((end : ℕ) (ps : List (PropOf Span)) (b : List ℕ) → Stands s end b → propertiesFit asBytes place end b ≡ got (map (sayProp s) ps) → h (f ps b end) ≡ got (f′ (map (sayProp s) ps) b end))
       → (end : ℕ) → Forgets s end (Reading h) (blockOf asPlaces place f end) (blockOf asBytes place f′ end)
   unfolding blockOf
   block-says {B = B} place f f′ h e end = forgets-sized (λ e′. drops-hand (properties-says place) e′ (Reading h) f f′ λ ps qs b w i r.
-      e e′ ps b w (i ∙ ap got (sym r)) ∙ ap (λ (l : List (Prop (List ℕ))). got (f′ l b e′)) r) end crossed (reads-num cut 4)
+      e e′ ps b w (i ∙ ap got (sym r)) ∙ ap (λ (l : List (PropOf (List ℕ))). got (f′ l b e′)) r) end crossed (reads-num cut 4)
 
-  publish-as : (end : ℕ) (ps : List (Prop Span)) (b : List ℕ) → Stands s end b → propertiesFit asBytes publishPlace end b ≡ got (map (sayProp s) ps)
+  publish-as : (end : ℕ) (ps : List (PropOf Span)) (b : List ℕ) → Stands s end b → propertiesFit asBytes publishPlace end b ≡ got (map (sayProp s) ps)
       → ifSome (sayPublishProps s) (publishAs asPlaces ps b end) ≡ got (publishAs asBytes (map (sayProp s) ps) b end)
   unfolding publishProps
   publish-as end ps b w e =
       let v : (i : ℕ) → valuesAt asBytes s (spanOf b end) publishPlace i ≡ got (allOf i (map (sayProp s) ps)) = λ i. values-right publishPlace i b (map (sayProp s) ps) w e in
       unless-says _ _ _ ps (rw (v 38, v 11, last-says 1 ps, last-says 2 ps, last-says 35 ps, last-says 8 ps, last-says 9 ps, last-says 3 ps))
 
-  subscribe-as : (end : ℕ) (ps : List (Prop Span)) (b : List ℕ) → Stands s end b → propertiesFit asBytes subscribePlace end b ≡ got (map (sayProp s) ps)
+  subscribe-as : (end : ℕ) (ps : List (PropOf Span)) (b : List ℕ) → Stands s end b → propertiesFit asBytes subscribePlace end b ≡ got (map (sayProp s) ps)
       → ifSome (saySubscribeProps s) (subscribeAs asPlaces ps b end) ≡ got (subscribeAs asBytes (map (sayProp s) ps) b end)
   unfolding subscribeProps
   subscribe-as end ps b w e = unless-says _ _ _ ps (rw (values-right subscribePlace 38 b (map (sayProp s) ps) w e, last-says 11 ps))
 
-  ack-as : (end : ℕ) (ps : List (Prop Span)) (b : List ℕ) → Stands s end b → propertiesFit asBytes ackPlace end b ≡ got (map (sayProp s) ps)
+  ack-as : (end : ℕ) (ps : List (PropOf Span)) (b : List ℕ) → Stands s end b → propertiesFit asBytes ackPlace end b ≡ got (map (sayProp s) ps)
       → ifSome (sayAckProps s) (ackAs asPlaces ps b end) ≡ got (ackAs asBytes (map (sayProp s) ps) b end)
   unfolding ackProps
   ack-as end ps b w e = unless-says _ _ _ ps (rw (values-right ackPlace 38 b (map (sayProp s) ps) w e, last-says 31 ps))

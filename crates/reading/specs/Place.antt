@@ -8,7 +8,7 @@ use lib.Dec.{leb}
 use lib.ListN.{length, take, drop}
 use Rattle.grammar.specs.Choice.{pick}
 use Rattle.grammar.specs.Tables.{Place, publishPlace, subscribePlace, ackPlace}
-use Rattle.grammar.specs.Record.{Val, num, str, duo, Prop, allOf, PublishProps, SubscribeProps, AckProps, Publish, Filter, Subscribe, Ack, PacketOf, publish, ack, subscribe, ping}
+use Rattle.grammar.specs.Record.{Val, num, str, duo, PropOf, allOf, PublishProps, SubscribeProps, AckProps, Publish, Filter, Subscribe, Ack, PacketOf, publish, ack, subscribe, ping}
 use Rattle.grammar.specs.Sentence.{Value, Packet}
 use Rattle.reading.specs.Refusal.{Refusal, nr, Answer, accepted, refused}
 use Rattle.reading.specs.Reader.{Fit, got, bad, Filler, _>>=_, _>>_, guard}
@@ -116,7 +116,7 @@ module _ (s : List ℕ) where
   sayVal (duo p q) = duo (heldOf s p) (heldOf s q)
 
   -- a property
-  abbrev pub sayProp : Prop Span → Prop (List ℕ)
+  abbrev pub sayProp : PropOf Span → PropOf (List ℕ)
   sayProp p = (p .0, sayVal (p .1))
 
   -- a filter

@@ -10,7 +10,7 @@ use Rattle.grammar.specs.Choice.{or, isIn, lookup, isEmpty}
 use Rattle.grammar.specs.Number.{bigFrom}
 use Rattle.grammar.specs.Text.{Range, inRange, rows, rowAt, cons}
 use Rattle.grammar.specs.Tables.{Form, u8, u16, u32, number, text, bytes, pair, Place, publishPlace, subscribePlace, ackPlace, Layout, aPublish, anAck, aSubscribe, aPing, kinds, reserved, isPing}
-use Rattle.grammar.specs.Record.{Val, num, str, Prop, unlessEmpty, PublishProps, publishProps, SubscribeProps, subscribeProps, AckProps, ackProps, Filter, PacketOf, kindOf, flagQos, mkPublish, mkAck, mkFilter, mkSubscribe, mkPing}
+use Rattle.grammar.specs.Record.{Val, num, str, PropOf, unlessEmpty, PublishProps, publishProps, SubscribeProps, subscribeProps, AckProps, ackProps, Filter, PacketOf, kindOf, flagQos, mkPublish, mkAck, mkFilter, mkSubscribe, mkPing}
 use Rattle.grammar.specs.Sentence.{duoOf, notThree, notZero, qosFine, ruleFine, someOf}
 use Rattle.reading.specs.Refusal.{Refusal, nr, Answer, accepted, refusedAs, cut, crossed, lacking, within, over}
 use Rattle.reading.specs.Reader.{Fit, got, bad, Reader, Filler, _>>=_, _>>_, guard, noneOf, neverOf, mapOf, onlyOf, thenOf, sizedOf, isFit, mapFit, handFit, onlyFit, thenFit, exactFit, manyFit, isGot}
@@ -84,11 +84,13 @@ pub record Shape : Type 1 where
 abbrev pub asBytes : Shape
 asBytes = record { Str = List ℕ; Run = List; string = λ b end. b; run = λ A vs b end. vs }
 
+-- 01, reading order, in the header: 1 or 2 of the number R, "then 3"
+abbrev pub lengthOf : Option ℕ → Reader ℕ
+lengthOf limit = onlyOf (within limit) (over limit) (numOf (nr 1 (1 ∷ [])) 4)
+
 -- 01: "A frame is one byte, a variable length number R, then R bytes"; reading order: "1 while the header is incomplete, or 2; then 3; then 1"
 unfoldable pub frameOf : Option ℕ → ℕ → Reader (ℕ × List ℕ)
-frameOf limit end =
-    thenOf (byteOf (nr 1 (2 ∷ [])))
-    (λ _. sizedOf (onlyOf (within limit) (over limit) (numOf (nr 1 (1 ∷ [])) 4)) lacking (λ _. isFit anyBytes cut) end)
+frameOf limit end = thenOf (byteOf (nr 1 (2 ∷ []))) (λ _. sizedOf (lengthOf limit) lacking (λ _. isFit anyBytes cut) end)
 
 -- 01, Taken: F for each refusal of a whole frame
 unfoldable pub bodyAnswer : {A : Type 0} → ℕ → Fit A → Answer A
@@ -123,35 +125,35 @@ module _ (h : Shape) where
   valueOf pair end = mapOf duoOf (thenOf (textOf end) (λ _. textOf end))
 
   -- 01, row 10: "identifier not in its place's row"
-  unfoldable pub valueAt : Option Form → ℕ → ℕ → Reader (Prop (h .Str))
+  unfoldable pub valueAt : Option Form → ℕ → ℕ → Reader (PropOf (h .Str))
   valueAt none i end s = bad (nr 10 (i ∷ []))
   valueAt (some k) i end s = do
     (v, r) ← valueOf k end s
     got ((i, v), r)
 
   -- 01: "an identifier byte and a value"
-  unfoldable pub propertyOf : Place → ℕ → Reader (Prop (h .Str))
+  unfoldable pub propertyOf : Place → ℕ → Reader (PropOf (h .Str))
   propertyOf place end [] = bad cut
   propertyOf place end (i ∷ s) = valueAt (lookup place i) i end s
 
   -- 01, grammar: "filled exactly by properties"
-  unfoldable pub propertiesFit : Place → ℕ → Filler (List (Prop (h .Str)))
+  unfoldable pub propertiesFit : Place → ℕ → Filler (List (PropOf (h .Str)))
   propertiesFit place end = manyFit (propertyOf place end)
 
   -- 01: "A property block is a variable length number L and L bytes"; f makes the record
-  unfoldable pub blockOf : {A : Type 0} → Place → (List (Prop (h .Str)) → List ℕ → ℕ → A) → ℕ → Reader A
+  unfoldable pub blockOf : {A : Type 0} → Place → (List (PropOf (h .Str)) → List ℕ → ℕ → A) → ℕ → Reader A
   blockOf place f = sizedOf (numOf cut 4) crossed (handFit f (propertiesFit place))
 
   -- 01: "L = 0 means absent"; Publish
-  abbrev pub publishAs : List (Prop (h .Str)) → List ℕ → ℕ → Option (PublishProps (h .Str) (h .Run))
+  abbrev pub publishAs : List (PropOf (h .Str)) → List ℕ → ℕ → Option (PublishProps (h .Str) (h .Run))
   publishAs ps b end = unlessEmpty (publishProps (h .Str) (h .Run) (λ vs. h .run (Val (h .Str)) vs b end)) ps
 
   -- 01: "L = 0 means absent"; Subscribe
-  abbrev pub subscribeAs : List (Prop (h .Str)) → List ℕ → ℕ → Option (SubscribeProps (h .Str) (h .Run))
+  abbrev pub subscribeAs : List (PropOf (h .Str)) → List ℕ → ℕ → Option (SubscribeProps (h .Str) (h .Run))
   subscribeAs ps b end = unlessEmpty (subscribeProps (h .Str) (h .Run) (λ vs. h .run (Val (h .Str)) vs b end)) ps
 
   -- 01: "L = 0 means absent"; PubAck
-  abbrev pub ackAs : List (Prop (h .Str)) → List ℕ → ℕ → Option (AckProps (h .Str) (h .Run))
+  abbrev pub ackAs : List (PropOf (h .Str)) → List ℕ → ℕ → Option (AckProps (h .Str) (h .Run))
   ackAs ps b end = unlessEmpty (ackProps (h .Str) (h .Run) (λ vs. h .run (Val (h .Str)) vs b end)) ps
 
   -- ---- bodies

@@ -6,9 +6,9 @@ use Rattle.reading.specs.Refusal.{Refusal, nr, Answer, accepted, refused, refus
 use Rattle.reading.specs.Reader.{Fit, got, bad}
 use Rattle.reading.specs.Place.{Placed}
 use Rattle.records.specs.Told.{toldError}
-use Rattle.records.specs.Answered.{told, toldSized, toldWritten, toldUser, toldIdentifier, toldFilterItem, toldGotReason}
+use Rattle.records.specs.Answered.{told, toldSized, toldWritten, toldUser, toldIdentifier, toldFilterItem, toldGotReason, toldGotRule}
 use Rattle.records.proofs.Laws.{injective-by}
-use Rattle.records.proofs.Told.{backError, back-error, backReason, back-reason, backSpan, back-span}
+use Rattle.records.proofs.Told.{backError, back-error, backReason, back-reason, backRule, back-rule, backSpan, back-span}
 use Rattle.records.proofs.Said.{backFilter, back-filter, backPacket, back-packet}
 use Rattle.grammar.specs.Record as record-of
 use Rattle.reading.specs.Place as place
@@ -19,6 +19,7 @@ use Rattle.records.specs.declared.answer.UserItem.{UserItem}
 use Rattle.records.specs.declared.answer.IdentifierItem.{IdentifierItem}
 use Rattle.records.specs.declared.answer.FilterItem.{FilterItem}
 use Rattle.records.specs.declared.puback.GotReason.{GotReason}
+use Rattle.records.specs.declared.subscribe.GotRule.{GotRule}
 
 -- ---- reading
 
@@ -96,7 +97,7 @@ unfolding backFilterItem
 back-filter-item (FilterItem.Filter f) = ap FilterItem.Filter (back-filter f)
 back-filter-item FilterItem.NoItem = refl
 
--- ---- reasons
+-- ---- reasons and forward rules
 
 pub backGotReason : Fit ℕ → GotReason
 backGotReason (got n) = GotReason.Value (backReason n)
@@ -106,6 +107,15 @@ pub back-got-reason : (r : GotReason) → backGotReason (toldGotReason r) ≡ r
 unfolding backGotReason
 back-got-reason (GotReason.Value a) = ap GotReason.Value (back-reason a)
 back-got-reason (GotReason.Refused e) = ap GotReason.Refused (back-error e)
+
+pub backGotRule : Fit ℕ → GotRule
+backGotRule (got n) = GotRule.Value (backRule n)
+backGotRule (bad k) = GotRule.Refused (backError k)
+
+pub back-got-rule : (r : GotRule) → backGotRule (toldGotRule r) ≡ r
+unfolding backGotRule
+back-got-rule (GotRule.Value a) = ap GotRule.Value (back-rule a)
+back-got-rule (GotRule.Refused e) = ap GotRule.Refused (back-error e)
 
 -- ---- one answer only
 
@@ -129,3 +139,6 @@ filter-item-injective = injective-by toldFilterItem backFilterItem back-filter-i
 
 pub got-reason-injective : {a b : GotReason} → toldGotReason a ≡ toldGotReason b → a ≡ b
 got-reason-injective = injective-by toldGotReason backGotReason back-got-reason
+
+pub got-rule-injective : {a b : GotRule} → toldGotRule a ≡ toldGotRule b → a ≡ b
+got-rule-injective = injective-by toldGotRule backGotRule back-got-rule

@@ -2,4 +2,3 @@ pub mod Laws
 pub mod Told
 pub mod Said
 pub mod Answered
-pub mod Names

@@ -1,13 +1,14 @@
--- What each answer tells: of a read, a size, a write, an item, and a reason. Assumes nothing.
+-- What each answer tells: of a read, a size, a write, an item, a reason and a forward rule. Assumes nothing.
 use mathlib.Core.List.{[], _∷_}
 use Prim.Native.Nat.{ℕ}
+use lib.Dec.{ltb}
 use Rattle.grammar.specs.Choice.{isIn}
 use Rattle.grammar.specs.Tables.{reasons}
 use Rattle.grammar.specs.Record.{Val, num, duo}
 use Rattle.reading.specs.Refusal.{nr, Answer, accepted, refusedAs}
 use Rattle.reading.specs.Reader.{Fit, got, bad, _>>_, guard}
 use Rattle.reading.specs.Place.{Placed, noItem}
-use Rattle.records.specs.Told.{toldError, toldReason, toldSpan}
+use Rattle.records.specs.Told.{toldError, toldReason, toldRule, toldSpan}
 use Rattle.records.specs.Said.{toldFilter, toldPacket}
 use Rattle.grammar.specs.Record as record-of
 use Rattle.reading.specs.Place as place
@@ -18,6 +19,7 @@ use Rattle.records.specs.declared.answer.UserItem.{UserItem}
 use Rattle.records.specs.declared.answer.IdentifierItem.{IdentifierItem}
 use Rattle.records.specs.declared.answer.FilterItem.{FilterItem}
 use Rattle.records.specs.declared.puback.GotReason.{GotReason}
+use Rattle.records.specs.declared.subscribe.GotRule.{GotRule}
 
 -- 01, "When the desk says no": "Taken is the count of stream bytes used up"
 abbrev pub told : Read → Answer Placed
@@ -57,3 +59,13 @@ toldGotReason (GotReason.Refused e) = bad (toldError e)
 -- 01, row 15, of the number k
 abbrev pub reasonOf : ℕ → Fit ℕ
 reasonOf k = guard (isIn k reasons) (nr 15 (k ∷ [])) >> got k
+
+abbrev pub toldGotRule : GotRule → Fit ℕ
+toldGotRule (GotRule.Value r) = got (toldRule r)
+toldGotRule (GotRule.Refused e) = bad (toldError e)
+
+-- the crate: 0, 1 and 2 are forward rules; 01, row 14, for any other number
+abbrev pub ruleOf : ℕ → Fit ℕ
+ruleOf n = do
+  guard (ltb n 3) (nr 14 (n ∷ []))
+  got n

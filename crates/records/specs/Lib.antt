@@ -1,4 +1,3 @@
 pub mod Told
 pub mod Said
 pub mod Answered
-pub mod Names

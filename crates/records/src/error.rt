@@ -1,8 +1,6 @@
-// The refusals of 01, in its order, with what a program prints of them; `Error` of mqttbytes/mod.rs where the crate has the case.
+// The refusals of 01, in its order, with their numbers and values; `Error` of mqttbytes/mod.rs where the crate has the case.
 ghost use mathlib.Core.Path.{_≡_};
 ghost use Rattle.records.specs.Told.{toldError, rowOf, valuesOf, toldValues};
-ghost use Rattle.records.specs.Names.{nameOf, padded};
-use crate::shown::Name;
 use crate::shown::Values;
 
 pub enum Error {
@@ -105,67 +103,5 @@ pub fn values(e: Error) -> Values
         Error::NoRoom(n) => Values::One(n),
         Error::ListMismatch => Values::None,
         Error::NoItem => Values::None,
-    }
-}
-
-// The names of the cases in their order, and 0 in the bytes that are left.
-const NAMES: [[u8; 24]; 21] = [
-    *b"InsufficientBytes\0\0\0\0\0\0\0",
-    *b"MalformedRemainingLength",
-    *b"PayloadSizeLimitExceeded",
-    *b"InvalidPacketType\0\0\0\0\0\0\0",
-    *b"PayloadRequired\0\0\0\0\0\0\0\0\0",
-    *b"KindNotCarried\0\0\0\0\0\0\0\0\0\0",
-    *b"MalformedPacket\0\0\0\0\0\0\0\0\0",
-    *b"BoundaryCrossed\0\0\0\0\0\0\0\0\0",
-    *b"TopicNotUtf8\0\0\0\0\0\0\0\0\0\0\0\0",
-    *b"InvalidPropertyType\0\0\0\0\0",
-    *b"InvalidQoS\0\0\0\0\0\0\0\0\0\0\0\0\0\0",
-    *b"PacketIdZero\0\0\0\0\0\0\0\0\0\0\0\0",
-    *b"EmptySubscription\0\0\0\0\0\0\0",
-    *b"InvalidRetainForwardRule",
-    *b"InvalidReason\0\0\0\0\0\0\0\0\0\0\0",
-    *b"OutgoingPacketTooLarge\0\0",
-    *b"PayloadTooLong\0\0\0\0\0\0\0\0\0\0",
-    *b"StringTooLong\0\0\0\0\0\0\0\0\0\0\0",
-    *b"NoRoom\0\0\0\0\0\0\0\0\0\0\0\0\0\0\0\0\0\0",
-    *b"ListMismatch\0\0\0\0\0\0\0\0\0\0\0\0",
-    *b"NoItem\0\0\0\0\0\0\0\0\0\0\0\0\0\0\0\0\0\0",
-];
-
-// The lengths of the names.
-const LENGTHS: [usize; 21] = [
-    17,
-    24,
-    24,
-    17,
-    15,
-    14,
-    15,
-    15,
-    12,
-    19,
-    10,
-    12,
-    17,
-    24,
-    13,
-    22,
-    14,
-    13,
-    6,
-    12,
-    6,
-];
-
-// The name of the case.
-pub fn name(e: Error) -> Name
-    ensures { λ r. ⌜ r ≡ padded (nameOf e) ⌝ }
-{
-    let i = number(e) as usize - 1;
-    let bytes = NAMES[i];
-    Name {
-        bytes,
-        len: LENGTHS[i],
     }
 }

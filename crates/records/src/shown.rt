@@ -1,10 +1,4 @@
-// What a program prints of a refusal: its name and its values.
-
-// The first len of the bytes; the rest are 0.
-pub struct Name {
-    pub bytes: [u8; 24],
-    pub len: usize,
-}
+// What a program prints of a refusal beside its number and its name: the values.
 
 pub enum Values {
     None,

@@ -1,6 +1,8 @@
 // A Subscribe as read, and one filter, after subscribe.rs.
 ghost use mathlib.Core.Path.{_≡_};
 ghost use Rattle.records.specs.Told.{toldRule};
+ghost use Rattle.records.specs.Answered.{toldGotRule, ruleOf};
+use crate::error::Error;
 use crate::qos::QoS;
 use crate::span::MaybeU32;
 use crate::span::Span;
@@ -35,6 +37,24 @@ pub struct Filter {
     pub nolocal: bool,
     pub preserve_retain: bool,
     pub retain_forward_rule: RetainForwardRule,
+}
+
+// The forward rule of a number.
+pub enum GotRule {
+    Value(RetainForwardRule),
+    Refused(Error),
+}
+
+// The forward rule of a number, or refusal 14.
+pub fn retain_forward_rule(num: u8) -> GotRule
+    ensures { λ r. ⌜ toldGotRule r ≡ ruleOf num ⌝ }
+{
+    match num {
+        0 => GotRule::Value(RetainForwardRule::OnEverySubscribe),
+        1 => GotRule::Value(RetainForwardRule::OnNewSubscribe),
+        2 => GotRule::Value(RetainForwardRule::Never),
+        3..=255 => GotRule::Refused(Error::InvalidRetainForwardRule(num)),
+    }
 }
 
 // The number in the two bits.

@@ -2,4 +2,3 @@ pub mod Belong
 pub mod Size
 pub mod Run
 pub mod Test
-pub mod Put

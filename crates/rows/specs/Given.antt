@@ -3,26 +3,36 @@ use mathlib.Core.Bool.{Bool}
 use mathlib.Core.Option.{Option, none, some}
 use mathlib.Core.List.{List}
 use Prim.Native.Nat.{ℕ}
+use Rattle.writing.specs.Lists.{beside}
+use Rattle.writing.specs.Handed.{Run, Given, one, lent, pairs, strings}
 use Rattle.records.specs.declared.span.MaybeU8.{MaybeU8}
 use Rattle.records.specs.declared.span.MaybeU16.{MaybeU16}
 use Rattle.records.specs.declared.span.MaybeU32.{MaybeU32}
-use Rattle.writing.specs.Lists.{beside}
-use Rattle.writing.specs.Handed.{Lent, Run, Given, one, lent, pairs, strings}
 
 -- 01, table of properties: a u8, if it is given
-abbrev pub givenU8 : MaybeU8 → Given
-givenU8 MaybeU8.Absent = one none
-givenU8 (MaybeU8.Present n) = one (some n)
+abbrev pub numberU8 : MaybeU8 → Option ℕ
+numberU8 MaybeU8.Absent = none
+numberU8 (MaybeU8.Present n) = some n
 
 -- 01, table of properties: a u16, if it is given
-abbrev pub givenU16 : MaybeU16 → Given
-givenU16 MaybeU16.Absent = one none
-givenU16 (MaybeU16.Present n) = one (some n)
+abbrev pub numberU16 : MaybeU16 → Option ℕ
+numberU16 MaybeU16.Absent = none
+numberU16 (MaybeU16.Present n) = some n
 
 -- 01, table of properties: a u32 or a variable length number, if it is given
+abbrev pub numberU32 : MaybeU32 → Option ℕ
+numberU32 MaybeU32.Absent = none
+numberU32 (MaybeU32.Present n) = some n
+
+-- the row of each
+abbrev pub givenU8 : MaybeU8 → Given
+givenU8 v = one (numberU8 v)
+
+abbrev pub givenU16 : MaybeU16 → Given
+givenU16 v = one (numberU16 v)
+
 abbrev pub givenU32 : MaybeU32 → Given
-givenU32 MaybeU32.Absent = one none
-givenU32 (MaybeU32.Present n) = one (some n)
+givenU32 v = one (numberU32 v)
 
 -- 01, table of properties: text or bytes, if they are on
 abbrev pub givenLent : Bool → List ℕ → Given

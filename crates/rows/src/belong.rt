@@ -4,8 +4,18 @@ use records::span::MaybeU8;
 use records::span::MaybeU16;
 use records::span::MaybeU32;
 ghost use mathlib.Core.Path.{_≡_};
+ghost use mathlib.Core.Bool.{_&&_};
 ghost use Rattle.writing.specs.Handed.{several, addsUp, rowBelongs};
 ghost use Rattle.rows.specs.Given.{givenU8, givenU16, givenU32, givenLent, run, givenPairs};
+
+pub fn both(a: bool, b: bool) -> bool
+    ensures { λ r. ⌜ r ≡ (a && b) ⌝ }
+{
+    if a {
+        return b;
+    }
+    false
+}
 
 // Each length is taken off the bytes that are left: no sum can wrap.
 pub fn adds_up(bytes: &[u8], lengths: &[usize]) -> bool

@@ -3,6 +3,8 @@
 use crate::run;
 use records::error::Error;
 use utf8::is_utf8;
+use wire::string::GotStringLength;
+use wire::string::string_length;
 ghost use mathlib.Core.Path.{_≡_};
 ghost use mathlib.Core.List.{map};
 ghost use Rattle.grammar.specs.Tables.{text, bytes as bytesForm};
@@ -10,34 +12,49 @@ ghost use Rattle.writing.specs.Lists.{flat};
 ghost use Rattle.writing.specs.Handed.{strings};
 ghost use Rattle.writing.specs.Order.{judge, raw, word, filter, fieldTests, givenFields, filterField, small};
 ghost use Rattle.rows.specs.Given.{givenLent, run as runOf, filtersOf};
-ghost use Rattle.rows.specs.Tested.{toldTested};
+ghost use Rattle.rows.specs.Tested.{toldTested, first};
 
 pub enum Tested {
     Fine,
     Refused(Error),
 }
 
+// The first refusal of two.
+pub fn then(a: Tested, b: Tested) -> Tested
+    ensures { λ r. ⌜ toldTested r ≡ first (toldTested a) (toldTested b) ⌝ }
+{
+    match a {
+        Tested::Refused(e) => Tested::Refused(e),
+        Tested::Fine => b,
+    }
+}
+
+// Bytes: 18.
 pub fn test_raw(s: &[u8]) -> Tested
     ensures { λ r. ⌜ toldTested r ≡ judge (fieldTests (raw (now (s .entry)))) ⌝ }
 {
-    if 65535 < s.len() {
-        return Tested::Refused(Error::StringTooLong(s.len()));
+    match string_length(s) {
+        GotStringLength::Refused(e) => Tested::Refused(e),
+        GotStringLength::Value(_) => Tested::Fine,
     }
-    Tested::Fine
 }
 
+// A text: 18, then 9.
 pub fn test_word(s: &[u8]) -> Tested
     ensures { λ r. ⌜ toldTested r ≡ judge (fieldTests (word (now (s .entry)))) ⌝ }
 {
-    if 65535 < s.len() {
-        return Tested::Refused(Error::StringTooLong(s.len()));
+    match test_raw(s) {
+        Tested::Refused(e) => Tested::Refused(e),
+        Tested::Fine => {
+            if is_utf8(s) {
+                return Tested::Fine;
+            }
+            Tested::Refused(Error::TopicNotUtf8)
+        }
     }
-    if is_utf8(s) {
-        return Tested::Fine;
-    }
-    Tested::Refused(Error::TopicNotUtf8)
 }
 
+// A filter's text, then its options: 14, then 11.
 pub fn test_filter(s: &[u8], options: u8) -> Tested
     ensures { λ r. ⌜ toldTested r ≡ judge (fieldTests (filter (now (s .entry)) options)) ⌝ }
 {

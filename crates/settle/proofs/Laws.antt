@@ -1,30 +1,27 @@
--- The order of refusals, from what is found; and a frame put field by field. Assumes nothing.
-use mathlib.Core.Path.{_≡_, refl, sym, ap, _∙_}
+-- The order of refusals, from what is found, and what is written by it. Assumes nothing.
+use mathlib.Core.Path.{_≡_, refl, sym, _∙_}
 use mathlib.Core.Bool.{Bool, true, false}
 use mathlib.Core.Logic.{_⊎_, inl, inr}
 use mathlib.Core.Option.{Option}
-use mathlib.Core.List.{List, [], _++_}
-use Prim.Native.Nat.{ℕ, _+_, _≤_, _<_, min}
+use mathlib.Core.List.{List, []}
+use Prim.Native.Nat.{ℕ, _+_, _≤_, _<_}
 use native.Mathlib.Omega.{arith}
 use lib.Dec.{leb}
-use lib.ListN.{length, length-append}
-use lib.Seq.{sets, length-sets}
+use lib.ListN.{length}
+use lib.Seq.{sets}
 use Rattle.reading.specs.Refusal.{Refusal, nr}
 use Rattle.reading.specs.Reader.{Fit, got, bad, _>>_, guard}
 use Rattle.reading.proofs.Lists.{leb-yes, leb-no, leb-false}
 use Rattle.reading.proofs.Reading.{bad-got}
+use Rattle.writing.specs.Lists.{flat}
 use Rattle.writing.specs.Handed.{Handed, belongs}
 use Rattle.writing.specs.Size.{most, withLength, restIs, sizeIs, cap}
-use Rattle.writing.specs.Order.{judge, limitTests, permit}
+use Rattle.writing.specs.Order.{judge, fieldTests, fieldsOf, limitTests, permit}
 use Rattle.writing.specs.Write.{frameBytes, sizeOf, answerOf, Written}
 use Rattle.writing.proofs.Tests.{le-or}
-use Rattle.writing.proofs.ForCode.{cap-add, writes-all, writes-none}
+use Rattle.writing.proofs.ForCode.{writes-all, writes-none}
 use Rattle.writing.proofs.Belong.{belongs-when}
 use Rattle.writing.proofs.Verdict.{answered-when}
-use Rattle.wire.proofs.Laws.Put.{sets-append}
-use Rattle.rows.specs.Put.{Put}
-use Rattle.rows.proofs.Laws.Put.{sets-min}
-use Rattle.settle.specs.Behind.{Behind}
 use Rattle.settle.specs.Found.{earlyOf, lateOf, roomOf, settledOf, sizedOf, Found}
 
 -- ---- the order
@@ -63,6 +60,10 @@ sized-found h t m e r = go (le-or m most)
 -- what does not belong together is refused before any field is tested
 pub early-foreign : (h : Handed) (b : Bool) → b ≡ belongs h → b ≡ false → bad (nr 20 []) ≡ earlyOf h
 early-foreign h b e f = rw (← e, f)
+
+-- what does is refused as its fields are
+pub early-fields : (h : Handed) (b : Bool) → b ≡ belongs h → b ≡ true → judge (flat fieldTests (fieldsOf h)) ≡ earlyOf h
+early-fields h b e f = rw (← e, f)
 
 -- what is left once R is known to be small
 abbrev ending : Option ℕ → ℕ → ℕ → Fit (Unit {0}) → Fit ℕ
@@ -130,68 +131,3 @@ module _ (limit : Option ℕ) (h : Handed) (before : List ℕ) where
     all-written after f =
         let a = answered-when limit (length before) h n .0 (sym e) in
         rw (a .1) at (writes-all limit h before permitted after (f (belongs-when h .1 (a .0 .countable .belongs)) (a .0 .countable .rest)))
-
--- ---- bytes put field by field
-
--- of the bytes `whole`, which are to stand from `start` on, those before `place` are put, and `rest` is left
-pub record Upto (before : List ℕ) (start : ℕ) (whole out : List ℕ) (place : ℕ) (rest : List ℕ) : Type 0 where
-  pub done : ℕ
-  pub same : length out ≡ length before
-  pub at : (k : ℕ) → min (place + k) (length before) ≡ min (done + k) (length before)
-  pub stores : sets before start whole ≡ sets out done rest
-  pub count : start + length whole ≡ done + length rest
-
-pub upto-start : (before : List ℕ) (start : ℕ) (whole : List ℕ) → Upto before start whole before start whole
-upto-start before start whole = record { done = start; same = refl; at = λ k. refl; stores = refl; count = refl }
-
-module _ {before whole out rest : List ℕ} {start place : ℕ} (u : Upto before start whole out place rest) where
-  there : (xs : List ℕ) → sets out place xs ≡ sets out (u .done) xs
-  there xs =
-      let e : min place (length out) ≡ min (u .done) (length out) = omega (arith, u .at 0, u .same) in
-      sym (sets-min out xs place) ∙ rw e (sets-min out xs (u .done))
-
-  -- stored there, and the place behind it
-  pub upto-sets : (xs ys : List ℕ) → rest ≡ xs ++ ys → (out′ : List ℕ) → out′ ≡ sets out place xs → (place′ : ℕ) → place′ ≡ min (place + length xs) (length out′) → Upto before start whole out′ place′ ys
-  upto-sets xs ys e out′ q place′ m =
-      let s : out′ ≡ sets out (u .done) xs = q ∙ there xs in
-      let l : length out′ ≡ length before = ap length s ∙ length-sets out (u .done) xs ∙ u .same in
-      record {
-        done = u .done + length xs;
-        same = l;
-        at = λ k. omega (arith, u .at (length xs));
-        stores = u .stores ∙ rw (e, sets-append xs ys out (u .done), ← s);
-        count = omega (arith, u .count, ap length e ∙ length-append xs ys);
-      }
-
-  pub upto-put : (xs ys : List ℕ) → rest ≡ xs ++ ys → (out′ : List ℕ) (k : ℕ) → Put out place xs out′ k → (place′ : ℕ) → place′ ≡ min (place + k) (length out′) → Upto before start whole out′ place′ ys
-  upto-put xs ys e out′ k p place′ m = upto-sets xs ys e out′ (p .stores) place′ (rw (p .count) at m)
-
-  -- the last of it
-  pub upto-last : (xs : List ℕ) → rest ≡ xs → (out′ : List ℕ) → out′ ≡ sets out place xs → out′ ≡ sets before start whole
-  upto-last xs e out′ q = q ∙ there xs ∙ sym (u .stores ∙ rw e)
-
-  -- nothing is left
-  pub upto-behind : rest ≡ [] → place ≤ length out → Behind before start whole out place
-  upto-behind e l = record {
-    stores = sym (u .stores ∙ rw e);
-    place = omega (arith, u .same, u .at 0, u .count, ap length e);
-  }
-
--- ---- sums that are cut off
-
--- one summand is cut off
-pub cap-left : (a m n : ℕ) → a ≡ cap m → cap (a + n) ≡ cap (m + n)
-cap-left a m n e = rw e (cap-add m n)
-
--- both are
-pub cap-both : (a b m n : ℕ) → a ≡ cap m → b ≡ cap n → cap (a + b) ≡ cap (m + n)
-cap-both a b m n e f =
-    let i : m + b ≡ b + m = omega arith in
-    let j : n + m ≡ m + n = omega arith in
-    cap-left a m b e ∙ ap cap i ∙ cap-left b n m f ∙ ap cap j
-
--- the last of several
-pub cap-last : (a b m n : ℕ) → a ≡ cap m → b ≡ cap n → cap (a + b) ≡ cap (m + (n + 0))
-cap-last a b m n e f =
-    let i : n + 0 ≡ n = omega arith in
-    rw i (cap-both a b m n e f)

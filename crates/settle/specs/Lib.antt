@@ -1,3 +1,1 @@
 pub mod Found
-pub mod Behind
-pub mod Number

@@ -1,14 +1,14 @@
 // How every kind is written (01, writing order): the refusals in their order from what a kind has found, its size, and the first bytes
 // of its frame. The crate's `write` of each kind repeats these lines, and tests the limit first (D7).
+use numbers::fixed;
+use numbers::length::len_len;
+use numbers::length::write_remaining_length;
 use records::answer::Limit;
 use records::answer::Sized;
 use records::answer::Written;
 use records::error::Error;
 use rows::run;
 use rows::test::Tested;
-use wire::fixed;
-use wire::length::len_len;
-use wire::length::write_remaining_length;
 ghost use mathlib.Core.Path.{_≡_};
 ghost use mathlib.Core.List.{_∷_};
 ghost use Prim.Native.Nat.{_+_, _≤_};
@@ -18,7 +18,7 @@ ghost use Rattle.writing.specs.Order.{judge, limitTests};
 ghost use Rattle.records.specs.Told.{limitOf};
 ghost use Rattle.records.specs.Answered.{toldSized, toldWritten};
 ghost use Rattle.rows.specs.Tested.{toldTested};
-ghost use Rattle.rows.specs.Put.{Put};
+ghost use Rattle.row_puts.specs.Put.{Put};
 ghost use Rattle.settle.specs.Found.{roomOf, settledOf, sizedOf};
 
 const MOST: usize = 268435455;

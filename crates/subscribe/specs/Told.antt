@@ -1,7 +1,8 @@
 -- What the answers on filters and on a Subscribe tell, in 01's numbers and values. Assumes nothing.
-use mathlib.Core.List.{[], _∷_}
+use mathlib.Core.Path.{_≡_}
+use mathlib.Core.List.{List, [], _∷_}
 use Prim.Native.Nat.{ℕ}
-use lib.Dec.{ltb, eqb}
+use lib.Dec.{eqb}
 use Rattle.grammar.specs.Choice.{pick}
 use Rattle.grammar.specs.Record.{subscribe, mkFilter}
 use Rattle.grammar.specs.Record as record-of
@@ -9,29 +10,19 @@ use Rattle.grammar.specs.Sentence.{qosFine, ruleFine}
 use Rattle.reading.specs.Refusal.{nr}
 use Rattle.reading.specs.Reader.{Fit, got, bad, Filler, _>>=_, _>>_, guard, handFit}
 use Rattle.reading.specs.Read.{filtersFit}
-use Rattle.reading.specs.Place.{Placed, asPlaces, orNoItem, nthOf}
+use Rattle.reading.specs.Place.{Placed, asPlaces, orNoItem, nthOf, filterAt}
 use Rattle.reading.specs.Place as place
-use Rattle.records.specs.Told.{toldError, toldRule, toldSpan}
+use Rattle.records.specs.Told.{toldError, toldSpan}
 use Rattle.records.specs.Said.{toldFilter, toldSubscribe}
 use Rattle.records.specs.Answered.{toldFilterItem}
 use Rattle.records.specs.declared.answer.FilterItem.{FilterItem}
+use Rattle.records.specs.declared.span.Span.{Span}
 use Rattle.records.specs.declared.subscribe.Filter.{Filter}
 use Rattle.subscribe.specs.declared.GotSubscribe.{GotSubscribe}
-use Rattle.subscribe.specs.declared.filter.GotRule.{GotRule}
 use Rattle.subscribe.specs.declared.filter.GotFilter.{GotFilter}
 use Rattle.subscribe.specs.declared.filter.GotFilters.{GotFilters}
 
 -- ---- the options byte
-
-abbrev pub toldGotRule : GotRule → Fit ℕ
-toldGotRule (GotRule.Value r) = got (toldRule r)
-toldGotRule (GotRule.Refused e) = bad (toldError e)
-
--- the crate: 0, 1 and 2 are forward rules; 01, row 14, for any other number
-abbrev pub ruleOf : ℕ → Fit ℕ
-ruleOf n = do
-  guard (ltb n 3) (nr 14 (n ∷ []))
-  got n
 
 -- a filter, and the index after it
 abbrev pub toldGotFilter : GotFilter → Fit (record-of.Filter place.Span × ℕ)
@@ -65,6 +56,10 @@ abbrev pub nthFit : ℕ → ℕ → Filler (record-of.Filter place.Span)
 nthFit n end s = do
   fs ← orNoItem (filtersFit asPlaces end s)
   nthOf n fs
+
+-- the contract of `filter`: r is the n-th filter of the run at p in s, or 21
+abbrev pub NthFilter : List ℕ → Span → ℕ → FilterItem → Type 0
+NthFilter s p n r = toldFilterItem r ≡ filterAt asPlaces s (toldSpan p) n
 
 -- ---- the packet
 

@@ -1,13 +1,14 @@
 // Filters, after `Filter::read` of subscribe.rs: one filter, a run of them to the end of the slice, and the n-th of a run.
 // The end of the slice is the end of their room.
+use numbers::fixed;
+use numbers::got::GotU8;
 use records::answer::FilterItem;
 use records::error::Error;
 use records::span::Span;
 use records::subscribe::Filter;
-use records::subscribe::RetainForwardRule;
-use wire::fixed;
+use records::subscribe::GotRule;
+use records::subscribe::retain_forward_rule;
 use wire::got::GotSpan;
-use wire::got::GotU8;
 use wire::qos;
 use wire::qos::GotQos;
 use wire::string;
@@ -15,11 +16,11 @@ ghost use mathlib.Core.Path.{_≡_};
 ghost use Prim.Native.Nat.{_%_};
 ghost use lib.ListN.{length, drop};
 ghost use Rattle.reading.specs.Read.{filterOf};
-ghost use Rattle.reading.specs.Place.{asPlaces, filterAt};
+ghost use Rattle.reading.specs.Place.{asPlaces};
 ghost use Rattle.positions.specs.Position.{fromAt};
 ghost use Rattle.records.specs.Told.{toldBool, toldSpan};
 ghost use Rattle.records.specs.Answered.{toldFilterItem};
-ghost use Rattle.subscribe.specs.Told.{toldGotRule, ruleOf, toldGotFilter, optionsOf, toldGotFilters, placeFit, chosen, nthFit};
+ghost use Rattle.subscribe.specs.Told.{toldGotFilter, optionsOf, toldGotFilters, placeFit, chosen, nthFit, NthFilter};
 
 // A filter and the index after it.
 pub enum GotFilter {
@@ -33,28 +34,11 @@ pub enum GotFilters {
     Refused(Error),
 }
 
-enum GotRule {
-    Value(RetainForwardRule),
-    Refused(Error),
-}
-
 // The lowest bit.
 fn odd(n: u8) -> bool
     ensures { λ r. ⌜ toldBool r ≡ n % 2 ⌝ }
 {
     n % 2 == 1
-}
-
-// A number as a forward rule, or refusal 14.
-fn retain_forward_rule(num: u8) -> GotRule
-    ensures { λ r. ⌜ toldGotRule r ≡ ruleOf num ⌝ }
-{
-    match num {
-        0 => GotRule::Value(RetainForwardRule::OnEverySubscribe),
-        1 => GotRule::Value(RetainForwardRule::OnNewSubscribe),
-        2 => GotRule::Value(RetainForwardRule::Never),
-        3..=255 => GotRule::Refused(Error::InvalidRetainForwardRule(num)),
-    }
 }
 
 // The filter of a text and its options byte, which ends at `next`: the forward rule before QoS; bits 6 and 7 are ignored.
@@ -79,6 +63,7 @@ fn with_options(path: Span, options: u8, next: usize) -> GotFilter
     }
 }
 
+// One filter and the index after it.
 pub fn read_filter(s: &[u8], at: usize) -> GotFilter
     ensures { λ r. ⌜ toldGotFilter r ≡ fromAt (filterOf asPlaces (length (now (s .entry)))) (now (s .entry)) at ⌝ }
 {
@@ -144,7 +129,7 @@ fn nth(s: &[u8], at: usize, n: usize) -> FilterItem
 
 // The n-th filter of the run at a place, n from 0; any bytes, any place.
 pub fn filter(s: &[u8], p: Span, n: usize) -> FilterItem
-    ensures { λ r. ⌜ toldFilterItem r ≡ filterAt asPlaces (now (s .entry)) (toldSpan p) n ⌝ }
+    ensures { λ r. ⌜ NthFilter (now (s .entry)) p n r ⌝ }
 {
     let start = p.start;
     let len = p.len;

@@ -1,11 +1,11 @@
 // Subscribe, after `Subscribe::read` of subscribe.rs: the fields of a frame from an index to the end of the slice.
 use crate::filter::GotFilters;
+use numbers::fixed;
+use numbers::got::GotU16;
 use properties::subscribe;
 use properties::subscribe::GotSubscribeBlock;
 use records::error::Error;
 use records::subscribe::Subscribe;
-use wire::fixed;
-use wire::got::GotU16;
 ghost use mathlib.Core.Path.{_≡_};
 ghost use Prim.Native.Nat.{ℕ};
 ghost use lib.ListN.{length, drop};

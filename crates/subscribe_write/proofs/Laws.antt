@@ -1,8 +1,8 @@
 -- What is found of a Subscribe, and its bytes. Assumes nothing.
 use mathlib.Core.Path.{_≡_, refl, sym, ap, _∙_}
-use mathlib.Core.Bool.{Bool, true, false, not, _&&_}
+use mathlib.Core.Bool.{Bool, true, not, _&&_, and-true}
 use mathlib.Core.Option.{some}
-use mathlib.Core.List.{List, [], _∷_, _++_, map, append-assoc}
+use mathlib.Core.List.{List, [], _∷_, _++_, map, append-assoc, append-nil}
 use Prim.Native.Nat.{ℕ, _+_, _*_, _≤_, _<_, min}
 use native.Mathlib.Omega.{arith}
 use lib.Dec.{eqb}
@@ -10,8 +10,8 @@ use lib.ListN.{length}
 use lib.Seq.{sets}
 use Rattle.grammar.specs.Choice.{isEmpty}
 use Rattle.grammar.specs.Tables.{number, pair, subscribePlace}
-use Rattle.reading.specs.Refusal.{Refusal, nr}
-use Rattle.reading.specs.Reader.{got, bad, _>>_, guard}
+use Rattle.reading.specs.Refusal.{nr}
+use Rattle.reading.specs.Reader.{Fit, got, bad, guard}
 use Rattle.reading.proofs.Lists.{leb-yes, leb-no}
 use Rattle.writing.specs.Lists.{flat}
 use Rattle.writing.specs.Handed.{SubscribeHanded, subscribe, one, pairs, addsUp, subscribeGiven, filters, filtersBelong, rowBelongs, belongs}
@@ -21,31 +21,15 @@ use Rattle.writing.specs.Order.{judge, fieldTests, filterField, small, orNone}
 use Rattle.writing.specs.Write.{firstByte, frameBytes}
 use Rattle.writing.proofs.ForCode.{judgeAll, subscribe-belongs, subscribe-tests, subscribe-sum, subscribe-frame, cap-small, cap-length}
 use Rattle.writing.proofs.Pins.{subscribe-props, first-bytes}
-use Rattle.records.specs.declared.span.MaybeU32.{MaybeU32}
-use Rattle.wire.proofs.Laws.Put.{length-wide}
-use Rattle.rows.specs.Given.{givenU32, filtersOf}
-use Rattle.rows.specs.Put.{Put}
-use Rattle.settle.specs.Behind.{Behind}
+use Rattle.numbers.proofs.Laws.Put.{length-wide}
+use Rattle.rows.specs.Given.{filtersOf}
+use Rattle.rows.specs.Tested.{first}
+use Rattle.rows.proofs.Laws.Size.{cap-left, cap-both, cap-last}
+use Rattle.row_puts.specs.Put.{Put}
+use Rattle.row_puts.specs.Behind.{Behind}
+use Rattle.row_puts.proofs.Laws.{store-next, put-next, next-last, next-then}
 use Rattle.settle.specs.Found.{earlyOf, lateOf}
-use Rattle.settle.specs.Number.{numberU32}
-use Rattle.settle.proofs.Laws.{cap-left, cap-both, cap-last, Upto, upto-start, upto-sets, upto-put, upto-last, upto-behind}
-
--- the identifier, as a row has it
-pub given-number : (v : MaybeU32) → givenU32 v ≡ one (numberU32 v)
-given-number MaybeU32.Absent = refl
-given-number (MaybeU32.Present n) = refl
-
-pub put-given : (v : MaybeU32) (l l′ : List ℕ) (at i k : ℕ) → Put l at (rowBytes (i, number) (givenU32 v)) l′ k → Put l at (rowBytes (i, number) (one (numberU32 v))) l′ k
-put-given MaybeU32.Absent l l′ at i k p = p
-put-given (MaybeU32.Present n) l l′ at i k p = p
-
--- ---- one test, and then another
-
-pub and-no : (t a b : Bool) → t ≡ a → t ≡ false → false ≡ (a && b)
-and-no t a b e f = rw (← e, f)
-
-pub and-yes : (t a b : Bool) → t ≡ a → t ≡ true → b ≡ (a && b)
-and-yes t a b e f = rw (← e, f)
+use Rattle.settle.proofs.Laws.{early-fields}
 
 -- ---- 17 for the identifier
 
@@ -87,16 +71,10 @@ first-byte h = first-bytes .1
 module _ (h : SubscribeHanded) where
   -- ---- 20
 
-  pub id-foreign : (b : Bool) → b ≡ rowBelongs (h .block) (one (h .subscription)) → b ≡ false → false ≡ belongs (subscribe h)
-  id-foreign b e f = sym (subscribe-belongs h ∙ rw (← e, f))
-
-  module _ (b : Bool) (e : b ≡ rowBelongs (h .block) (one (h .subscription))) (f : b ≡ true) (c : Bool) (g : c ≡ rowBelongs (h .block) (pairs (h .user))) where
-    pub user-foreign : c ≡ false → false ≡ belongs (subscribe h)
-    user-foreign i = sym (subscribe-belongs h ∙ rw (← e, f, ← g, i))
-
-    pub filters-last : c ≡ true → (d : Bool) → d ≡ (addsUp (h .filters) && eqb (length (h .filters .lengths)) (length (h .options))) → d ≡ belongs (subscribe h)
-    unfolding filtersBelong
-    filters-last i d j = sym (subscribe-belongs h ∙ rw (← e, f, ← g, i, ← j))
+  pub belong-all : {x y z r s : Bool} → x ≡ rowBelongs (h .block) (one (h .subscription)) → y ≡ rowBelongs (h .block) (pairs (h .user))
+      → z ≡ (addsUp (h .filters) && eqb (length (h .filters .lengths)) (length (h .options))) → r ≡ (x && y) → s ≡ (r && z) → s ≡ belongs (subscribe h)
+  unfolding filtersBelong
+  belong-all {y = y} e f g i j = sym (subscribe-belongs h ∙ rw (← e, ← f, ← g, and-true y, ← i, ← j))
 
   -- ---- L and R
 
@@ -115,25 +93,17 @@ module _ (h : SubscribeHanded) where
 
   -- ---- 20 and the fields
 
-  module _ (b : Bool) (e : b ≡ belongs (subscribe h)) (f : b ≡ true) where
-    tests : earlyOf (subscribe h) ≡ (judgeAll (h .user) >> judge (flat fieldTests (map filterField (filters h))))
-    tests = rw (← e, f) (subscribe-tests h)
-
-    pub early-user : (k : Refusal) → bad k ≡ judgeAll (h .user) → bad k ≡ earlyOf (subscribe h)
-    early-user k j = sym (tests ∙ rw (← j))
-
-    pub early-filters : got tt ≡ judgeAll (h .user) → judge (flat fieldTests (map filterField (filtersOf (h .filters .bytes) (h .filters .lengths) (h .options)))) ≡ earlyOf (subscribe h)
-    unfolding filters
-    early-filters j = sym (tests ∙ rw (← j))
+  pub early-all : {b : Bool} {x y r : Fit (Unit {0})} → b ≡ belongs (subscribe h) → b ≡ true → x ≡ judgeAll (h .user)
+      → y ≡ judge (flat fieldTests (map filterField (filtersOf (h .filters .bytes) (h .filters .lengths) (h .options)))) → r ≡ first x y → r ≡ earlyOf (subscribe h)
+  unfolding filters
+  early-all {b} e f i j k = k ∙ rw (i, j) (sym (subscribe-tests h)) ∙ early-fields (subscribe h) b e f
 
   -- ---- 17 for the identifier, and 13
 
-  pub late-number : (k : Refusal) → bad k ≡ judge (map small (orNone (h .subscription))) → bad k ≡ lateOf (subscribe h)
-  late-number k e = rw (← e)
-
-  pub late-asked : got tt ≡ judge (map small (orNone (h .subscription))) → guard (not (isEmpty (filtersOf (h .filters .bytes) (h .filters .lengths) (h .options)))) (nr 13 []) ≡ lateOf (subscribe h)
+  pub late-all : {x y r : Fit (Unit {0})} → x ≡ judge (map small (orNone (h .subscription)))
+      → y ≡ guard (not (isEmpty (filtersOf (h .filters .bytes) (h .filters .lengths) (h .options)))) (nr 13 []) → r ≡ first x y → r ≡ lateOf (subscribe h)
   unfolding filters
-  late-asked e = rw (← e)
+  late-all e f g = g ∙ rw (e, f)
 
   -- ---- the bytes
 
@@ -155,13 +125,10 @@ module _ (h : SubscribeHanded) where
   put-frame before out₁ out₂ out₃ out₄ len n first second third j l p₁ m₁ q₂ m₂ p₃ p₄ e s =
       let i : len ≡ restIs (subscribe h) = l ∙ cap-small (restIs (subscribe h)) s in
       let fs : List ℕ = flat filterBytes (filters h) in
-      let whole : List ℕ = frameBytes (subscribe h) in
-      let frame : whole ≡ (0x82 ∷ short len) ++ (wide 2 (h .ident) ++ (block ++ fs)) = spelt i e in
-      let p = p₃ (length-small s) in
-      let u₁ : Upto before 0 whole out₁ first (wide 2 (h .ident) ++ (block ++ fs)) = upto-put (upto-start before 0 whole) (0x82 ∷ short len) (wide 2 (h .ident) ++ (block ++ fs)) frame out₁ n p₁ first m₁ in
-      let u₂ : Upto before 0 whole out₂ second (block ++ fs) = upto-sets u₁ (wide 2 (h .ident)) (block ++ fs) refl out₂ q₂ second (m₂ ∙ rw (length-wide 2 (h .ident))) in
-      let u₃ : Upto before 0 whole out₃ third fs = upto-sets u₂ block fs refl out₃ (p .stores) third (p .place) in
-      upto-last u₃ fs refl out₄ (p₄ .stores)
+      next-last (put-next p₁ m₁) (wide 2 (h .ident) ++ (block ++ fs))
+      (next-last (store-next (wide 2 (h .ident)) q₂ (sym (length-wide 2 (h .ident))) m₂) (block ++ fs)
+      (next-last (p₃ (length-small s)) fs (p₄ .stores)))
+      ∙ ap (sets before 0) (sym (spelt i e))
     where
       spelt : len ≡ restIs (subscribe h) → belongs (subscribe h) ≡ true → frameBytes (subscribe h) ≡ (0x82 ∷ short len) ++ (wide 2 (h .ident) ++ (block ++ flat filterBytes (filters h)))
       spelt i e = subscribe-frame h e ∙ rw (i, append-assoc (short (propsSize subscribePlace (subscribeGiven h))) (propsBytes subscribePlace (subscribeGiven h)) (flat filterBytes (filters h)), first-byte h)
@@ -173,7 +140,5 @@ module _ (h : SubscribeHanded) where
       → propsSize subscribePlace (subscribeGiven h) ≤ most → Behind before at block out₃ third
   put-rows before out₁ out₂ out₃ at len n first k second j third l (q₁, c₁) m₁ p₂ m₂ p₃ m₃ s =
       let i : len ≡ propsSize subscribePlace (subscribeGiven h) = l ∙ cap-small (propsSize subscribePlace (subscribeGiven h)) s in
-      let u₁ : Upto before at block out₁ first (propsBytes subscribePlace (subscribeGiven h)) = upto-sets (upto-start before at block) (short len) (propsBytes subscribePlace (subscribeGiven h)) (rw i) out₁ q₁ first (rw c₁ at m₁) in
-      let u₂ = upto-put u₁ (rowBytes (11, number) (one (h .subscription))) (rowBytes (38, pair) (pairs (h .user)) ++ []) (subscribe-props h) out₂ k p₂ second m₂ in
-      let u₃ = upto-put u₂ (rowBytes (38, pair) (pairs (h .user))) [] refl out₃ j p₃ third m₃ in
-      upto-behind u₃ refl (omega arith)
+      let r : List ℕ = rowBytes (38, pair) (pairs (h .user)) in
+      rw (← i, subscribe-props h, append-nil r) (next-then (store-next (short len) q₁ c₁ m₁) (next-then (put-next p₂ m₂) (put-next p₃ m₃)))

@@ -1,18 +1,17 @@
 // A Subscribe, written, after `write` and `size` of subscribe.rs: first every refusal and the size, touching nothing, then the bytes. An
 // empty filter list is refused (D6).
+use numbers::fixed;
+use numbers::length::write_remaining_length;
 use records::answer::Limit;
 use records::answer::Sized;
 use records::answer::Written;
 use records::error::Error;
 use records::span::MaybeU32;
 use rows::belong;
-use rows::put;
 use rows::run;
 use rows::size;
 use rows::test;
 use rows::test::Tested;
-use wire::fixed;
-use wire::length::write_remaining_length;
 ghost use mathlib.Core.Path.{_≡_};
 ghost use mathlib.Core.Bool.{true, not, _&&_};
 ghost use mathlib.Core.List.{List, [], _++_, map};
@@ -31,11 +30,10 @@ ghost use Rattle.writing.specs.Order.{judge, small, orNone};
 ghost use Rattle.writing.specs.Write.{frameBytes, sizeOf, Written as WrittenOf};
 ghost use Rattle.records.specs.Told.{limitOf};
 ghost use Rattle.records.specs.Answered.{toldSized, toldWritten};
-ghost use Rattle.rows.specs.Given.{run as runOf, filtersOf};
+ghost use Rattle.rows.specs.Given.{numberU32, run as runOf, filtersOf};
 ghost use Rattle.rows.specs.Tested.{toldTested};
+ghost use Rattle.row_puts.specs.Behind.{Behind};
 ghost use Rattle.settle.specs.Found.{earlyOf, lateOf};
-ghost use Rattle.settle.specs.Behind.{Behind};
-ghost use Rattle.settle.specs.Number.{numberU32};
 ghost use Rattle.subscribe_write.specs.Handed.{handed};
 
 // What is handed over by value; the user properties and the filters are lent beside it.
@@ -49,10 +47,8 @@ pub struct SubscribeHead {
 fn filters_belong(filters: &[u8], filter_lengths: &[usize], options: &[u8]) -> bool
     ensures { λ r. ⌜ r ≡ (addsUp (runOf (now (filters .entry)) (now («filter_lengths» .entry))) && eqb (length (now («filter_lengths» .entry))) (length (now (options .entry)))) ⌝ }
 {
-    if !belong::adds_up(filters, filter_lengths) {
-        return false;
-    }
-    filter_lengths.len() == options.len()
+    let same = filter_lengths.len() == options.len();
+    belong::both(belong::adds_up(filters, filter_lengths), same)
 }
 
 // 20
@@ -67,13 +63,11 @@ fn belongs(
     ensures { λ r. ⌜ r ≡ belongsOf (subscribe (handed m (now (user .entry)) (now («user_lengths» .entry)) (now (filters .entry)) (now («filter_lengths» .entry)) (now (options .entry)))) ⌝ }
 {
     let id = m.id;
-    if !belong::u32_belongs(m.block, id) {
-        return false;
-    }
-    if !belong::pairs_belong(m.block, user, user_lengths) {
-        return false;
-    }
-    filters_belong(filters, filter_lengths, options)
+    let block = belong::both(
+        belong::u32_belongs(m.block, id),
+        belong::pairs_belong(m.block, user, user_lengths),
+    );
+    belong::both(block, filters_belong(filters, filter_lengths, options))
 }
 
 // L, cut off where it is too large.
@@ -139,10 +133,10 @@ fn early(
     if !belongs(m, user, user_lengths, filters, filter_lengths, options) {
         return Tested::Refused(Error::ListMismatch);
     }
-    match test::test_words(user, user_lengths) {
-        Tested::Refused(e) => Tested::Refused(e),
-        Tested::Fine => test::test_filters(filters, filter_lengths, options),
-    }
+    test::then(
+        test::test_words(user, user_lengths),
+        test::test_filters(filters, filter_lengths, options),
+    )
 }
 
 // 17 for the identifier.
@@ -178,10 +172,7 @@ fn late(m: SubscribeHead, filter_lengths: &[usize], options: &[u8]) -> Tested
     ensures { λ r. ⌜ ((user lengths filters : List ℕ) → toldTested r ≡ lateOf (subscribe (handed m user lengths filters (now («filter_lengths» .entry)) (now (options .entry))))) ⌝ }
 {
     let id = m.id;
-    match test_id(id) {
-        Tested::Refused(e) => Tested::Refused(e),
-        Tested::Fine => test_asked(filter_lengths, options),
-    }
+    test::then(test_id(id), test_asked(filter_lengths, options))
 }
 
 // L and the properties; gives the place behind them.
@@ -198,9 +189,9 @@ fn put_block(
     let id = m.id;
     let n = write_remaining_length(&mut *out, at, len);
     let first = run::after(out.len(), at, n);
-    let k = put::put_number_if(&mut *out, first, 11, id);
+    let k = row_puts::put_number_if(&mut *out, first, 11, id);
     let second = run::after(out.len(), first, k);
-    let j = put::put_pairs(&mut *out, second, user, user_lengths);
+    let j = row_puts::put_pairs(&mut *out, second, user, user_lengths);
     run::after(out.len(), second, j)
 }
 
@@ -222,7 +213,7 @@ fn put(
     fixed::put_u16(&mut *out, first, m.pkid);
     let second = run::after(out.len(), first, 2);
     let third = put_block(&mut *out, second, m, user, user_lengths);
-    put::put_filters(&mut *out, third, filters, filter_lengths, options);
+    row_puts::put_filters(&mut *out, third, filters, filter_lengths, options);
 }
 
 pub fn write(

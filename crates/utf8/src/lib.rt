@@ -131,8 +131,8 @@ fn pass_chunk(s: &[u8], at: usize) -> usize
     pass_chars(s, at, end)
 }
 
-// Is `s` well-formed UTF-8?
-pub fn is_utf8(s: &[u8]) -> bool
+// Is `s` well-formed UTF-8? Chunk by chunk.
+fn by_chunks(s: &[u8]) -> bool
     ensures { λ r. ⌜ r ≡ isText (now (s .entry)) ⌝ }
 {
     let mut i: usize = 0;
@@ -144,4 +144,24 @@ pub fn is_utf8(s: &[u8]) -> bool
         i = next;
     }
     true
+}
+
+// The same of a few bytes, which are mostly ASCII.
+fn is_short(s: &[u8]) -> bool
+    ensures { λ r. ⌜ r ≡ isText (now (s .entry)) ⌝ }
+{
+    if is_ascii(s, 0, s.len()) {
+        return true;
+    }
+    by_chunks(s)
+}
+
+// Is `s` well-formed UTF-8? All but the chunks is small, and compiled into its callers: a short ASCII text costs no call.
+pub fn is_utf8(s: &[u8]) -> bool
+    ensures { λ r. ⌜ r ≡ isText (now (s .entry)) ⌝ }
+{
+    if s.len() < 8 {
+        return is_short(s);
+    }
+    by_chunks(s)
 }

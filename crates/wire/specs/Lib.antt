@@ -1,4 +1,4 @@
 pub mod Told
-pub mod Length
+pub mod Written
 pub mod Property
 pub mod Qos

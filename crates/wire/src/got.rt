@@ -1,21 +1,6 @@
-// What was read and the index after it, or the refusal: one answer for each width.
+// The place that was read and the index after it, or the refusal.
 use records::error::Error;
 use records::span::Span;
-
-pub enum GotU8 {
-    Value(u8, usize),
-    Refused(Error),
-}
-
-pub enum GotU16 {
-    Value(u16, usize),
-    Refused(Error),
-}
-
-pub enum GotU32 {
-    Value(u32, usize),
-    Refused(Error),
-}
 
 pub enum GotSpan {
     Value(Span, usize),

@@ -1,7 +1,6 @@
-// The leaves of the codec, after the helpers of v5/mod.rs: what stands at an index of a slice, and what is put at an index of an output.
-pub mod fixed;
+// Strings and tables of the codec, after the helpers of v5/mod.rs: what stands at an index of a slice, what is put at an index of an
+// output, and what a number stands for.
 pub mod got;
-pub mod length;
 pub mod property;
 pub mod qos;
 pub mod string;

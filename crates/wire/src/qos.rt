@@ -9,6 +9,7 @@ pub enum GotQos {
     Refused(Error),
 }
 
+// The quality of service of a number, or refusal 11.
 pub fn qos(num: u8) -> GotQos
     ensures { λ r. ⌜ toldGotQos r ≡ qosOf num ⌝ }
 {
@@ -16,6 +17,6 @@ pub fn qos(num: u8) -> GotQos
         0 => GotQos::Value(QoS::AtMostOnce),
         1 => GotQos::Value(QoS::AtLeastOnce),
         2 => GotQos::Value(QoS::ExactlyOnce),
-        _ => GotQos::Refused(Error::InvalidQoS(num)),
+        3..=255 => GotQos::Refused(Error::InvalidQoS(num)),
     }
 }

@@ -1,8 +1,8 @@
 // Strings, a u16 length and that many bytes: `read_mqtt_bytes`, `read_mqtt_string` and `write_mqtt_bytes` of v5/mod.rs, and the part
 // of a stream at a place. A read gives the place; the end of the slice is the end of its room.
-use crate::fixed;
 use crate::got::GotSpan;
-use crate::got::GotU16;
+use numbers::fixed;
+use numbers::got::GotU16;
 use records::error::Error;
 use records::span::MaybeSpan;
 use records::span::Span;
@@ -14,9 +14,11 @@ ghost use Rattle.reading.specs.Read.{bytesOf, textOf};
 ghost use Rattle.reading.specs.Place.{asPlaces, heldOf};
 ghost use Rattle.positions.specs.Position.{fromAt};
 ghost use Rattle.writing.specs.Spell.{string};
-ghost use Rattle.records.specs.Told.{toldSpan};
-ghost use Rattle.wire.specs.Told.{toldPart, heldIf};
+ghost use Rattle.records.specs.Told.{toldSpan, toldString};
+ghost use Rattle.wire.specs.Told.{toldPart, stringIf};
+ghost use Rattle.wire.specs.Written.{toldStringLength, stringLength};
 
+// The place of a string of any bytes.
 pub fn read_mqtt_bytes(s: &[u8], at: usize) -> GotSpan
     ensures { λ r. ⌜ toldPart r ≡ fromAt (bytesOf asPlaces (length (now (s .entry)))) (now (s .entry)) at ⌝ }
 {
@@ -32,6 +34,7 @@ pub fn read_mqtt_bytes(s: &[u8], at: usize) -> GotSpan
     }
 }
 
+// The place of a string of text.
 pub fn read_mqtt_string(s: &[u8], at: usize) -> GotSpan
     ensures { λ r. ⌜ toldPart r ≡ fromAt (textOf asPlaces (length (now (s .entry)))) (now (s .entry)) at ⌝ }
 {
@@ -64,7 +67,7 @@ pub fn part<'a>(s: &'a [u8], p: Span) -> &'a [u8]
 
 // The same of a place that may be absent, which gives the empty part.
 pub fn part_if<'a>(s: &'a [u8], p: MaybeSpan) -> &'a [u8]
-    ensures { λ r. ⌜ now r ≡ heldIf (now (s .entry)) p ⌝ }
+    ensures { λ r. ⌜ now r ≡ stringIf (heldOf (now (s .entry))) (toldString p) ⌝ }
 {
     match p {
         MaybeSpan::Absent => &s[..0],
@@ -85,7 +88,7 @@ fn fitting(room: usize, at: usize, n: usize) -> usize
     room - at
 }
 
-// What would lie past the end is not stored.
+// Puts the bytes as they are; what would lie past the end is not stored.
 pub fn put_bytes(out: &mut [u8], at: usize, s: &[u8])
     ensures { λ r. ⌜ now (out .exit) ≡ sets (now (out .entry)) at (now (s .entry)) ⌝ }
 {
@@ -97,7 +100,24 @@ pub fn put_bytes(out: &mut [u8], at: usize, s: &[u8])
     }
 }
 
-// The length is written modulo 65,536, as `string` has it: a caller tests it before (18).
+// The length to be written before a string, or 18.
+pub enum GotStringLength {
+    Value(u16),
+    Refused(Error),
+}
+
+// Every writer asks before it puts a byte (D5: the crate cuts the length to 16 bits).
+pub fn string_length(s: &[u8]) -> GotStringLength
+    ensures { λ r. ⌜ toldStringLength r ≡ stringLength (now (s .entry)) ⌝ }
+{
+    if 65535 < s.len() {
+        return GotStringLength::Refused(Error::StringTooLong(s.len()));
+    }
+    let len = s.len() as u16;
+    GotStringLength::Value(len)
+}
+
+// The length is written modulo 65,536, as `string` has it: `string_length` refuses what is longer.
 pub fn write_mqtt_bytes(out: &mut [u8], at: usize, s: &[u8])
     ensures { λ r. ⌜ now (out .exit) ≡ sets (now (out .entry)) at (string (now (s .entry))) ⌝ }
 {

@@ -1,4 +1,4 @@
-//! ns for a variable length number, and bytes of UTF-8 in a ns: wire's leaves (port), the same loops in Rust (same), the crate's `length`
+//! ns for a variable length number, and bytes of UTF-8 in a ns: the leaves (port), the same loops in Rust (same), the crate's `length`
 //! (crate) and std::str::from_utf8 (std), the hand-written reader's (hand), over the same bytes. One call a number or a text on every side.
 use oracle::timing::{load, medians, report, rounds, Contender};
 use oracle::{codec, limit, same, streams};

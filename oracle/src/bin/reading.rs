@@ -74,6 +74,8 @@ fn medians(stream: &[u8], readers: &[Reader], rounds: usize, apart: bool) -> Vec
     for _ in 0..rounds {
         for (i, (name, read)) in readers.iter().enumerate() {
             let mut copy = if *name == "crate" { BytesMut::from(stream) } else { BytesMut::new() };
+            // touched each time, so that no reader pays for what the one before it left in the caches
+            black_box(stream.iter().fold(0, |all, b| all | b));
             let start = now();
             let sum = read(black_box(stream), black_box(&mut copy));
             times[i].push((now() - start) as f64);

@@ -15,7 +15,7 @@ use types.Run.{OneOf, miss}
 use Rattle.grammar.specs.Choice.{lookup}
 use Rattle.grammar.specs.Gram.{forget}
 use Rattle.grammar.specs.Tables.{Form, u8, u16, u32, number, text, bytes, pair, Place, publishPlace, subscribePlace, ackPlace}
-use Rattle.grammar.specs.Record.{Prop, allOf}
+use Rattle.grammar.specs.Record.{PropOf, allOf}
 use Rattle.reading.specs.Reader.{Fit, got, bad, Reader, _>>=_, chainFit}
 use Rattle.reading.specs.Read.{propertyOf, propertiesFit}
 use Rattle.reading.specs.Place.{Span, asPlaces, orNoItem, again, nthOf, valuesAt}
@@ -63,7 +63,7 @@ module _ (i k : ℕ) (v : Value) where
 
 module _ (row : Place) (i : ℕ) (s : List ℕ) where
   -- the readings of a block are a chain of these
-  abbrev reads : Unit {0} → Reader (Prop Span)
+  abbrev reads : Unit {0} → Reader (PropOf Span)
   reads u = propertyOf asPlaces row (length s)
 
   less : (u : Unit {0}) → Less (length s) (reads u)
@@ -112,7 +112,7 @@ module _ (row : Place) (i : ℕ) (s : List ℕ) where
               formed = o .formed (lookup row) (r .typed) (w .formed);
             }
           where
-            on : (l : Fit (List (Prop Span))) → (orNoItem (l >>= λ ps. got ((k, toldValue v) ∷ ps)) >>= λ ps. sought q (allOf i ps)) ≡ (orNoItem l >>= λ ps. sought q′ (allOf i ps))
+            on : (l : Fit (List (PropOf Span))) → (orNoItem (l >>= λ ps. got ((k, toldValue v) ∷ ps)) >>= λ ps. sought q (allOf i ps)) ≡ (orNoItem l >>= λ ps. sought q′ (allOf i ps))
             on (got ps) = sym (o .says ps)
             on (bad c) = refl
 
@@ -132,7 +132,7 @@ module _ (row : Place) (i : ℕ) (s : List ℕ) (p : Span) (n : ℕ) where
         formed = o .formed;
       }
     where
-      on : (l : Fit (List (Prop Span))) → (l >>= λ ps. nthOf n (allOf i ps)) ≡ ((l >>= λ ps. got (allOf i ps)) >>= nthOf n)
+      on : (l : Fit (List (PropOf Span))) → (l >>= λ ps. nthOf n (allOf i ps)) ≡ ((l >>= λ ps. got (allOf i ps)) >>= nthOf n)
       on (got ps) = refl
       on (bad c) = refl
 

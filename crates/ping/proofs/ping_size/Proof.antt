@@ -1,9 +1,9 @@
 -- `ping::ping_size` is right since a ping has no bytes behind R. Assumes nothing.
 use mathlib.Core.Path.{_∙_}
+use borrow.Author.Needs.{needs}
 use Rattle.writing.specs.Handed.{ping}
 use Rattle.settle.proofs.Laws.{sized-found}
 use Rattle.ping.proofs.Laws.{ping-belongs, ping-rest}
-use borrow.Author.Needs.{needs}
 use Rattle.ping.proofs.ping_size.Statement.{statement}
 use Rattle.ping.proofs.ping_size.Tie as tie
 

@@ -2,6 +2,7 @@
 use mathlib.Core.Path.{sym, ap, _∙_}
 use mathlib.Core.List.{List}
 use Prim.Native.Nat.{ℕ}
+use borrow.Author.Needs.{needs}
 use lib.Seq.{sets}
 use denote.Ref.{now}
 use Rattle.writing.specs.Handed.{ping}
@@ -9,7 +10,6 @@ use Rattle.records.specs.Told.{limitOf}
 use Rattle.records.specs.Answered.{toldWritten}
 use Rattle.settle.proofs.Laws.{settled-found, none-written, all-written}
 use Rattle.ping.proofs.Laws.{ping-found, ping-bytes}
-use borrow.Author.Needs.{needs}
 use Rattle.ping.proofs.write_ping.Statement.{statement}
 use Rattle.ping.proofs.write_ping.Tie as tie
 

@@ -1,7 +1,7 @@
 -- `ping::write_ping_resp` is right since its first byte is that of a PingResp. Assumes nothing.
 use mathlib.Core.Path.{sym}
-use Rattle.writing.proofs.Pins.{first-bytes}
 use borrow.Author.Needs.{needs}
+use Rattle.writing.proofs.Pins.{first-bytes}
 use Rattle.ping.proofs.write_ping_resp.Statement.{statement}
 use Rattle.ping.proofs.write_ping_resp.Tie as tie
 

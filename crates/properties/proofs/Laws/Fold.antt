@@ -12,19 +12,20 @@ use lib.Seq.{drop-cons}
 use Rattle.grammar.specs.Choice.{pick, lookup}
 use Rattle.grammar.specs.Gram.{forget}
 use Rattle.grammar.specs.Tables.{Form, u8, u16, u32, number, text, bytes, pair, Place, publishPlace, subscribePlace, ackPlace}
-use Rattle.grammar.specs.Record.{Prop, lastOf, unlessEmpty, publishProps, subscribeProps, ackProps}
+use Rattle.grammar.specs.Record.{Val, PropOf, lastOf, unlessEmpty, publishProps, subscribeProps, ackProps}
 use Rattle.reading.specs.Refusal.{Refusal}
 use Rattle.reading.specs.Reader.{Fit, got, bad, _>>=_, handFit, runFit, chainFit, foldFrom, foldFit}
-use Rattle.reading.specs.Read.{propertyOf, propertiesFit}
+use Rattle.reading.specs.Read.{valueAt, propertyOf, propertiesFit}
 use Rattle.reading.specs.Place.{Span, spanOf, asPlaces, onGot}
 use Rattle.reading.proofs.Lists.{eq-of}
+use Rattle.reading.proofs.Reading.{bad-got}
 use Rattle.positions.specs.Position.{fromAt}
 use Rattle.positions.proofs.Walk.{fold-nil, fold-bad, fold-next}
 use Rattle.positions.proofs.Less.{property-less}
 use Rattle.positions.proofs.Position.{bad-left}
-use Rattle.property_value.specs.Told.{formOf}
+use Rattle.property_value.specs.Told.{formOf, publishLists, nextOr, PropertyPassed}
 use Rattle.properties.specs.Block.{Row, publishRow, subscribeRow, ackRow, applied, loopFrom, filledAt}
-use Rattle.property_value.proofs.Laws.Value.{property-left, property-ahead}
+use Rattle.property_value.proofs.Laws.Value.{value-tag, property-left, property-ahead}
 use Rattle.property_value.specs.declared.Value.{Value}
 
 -- ---- a rule of every entry of a place's row holds of what is looked up there
@@ -94,13 +95,38 @@ module _ (k : ℕ) {v v′ : Value} (e : v ≡ v′) where
   pub ack-is : lookup ackPlace k ≡ some (formOf v) → ackIs k (formOf v′)
   ack-is = is ackIs ackPlace ack-every
 
+-- ---- a property of a list leaves the record of a Publish as it is
+
+-- row Publish has k with the form f, and no single value of its record is of k
+abbrev Listed : ℕ → Form → Type 0
+Listed k f = (lookup publishPlace k ≡ some f) × ((o : publishRow .Props) (v : Val Span) → applied publishRow o (k, v) ≡ o)
+
+publish-lists : Every Listed publishLists
+unfolding publishPlace
+publish-lists = ((refl, λ o v. refl), ((refl, λ o v. refl), tt))
+
+-- what is read as a property of a list is the same property of the row
+abbrev Same : ℕ → List ℕ → PropOf Span → Type 0
+Same end l a = (propertyOf asPlaces publishLists end l ≡ propertyOf asPlaces publishPlace end l) × ((o : publishRow .Props) → applied publishRow o a ≡ o)
+
+same : (end : ℕ) (l : List ℕ) (y : PropOf Span × List ℕ) → propertyOf asPlaces publishLists end l ≡ got y → Same end l (y .0)
+unfolding propertyOf valueAt
+same end [] y e = absurd (bad-got e)
+same end (i ∷ l) y e = go (lookup publishLists i) refl e
+  where
+    go : (f : Option Form) → lookup publishLists i ≡ f → valueAt asPlaces f i end l ≡ got y → Same end (i ∷ l) (y .0)
+    go none j h = absurd (bad-got h)
+    go (some f) j h =
+        let (has, still) = looked-up Listed publishLists publish-lists i f j in
+        (rw (j, has), λ o. rw (value-tag (some f) i end l y h) (still o (y .0 .1)))
+
 -- ---- the properties one by one are the properties at once
 
 -- `more` goes property by property, and `made` is it from none on
 pub record Lawful (w : Row) : Type 0 where
   pub nil : (o : w .Props) → w .more o [] ≡ o
-  pub cons : (o : w .Props) (a : Prop Span) (ps : List (Prop Span)) → w .more (applied w o a) ps ≡ w .more o (a ∷ ps)
-  pub whole : (p : Span) (ps : List (Prop Span)) → w .more (w .made p []) ps ≡ w .made p ps
+  pub cons : (o : w .Props) (a : PropOf Span) (ps : List (PropOf Span)) → w .more (applied w o a) ps ≡ w .more o (a ∷ ps)
+  pub whole : (p : Span) (ps : List (PropOf Span)) → w .more (w .made p []) ps ≡ w .made p ps
 
 pub publish-lawful : Lawful publishRow
 unfolding publishProps lastOf
@@ -115,7 +141,7 @@ unfolding ackProps lastOf
 ack-lawful = record { nil = λ o. refl; cons = λ o a ps. refl; whole = λ p ps. refl }
 
 -- 01: "L = 0 means absent"
-abbrev pub blockAs : (w : Row) → List (Prop Span) → List ℕ → ℕ → Option (w .Props)
+abbrev pub blockAs : (w : Row) → List (PropOf Span) → List ℕ → ℕ → Option (w .Props)
 blockAs w ps b end = unlessEmpty (w .made (spanOf b end)) ps
 
 -- a loop of w on what is left; the end of its room is `end`
@@ -123,11 +149,11 @@ abbrev pub loopOn : (w : Row) → ℕ → w .Props → List ℕ → Fit (w .Prop
 loopOn w end o l = foldFit forget (λ _. propertyOf asPlaces (w .place) end) (applied w) o tt l
 
 module _ (w : Row) (W : Lawful w) where
-  fold-more : (o : w .Props) (ps : List (Prop Span)) → foldFrom (applied w) o ps ≡ w .more o ps
+  fold-more : (o : w .Props) (ps : List (PropOf Span)) → foldFrom (applied w) o ps ≡ w .more o ps
   fold-more o [] = sym (W .nil o)
   fold-more o (a ∷ ps) = fold-more (applied w o a) ps ∙ W .cons o a ps
 
-  fold-made : (p : Span) (ps : List (Prop Span)) → foldFrom (applied w) (w .made p []) ps ≡ w .made p ps
+  fold-made : (p : Span) (ps : List (PropOf Span)) → foldFrom (applied w) (w .made p []) ps ≡ w .made p ps
   fold-made p ps = fold-more (w .made p []) ps ∙ W .whole p ps
 
   pub block-none : (end : ℕ) → handFit (blockAs w) (propertiesFit asPlaces (w .place)) end [] ≡ got none
@@ -143,26 +169,26 @@ module _ (w : Row) (W : Lawful w) where
       p : Span
       p = spanOf (x ∷ b) end
 
-      more : Fit (Prop Span × List ℕ) → Fit (List (Prop Span))
+      more : Fit (PropOf Span × List ℕ) → Fit (List (PropOf Span))
       more m = m >>= λ z. runFit forget (λ _. propertyOf asPlaces (w .place) end) tt b (z .1) >>= λ vs. got (z .0 ∷ vs)
 
-      rest : (a : Prop Span) (m : Fit (List (Prop Span)))
+      rest : (a : PropOf Span) (m : Fit (List (PropOf Span)))
           → ((m >>= λ vs. got (a ∷ vs)) >>= λ vs. got (unlessEmpty (w .made p) vs)) ≡ onGot some ((m >>= λ vs. got (a ∷ vs)) >>= λ vs. got (foldFrom (applied w) (w .made p []) vs))
       rest a (got vs) = ap (λ (o : w .Props). got (some o)) (sym (fold-made p (a ∷ vs)))
       rest a (bad k) = refl
 
-      first : (m : Fit (Prop Span × List ℕ)) → (more m >>= λ vs. got (unlessEmpty (w .made p) vs)) ≡ onGot some (more m >>= λ vs. got (foldFrom (applied w) (w .made p []) vs))
+      first : (m : Fit (PropOf Span × List ℕ)) → (more m >>= λ vs. got (unlessEmpty (w .made p) vs)) ≡ onGot some (more m >>= λ vs. got (foldFrom (applied w) (w .made p []) vs))
       first (got z) = rest (z .0) (runFit forget (λ _. propertyOf asPlaces (w .place) end) tt b (z .1))
       first (bad k) = refl
 
 -- ---- how the loop goes on
 
 -- the property at an index
-abbrev pub propertyAt : Row → List ℕ → ℕ → Fit (Prop Span × ℕ)
+abbrev pub propertyAt : Row → List ℕ → ℕ → Fit (PropOf Span × ℕ)
 propertyAt w s at = fromAt (propertyOf asPlaces (w .place) (length s)) s at
 
 module _ (w : Row) (s : List ℕ) (at : ℕ) (h : at < length s) where
-  module _ (a : Prop Span) (n : ℕ) (e : got (a, n) ≡ propertyAt w s at) where
+  module _ (a : PropOf Span) (n : ℕ) (e : got (a, n) ≡ propertyAt w s at) where
     pub loop-next : (o : w .Props) → loopFrom w o s at ≡ loopFrom w (applied w o a) s n
     unfolding loopFrom
     loop-next o =
@@ -192,10 +218,10 @@ pub filling-start : (w : Row) (s : List ℕ) (o : w .Props) (at : ℕ) → Filli
 filling-start w s o at = record { rest = refl }
 
 module _ {w : Row} {s : List ℕ} {whole : Fit (w .Props)} {o : w .Props} {at : ℕ} (f : Filling w s whole o at) where
-  pub filling-next : at < length s → (a : Prop Span) (n : ℕ) → got (a, n) ≡ propertyAt w s at → (o′ : w .Props) → o′ ≡ applied w o a → Filling w s whole o′ n
+  pub filling-next : at < length s → (a : PropOf Span) (n : ℕ) → got (a, n) ≡ propertyAt w s at → (o′ : w .Props) → o′ ≡ applied w o a → Filling w s whole o′ n
   filling-next h a n e o′ i = record { rest = f .rest ∙ loop-next w s at h a n e o ∙ ap (λ (u : w .Props). loopFrom w u s n) (sym i) }
 
-  pub filling-ahead : at < length s → (a : Prop Span) (n : ℕ) → got (a, n) ≡ propertyAt w s at → at < n
+  pub filling-ahead : at < length s → (a : PropOf Span) (n : ℕ) → got (a, n) ≡ propertyAt w s at → at < n
   filling-ahead h a n e = property-ahead (w .place) s at a n e
 
   filling-bad : at < length s → (k : Refusal) → bad k ≡ propertyAt w s at → whole ≡ bad k
@@ -203,6 +229,27 @@ module _ {w : Row} {s : List ℕ} {whole : Fit (w .Props)} {o : w .Props} {at : 
 
   filling-end : length s ≤ at → whole ≡ got o
   filling-end h = f .rest ∙ loop-end w o s at h
+
+-- a property of a list is passed over
+module _ {s : List ℕ} {at r : ℕ} (P : PropertyPassed publishLists s at r) (ne : r ≡ at → ⊥) where
+  abbrev Over : Type 0
+  Over = (a : PropOf Span) × (got (a, r) ≡ fromAt (propertyOf asPlaces publishLists (length s)) s at)
+
+  over : Over
+  over = go (fromAt (propertyOf asPlaces publishLists (length s)) s at) refl (P .says)
+    where
+      go : (m : Fit (PropOf Span × ℕ)) → fromAt (propertyOf asPlaces publishLists (length s)) s at ≡ m → r ≡ nextOr at m → Over
+      go (got (a, n)) e h = (a, ap (λ (k : ℕ). got (a, k)) h ∙ sym e)
+      go (bad k) e h = absurd (ne h)
+
+  pub over-ahead : at < r
+  over-ahead = property-ahead publishLists s at (over .0) r (over .1)
+
+  pub filling-over : {whole : Fit (publishRow .Props)} {o : publishRow .Props} → Filling publishRow s whole o at → at < length s → Filling publishRow s whole o r
+  unfolding fromAt
+  filling-over {o = o} f h =
+      let (e, still) = same (length s) (drop at s) (over .0, drop r s) (property-left publishLists s at (over .0) r (over .1)) in
+      filling-next f h (over .0) r (over .1 ∙ rw e) o (sym (still o))
 
 module _ {w : Row} {s : List ℕ} {o₀ o : w .Props} {at : ℕ} (p : Span) (i : o₀ ≡ w .made p []) (f : Filling w s (loopFrom w o₀ s (p .start)) o at) where
   pub filled-bad : at < length s → (k : Refusal) → bad k ≡ propertyAt w s at → bad k ≡ filledAt w s p

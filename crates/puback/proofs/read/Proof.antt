@@ -1,7 +1,7 @@
 -- `puback::read` is right since the identifier is what `read_u16` read, and the rest goes on where it ends. Assumes nothing.
 use mathlib.Core.Path.{sym, ap, _∙_}
 use borrow.Author.Needs.{needs}
-use Rattle.wire.specs.Told.{toldU16}
+use Rattle.numbers.specs.Told.{toldGotU16}
 use Rattle.puback.proofs.Laws.{ident-bad, ident-got}
 use Rattle.puback.proofs.read.Statement.{statement}
 use Rattle.puback.proofs.read.Tie as tie
@@ -19,10 +19,10 @@ read-rest-requires : tie.Need-read-rest-requires
 read-rest-requires c κs = search needs
 
 returns : tie.Need-returns
-returns c = λ x h. ident-bad _ _ x h _ (sym (ap toldU16 (c .before .e .given .1)) ∙ c .before .before .before .read-u16 .ensures)
+returns c = λ x h. ident-bad _ _ x h _ (sym (ap toldGotU16 (c .before .e .given .1)) ∙ c .before .before .before .read-u16 .ensures)
 
 returns-2 : tie.Need-returns-2
-returns-2 c = λ x h. c .read-rest .ensures ∙ ident-got _ _ x h _ _ (sym (ap toldU16 (c .before .before .pkid .given .1)) ∙ c .before .before .before .before .read-u16 .ensures)
+returns-2 c = λ x h. c .read-rest .ensures ∙ ident-got _ _ x h _ _ (sym (ap toldGotU16 (c .before .before .pkid .given .1)) ∙ c .before .before .before .before .read-u16 .ensures)
 
 pub read-spec : {M : Type 1} → statement M
 read-spec =

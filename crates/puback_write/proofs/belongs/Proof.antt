@@ -1,23 +1,24 @@
--- `puback_write::belongs` is right since it goes by the rows of the table. Assumes nothing.
-use denote.Ref.{now}
-use Rattle.reading.proofs.Lists.{not-true, not-false}
-use Rattle.puback_write.specs.Handed.{handed}
-use Rattle.puback_write.proofs.Laws.{ack-foreign, ack-both}
+-- `puback_write::belongs` is right since all belongs together exactly if both rows of the table do. Assumes nothing.
 use borrow.Author.Needs.{needs}
+use denote.Ref.{now}
+use Rattle.puback_write.specs.Handed.{handed}
+use Rattle.puback_write.proofs.Laws.{belong-all}
 use Rattle.puback_write.proofs.belongs.Statement.{statement}
 use Rattle.puback_write.proofs.belongs.Tie as tie
 
 lent-belongs-requires : tie.Need-lent-belongs-requires
 lent-belongs-requires c κs = search needs
 
-returns : tie.Need-returns
-returns c = let a = c .before .before .before .before .before .args in ack-foreign (handed (a .m) (now (a .reason-string)) (now (a .user)) (now (a .user-lengths))) _ (c .before .lent-belongs .ensures) (not-true _ (c .if1 .taken))
-
 pairs-belong-requires : tie.Need-pairs-belong-requires
 pairs-belong-requires c κs = search needs
 
-returns-2 : tie.Need-returns-2
-returns-2 c = let a = c .before .before .before .before .before .before .args in ack-both (handed (a .m) (now (a .reason-string)) (now (a .user)) (now (a .user-lengths))) _ _ (c .before .before .lent-belongs .ensures) (not-false _ (c .before .if1 .left)) (c .pairs-belong .ensures)
+both-requires : tie.Need-both-requires
+both-requires c κs = search needs
+
+returns : tie.Need-returns
+returns c =
+    let a = c .before .before .before .before .before .before .args in
+    belong-all (handed (a .m) (now (a .reason-string)) (now (a .user)) (now (a .user-lengths))) (c .before .before .lent-belongs .ensures) (c .before .pairs-belong .ensures) (c .both .ensures)
 
 pub belongs-spec : {M : Type 1} → statement M
-belongs-spec = tie.close (tie.spec lent-belongs-requires returns pairs-belong-requires returns-2)
+belongs-spec = tie.close (tie.spec lent-belongs-requires pairs-belong-requires both-requires returns)

@@ -1,7 +1,7 @@
 -- `puback_write::is_plain` is right since a reason other than 0 or a block is written out. Assumes nothing.
+use borrow.Author.Needs.{needs}
 use Rattle.records.specs.Told.{toldReason}
 use Rattle.puback_write.proofs.Laws.{plain-block, plain-reason}
-use borrow.Author.Needs.{needs}
 use Rattle.puback_write.proofs.is_plain.Statement.{statement}
 use Rattle.puback_write.proofs.is_plain.Tie as tie
 

@@ -1,10 +1,10 @@
 -- `puback_write::put` is right since the header and the identifier are put, and where it is no plain success what is behind them. Assumes nothing.
 use mathlib.Core.Path.{sym, _∙_}
+use borrow.Author.Needs.{needs}
 use denote.Ref.{now}
 use Rattle.reading.proofs.Lists.{not-true, not-false}
 use Rattle.puback_write.specs.Handed.{handed}
 use Rattle.puback_write.proofs.Laws.{length-small, put-plain, put-full}
-use borrow.Author.Needs.{needs}
 use Rattle.puback_write.proofs.put.Statement.{statement}
 use Rattle.puback_write.proofs.put.Tie as tie
 

@@ -1,13 +1,13 @@
 -- `puback_write::put_block` is right since each row is put behind the one before it. Assumes nothing.
 use mathlib.Core.Path.{ap, _∙_}
 use Prim.Native.Nat.{ℕ}
+use borrow.Author.Needs.{needs}
 use lib.Seq.{sets}
 use denote.Ref.{now}
 use Rattle.grammar.specs.Tables.{text}
 use Rattle.writing.specs.Spell.{wide}
 use Rattle.puback_write.specs.Handed.{handed}
 use Rattle.puback_write.proofs.Laws.{put-behind, reason-small}
-use borrow.Author.Needs.{needs}
 use Rattle.puback_write.proofs.put_block.Statement.{statement}
 use Rattle.puback_write.proofs.put_block.Tie as tie
 

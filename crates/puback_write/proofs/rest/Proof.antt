@@ -1,9 +1,9 @@
 -- `puback_write::rest` is right since a plain success is its identifier alone, and any other has a reason and a block. Assumes nothing.
 use mathlib.Core.Path.{sym, _∙_}
+use borrow.Author.Needs.{needs}
 use denote.Ref.{now}
 use Rattle.puback_write.specs.Handed.{handed}
 use Rattle.puback_write.proofs.Laws.{rest-plain, rest-full}
-use borrow.Author.Needs.{needs}
 use Rattle.puback_write.proofs.rest.Statement.{statement}
 use Rattle.puback_write.proofs.rest.Tie as tie
 

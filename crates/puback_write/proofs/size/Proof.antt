@@ -1,10 +1,10 @@
 -- `puback_write::size` is right since what it hands on is whether all belongs together, and R. Assumes nothing.
 use mathlib.Core.Path.{_∙_}
+use borrow.Author.Needs.{needs}
 use denote.Ref.{now}
 use Rattle.writing.specs.Handed.{ack}
 use Rattle.settle.proofs.Laws.{sized-found}
 use Rattle.puback_write.specs.Handed.{handed}
-use borrow.Author.Needs.{needs}
 use Rattle.puback_write.proofs.size.Statement.{statement}
 use Rattle.puback_write.proofs.size.Tie as tie
 

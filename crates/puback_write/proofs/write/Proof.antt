@@ -1,5 +1,6 @@
 -- `puback_write::write` is right since the order is settled from what is found, and only then is the frame put. Assumes nothing.
 use mathlib.Core.Path.{sym, ap, _∙_}
+use borrow.Author.Needs.{needs}
 use denote.Ref.{now}
 use Rattle.writing.specs.Handed.{ack}
 use Rattle.records.specs.Told.{limitOf}
@@ -7,7 +8,6 @@ use Rattle.records.specs.Answered.{toldWritten}
 use Rattle.settle.proofs.Laws.{settled-found, none-written, all-written}
 use Rattle.puback_write.specs.Handed.{handed}
 use Rattle.puback_write.proofs.Laws.{ack-late}
-use borrow.Author.Needs.{needs}
 use Rattle.puback_write.proofs.write.Statement.{statement}
 use Rattle.puback_write.proofs.write.Tie as tie
 

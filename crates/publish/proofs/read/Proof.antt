@@ -5,8 +5,9 @@ use borrow.Author.Needs.{needs}
 use denote.Ref.{now}
 use Rattle.reading.specs.Read.{identOf}
 use Rattle.positions.specs.Position.{fromAt}
+use Rattle.numbers.specs.Told.{toldGotU16}
 use Rattle.wire.specs.Qos.{toldGotQos}
-use Rattle.wire.specs.Told.{toldU16, toldPart}
+use Rattle.wire.specs.Told.{toldPart}
 use Rattle.properties.specs.Block.{toldPublishBlockAt}
 use Rattle.publish.proofs.Laws.{qos-fine, qos-refused, topic-within, topic-bad, pkid-bad, block-within, block-bad, fields-got}
 use Rattle.publish.proofs.read.Statement.{statement}
@@ -87,7 +88,7 @@ returns-3 c =
     let qs = q .before .before in
     let a = qs .before .before .args in
     let (f, j) = qos-fine (a .byte1) _ (sym (ap toldGotQos (q .q .given .1)) ∙ qs .qos .ensures) in
-    pkid-bad (now (a .s)) (a .at) (a .byte1) f _ _ (sym (ap toldPart (topic .topic .given .1)) ∙ topics .read-topic .ensures) _ (sym (ap toldU16 (c .before .e3 .given .1)) ∙ pkids .read-pkid .ensures ∙ ap (λ (n : ℕ). fromAt (identOf n) (now (a .s)) (topic .topic .given .0 .1 .0)) j)
+    pkid-bad (now (a .s)) (a .at) (a .byte1) f _ _ (sym (ap toldPart (topic .topic .given .1)) ∙ topics .read-topic .ensures) _ (sym (ap toldGotU16 (c .before .e3 .given .1)) ∙ pkids .read-pkid .ensures ∙ ap (λ (n : ℕ). fromAt (identOf n) (now (a .s)) (topic .topic .given .0 .1 .0)) j)
 
 returns-4 : tie.Need-returns-4
 returns-4 c =
@@ -100,7 +101,7 @@ returns-4 c =
     let qs = q .before .before in
     let a = qs .before .before .args in
     let (f, j) = qos-fine (a .byte1) _ (sym (ap toldGotQos (q .q .given .1)) ∙ qs .qos .ensures) in
-    block-bad (now (a .s)) (a .at) (a .byte1) f _ _ (sym (ap toldPart (topic .topic .given .1)) ∙ topics .read-topic .ensures) _ _ (sym (ap toldU16 (pkid .pkid .given .1)) ∙ pkids .read-pkid .ensures ∙ ap (λ (n : ℕ). fromAt (identOf n) (now (a .s)) (topic .topic .given .0 .1 .0)) j) _ (sym (ap toldPublishBlockAt (c .before .e4 .given .1)) ∙ blocks .read-publish-block .ensures)
+    block-bad (now (a .s)) (a .at) (a .byte1) f _ _ (sym (ap toldPart (topic .topic .given .1)) ∙ topics .read-topic .ensures) _ _ (sym (ap toldGotU16 (pkid .pkid .given .1)) ∙ pkids .read-pkid .ensures ∙ ap (λ (n : ℕ). fromAt (identOf n) (now (a .s)) (topic .topic .given .0 .1 .0)) j) _ (sym (ap toldPublishBlockAt (c .before .e4 .given .1)) ∙ blocks .read-publish-block .ensures)
 
 returns-5 : tie.Need-returns-5
 returns-5 c =
@@ -115,7 +116,7 @@ returns-5 c =
     let a = qs .before .before .args in
     let (f, j) = qos-fine (a .byte1) _ (sym (ap toldGotQos (q .q .given .1)) ∙ qs .qos .ensures) in
     rw (c .before .flag .ensures, c .flag2 .ensures, j)
-    (fields-got (now (a .s)) (a .at) (a .byte1) f _ _ (sym (ap toldPart (topic .topic .given .1)) ∙ topics .read-topic .ensures) _ _ (sym (ap toldU16 (pkid .pkid .given .1)) ∙ pkids .read-pkid .ensures ∙ ap (λ (n : ℕ). fromAt (identOf n) (now (a .s)) (topic .topic .given .0 .1 .0)) j) _ _ (sym (ap toldPublishBlockAt (block .properties .given .1)) ∙ blocks .read-publish-block .ensures))
+    (fields-got (now (a .s)) (a .at) (a .byte1) f _ _ (sym (ap toldPart (topic .topic .given .1)) ∙ topics .read-topic .ensures) _ _ (sym (ap toldGotU16 (pkid .pkid .given .1)) ∙ pkids .read-pkid .ensures ∙ ap (λ (n : ℕ). fromAt (identOf n) (now (a .s)) (topic .topic .given .0 .1 .0)) j) _ _ (sym (ap toldPublishBlockAt (block .properties .given .1)) ∙ blocks .read-publish-block .ensures))
 
 pub read-spec : {M : Type 1} → statement M
 read-spec =

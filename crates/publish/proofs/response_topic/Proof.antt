@@ -1,33 +1,18 @@
--- `publish::response_topic` is right since the place is the block's, and `part_if` gives what is held there. Assumes nothing.
+-- `publish::response_topic` is right since the place is the one that is given, and `part_if` gives what is held there. Assumes nothing.
+use mathlib.Core.Path.{ap, _∙_}
 use borrow.Author.Needs.{needs}
+use Rattle.wire.specs.Told.{stringIf}
 use Rattle.publish.proofs.response_topic.Statement.{statement}
 use Rattle.publish.proofs.response_topic.Tie as tie
 
-enum-told : tie.Need-enum-told
-enum-told c = search needs
-
-slice-aggregate-result : tie.Need-slice-aggregate-result
-slice-aggregate-result c = search needs
-
-enum-known-properties : tie.Need-enum-known-properties
-enum-known-properties c = search needs
+given-requires : tie.Need-given-requires
+given-requires c κs = search needs
 
 part-if-requires : tie.Need-part-if-requires
 part-if-requires c κs = search needs
 
 returns : tie.Need-returns
-returns c = search needs
-
-returns-2 : tie.Need-returns-2
-returns-2 c = rw (c .before .before .properties .given .1) (c .part-if .ensures)
+returns c = c .part-if .ensures ∙ ap (stringIf _) (c .before .given .ensures .response-topic)
 
 pub response-topic-spec : {M : Type 1} → statement M
-response-topic-spec =
-    tie.close
-    (tie.spec
-    enum-told
-    slice-aggregate-result
-    enum-known-properties
-    part-if-requires
-    returns
-    returns-2)
+response-topic-spec = tie.close (tie.spec given-requires part-if-requires returns)

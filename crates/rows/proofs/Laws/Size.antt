@@ -12,7 +12,7 @@ use Rattle.grammar.specs.Choice.{pick}
 use Rattle.grammar.specs.Tables.{number}
 use Rattle.writing.specs.Handed.{several}
 use Rattle.writing.specs.Size.{lenLen, givenSize, cap}
-use Rattle.writing.proofs.ForCode.{cap-small, cap-add}
+use Rattle.writing.proofs.ForCode.{cap-add}
 
 pub len-len-most : (n : ℕ) → lenLen n ≤ 4
 len-len-most n = go (ltb n 128) (ltb n 16384) (ltb n 2097152)
@@ -29,6 +29,25 @@ cap-cap n =
     let e : cap n + 0 ≡ cap n = omega arith in
     let f : n + 0 ≡ n = omega arith in
     rw (e, f) at (cap-add n 0)
+
+-- one summand is cut off
+pub cap-left : (a m n : ℕ) → a ≡ cap m → cap (a + n) ≡ cap (m + n)
+cap-left a m n e = rw e (cap-add m n)
+
+-- both are
+pub cap-both : (a b m n : ℕ) → a ≡ cap m → b ≡ cap n → cap (a + b) ≡ cap (m + n)
+cap-both a b m n e f =
+    let i : m + b ≡ b + m = omega arith in
+    let j : n + m ≡ m + n = omega arith in
+    cap-left a m b e ∙ ap cap i ∙ cap-left b n m f ∙ ap cap j
+
+-- the last of several
+pub cap-last : (a b m n : ℕ) → a ≡ cap m → b ≡ cap n → cap (a + b) ≡ cap (m + (n + 0))
+cap-last a b m n e f =
+    let i : n + 0 ≡ n = omega arith in
+    rw i (cap-both a b m n e f)
+
+-- ---- identifiers
 
 -- of the identifiers those before the i-th are counted
 pub record Counted (ns : List ℕ) (n i : ℕ) : Type 0 where

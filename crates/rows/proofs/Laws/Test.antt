@@ -8,25 +8,42 @@ use lib.ListN.{length, drop, getD, drop-of-length-le}
 use lib.Seq.{drop-cons}
 use Rattle.grammar.specs.Sentence.{qosFine, ruleFine}
 use Rattle.reading.specs.Refusal.{Refusal, nr}
-use Rattle.reading.specs.Reader.{got, bad, _>>_}
+use Rattle.reading.specs.Reader.{Fit, got, bad, _>>_}
 use Rattle.reading.specs.Read.{isText}
 use Rattle.reading.proofs.Lists.{leb-yes, leb-no}
+use Rattle.reading.proofs.Reading.{bad-got}
 use Rattle.writing.specs.Lists.{flat}
 use Rattle.writing.specs.Size.{most}
-use Rattle.writing.specs.Order.{Test, judge, Field, word, filter, fieldTests, small}
+use Rattle.writing.specs.Order.{Test, judge, Field, raw, word, filter, reads, fieldTests, small}
 use Rattle.writing.proofs.Tests.{eq-when, eq-not}
 use Rattle.writing.proofs.Judge.{judge-append, fields-more}
 
 -- ---- one field
 
-module _ (s : List ℕ) (h : length s ≤ 65535) where
-  pub word-fine : isText s ≡ true → judge (fieldTests (word s)) ≡ got tt
-  unfolding judge
-  word-fine e = rw (leb-yes (length s) 65535 h, e)
+-- what is decided before a value is given
+pub then-bad : {B : Type 0} (m : Fit (Unit {0})) (b : B) (k : Refusal) → bad k ≡ (m >> got b) → bad k ≡ m
+then-bad (got tt) b k e = absurd (bad-got e)
+then-bad (bad j) b k e = cc
 
-  pub word-broken : isText s ≡ false → judge (fieldTests (word s)) ≡ bad (nr 9 [])
-  unfolding judge
-  word-broken e = rw (leb-yes (length s) 65535 h, e)
+pub then-got : {B : Type 0} (m : Fit (Unit {0})) (b x : B) → got x ≡ (m >> got b) → got tt ≡ m
+then-got (got tt) b x e = refl
+then-got (bad j) b x e = absurd (bad-got (sym e))
+
+module _ (s : List ℕ) where
+  word-tests : judge (fieldTests (word s)) ≡ (judge (fieldTests (raw s)) >> judge (reads s ∷ []))
+  word-tests = judge-append (fieldTests (raw s)) (reads s ∷ [])
+
+  pub word-long : (k : Refusal) → bad k ≡ judge (fieldTests (raw s)) → bad k ≡ judge (fieldTests (word s))
+  word-long k e = sym (word-tests ∙ rw (sym e))
+
+  module _ (h : got tt ≡ judge (fieldTests (raw s))) where
+    pub word-fine : isText s ≡ true → got tt ≡ judge (fieldTests (word s))
+    unfolding judge
+    word-fine e = sym (word-tests ∙ rw (sym h, e))
+
+    pub word-broken : isText s ≡ false → bad (nr 9 []) ≡ judge (fieldTests (word s))
+    unfolding judge
+    word-broken e = sym (word-tests ∙ rw (sym h, e))
 
 -- the tests after a filter's text
 abbrev optionsTests : ℕ → List Test

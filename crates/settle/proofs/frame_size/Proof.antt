@@ -2,10 +2,10 @@
 use mathlib.Core.Path.{_≡_, _∙_}
 use Prim.Native.Nat.{ℕ}
 use native.Mathlib.Omega.{arith}
+use borrow.Author.Needs.{needs}
 use Rattle.writing.specs.Size.{lenLen}
 use Rattle.writing.proofs.Sizes.{length-short}
 use Rattle.rows.proofs.Laws.Size.{len-len-most}
-use borrow.Author.Needs.{needs}
 use Rattle.settle.proofs.frame_size.Statement.{statement}
 use Rattle.settle.proofs.frame_size.Tie as tie
 

@@ -3,15 +3,15 @@ use mathlib.Core.Path.{_≡_, sym, ap, _∙_}
 use mathlib.Core.List.{List}
 use Prim.Native.Nat.{ℕ, _+_}
 use native.Mathlib.Omega.{arith}
+use borrow.Author.Needs.{needs}
 use lib.Seq.{sets}
 use denote.Ref.{now}
 use Rattle.writing.specs.Spell.{short}
 use Rattle.writing.specs.Size.{lenLen}
 use Rattle.writing.proofs.Sizes.{length-short}
-use Rattle.wire.proofs.Laws.Put.{wide-one}
+use Rattle.numbers.proofs.Laws.Put.{wide-one}
 use Rattle.rows.proofs.Laws.Size.{len-len-most}
-use Rattle.rows.proofs.Laws.Put.{put-row}
-use borrow.Author.Needs.{needs}
+use Rattle.row_puts.proofs.Laws.{put-row}
 use Rattle.settle.proofs.put_header.Statement.{statement}
 use Rattle.settle.proofs.put_header.Tie as tie
 

@@ -1,10 +1,10 @@
 -- `settle::settle` is right since each test is made in its turn, and what is found stands for the tests of a kind. Assumes nothing.
 use mathlib.Core.Path.{sym, ap, _∙_}
 use native.Mathlib.Omega.{arith}
+use borrow.Author.Needs.{needs}
 use Rattle.records.specs.Told.{limitOf}
 use Rattle.rows.specs.Tested.{toldTested}
 use Rattle.settle.proofs.Laws.{early-bad, rest-long, limit-bad, late-bad, late-fine}
-use borrow.Author.Needs.{needs}
 use Rattle.settle.proofs.settle.Statement.{statement}
 use Rattle.settle.proofs.settle.Tie as tie
 

@@ -1,8 +1,8 @@
 -- `settle::size` is right since it makes the two tests of a size asked alone. Assumes nothing.
 use native.Mathlib.Omega.{arith}
+use borrow.Author.Needs.{needs}
 use Rattle.reading.proofs.Lists.{leb-yes, leb-no, not-true, not-false}
 use Rattle.writing.specs.Size.{most}
-use borrow.Author.Needs.{needs}
 use Rattle.settle.proofs.size.Statement.{statement}
 use Rattle.settle.proofs.size.Tie as tie
 

@@ -2,9 +2,9 @@
 use mathlib.Core.Path.{sym}
 use mathlib.Core.Option.{some}
 use native.Mathlib.Omega.{arith}
+use borrow.Author.Needs.{needs}
 use Rattle.writing.specs.Order.{judge}
 use Rattle.writing.proofs.Judge.{limit-pass, limit-fault}
-use borrow.Author.Needs.{needs}
 use Rattle.settle.proofs.within.Statement.{statement}
 use Rattle.settle.proofs.within.Tie as tie
 

@@ -25,11 +25,11 @@ use Rattle.positions.proofs.Run.{Passed, none-passed, item-ahead, passed-end, p
 use Rattle.wire.specs.Qos.{qosOf}
 use Rattle.records.specs.Told.{toldBool}
 use Rattle.records.specs.Said.{toldFilter}
-use Rattle.records.specs.Answered.{toldFilterItem}
+use Rattle.records.specs.Answered.{toldFilterItem, ruleOf}
 use Rattle.records.specs.declared.answer.FilterItem.{FilterItem}
 use Rattle.records.specs.declared.answer.FilterItem.the-variants.{NoItem}
 use Rattle.records.specs.declared.subscribe.Filter as said
-use Rattle.subscribe.specs.Told.{ruleOf, optionsOf, placeFit, chosen, nthFit}
+use Rattle.subscribe.specs.Told.{optionsOf, placeFit, chosen, nthFit}
 
 -- ---- the options byte
 

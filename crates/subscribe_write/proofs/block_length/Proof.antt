@@ -1,12 +1,8 @@
 -- `subscribe_write::block_length` is right since it adds up the rows of the table. Assumes nothing.
-use mathlib.Core.Path.{ap, _∙_}
-use denote.Ref.{now}
-use Rattle.grammar.specs.Tables.{number}
-use Rattle.writing.specs.Handed.{Given}
-use Rattle.writing.specs.Size.{givenSize, cap}
-use Rattle.subscribe_write.specs.Handed.{handed}
-use Rattle.subscribe_write.proofs.Laws.{given-number, subscribe-length}
 use borrow.Author.Needs.{needs}
+use denote.Ref.{now}
+use Rattle.subscribe_write.specs.Handed.{handed}
+use Rattle.subscribe_write.proofs.Laws.{subscribe-length}
 use Rattle.subscribe_write.proofs.block_length.Statement.{statement}
 use Rattle.subscribe_write.proofs.block_length.Tie as tie
 
@@ -22,7 +18,7 @@ add-requires c κs = search needs
 returns : tie.Need-returns
 returns c =
     let a = c .before .before .before .before .before .args in
-    λ fs ns os. subscribe-length (handed (a .m) (now (a .user)) (now (a .user-lengths)) fs ns os) _ _ _ (c .before .before .one-size-number .ensures ∙ ap (λ (g : Given). cap (givenSize number g)) (given-number (a .m .id))) (c .before .pairs-size .ensures) (c .add .ensures)
+    λ fs ns os. subscribe-length (handed (a .m) (now (a .user)) (now (a .user-lengths)) fs ns os) _ _ _ (c .before .before .one-size-number .ensures) (c .before .pairs-size .ensures) (c .add .ensures)
 
 pub block-length-spec : {M : Type 1} → statement M
 block-length-spec =

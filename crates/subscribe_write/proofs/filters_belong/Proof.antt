@@ -1,6 +1,5 @@
--- `subscribe_write::filters_belong` is right since the lengths add up to the bytes, and there are as many as options. Assumes nothing.
-use Rattle.reading.proofs.Lists.{not-true, not-false}
-use Rattle.subscribe_write.proofs.Laws.{and-no, and-yes}
+-- `subscribe_write::filters_belong` is right since both tests are made. Assumes nothing.
+use mathlib.Core.Path.{_∙_}
 use borrow.Author.Needs.{needs}
 use Rattle.subscribe_write.proofs.filters_belong.Statement.{statement}
 use Rattle.subscribe_write.proofs.filters_belong.Tie as tie
@@ -8,11 +7,11 @@ use Rattle.subscribe_write.proofs.filters_belong.Tie as tie
 adds-up-requires : tie.Need-adds-up-requires
 adds-up-requires c κs = search needs
 
-returns : tie.Need-returns
-returns c = and-no _ _ _ (c .before .adds-up .ensures) (not-true _ (c .if1 .taken))
+both-requires : tie.Need-both-requires
+both-requires c κs = search needs
 
-returns-2 : tie.Need-returns-2
-returns-2 c = and-yes _ _ _ (c .before .adds-up .ensures) (not-false _ (c .if1 .left))
+returns : tie.Need-returns
+returns c = c .both .ensures ∙ rw (c .before .adds-up .ensures)
 
 pub filters-belong-spec : {M : Type 1} → statement M
-filters-belong-spec = tie.close (tie.spec adds-up-requires returns returns-2)
+filters-belong-spec = tie.close (tie.spec adds-up-requires both-requires returns)

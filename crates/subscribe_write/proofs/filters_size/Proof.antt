@@ -1,8 +1,8 @@
 -- `subscribe_write::filters_size` is right since it adds the options three times to the bytes. Assumes nothing.
+use borrow.Author.Needs.{needs}
 use lib.ListN.{length}
 use denote.Ref.{now}
 use Rattle.subscribe_write.proofs.Laws.{filters-sum}
-use borrow.Author.Needs.{needs}
 use Rattle.subscribe_write.proofs.filters_size.Statement.{statement}
 use Rattle.subscribe_write.proofs.filters_size.Tie as tie
 

@@ -1,8 +1,8 @@
 -- `subscribe_write::put` is right since each field is put behind the one before it. Assumes nothing.
+use borrow.Author.Needs.{needs}
 use denote.Ref.{now}
 use Rattle.subscribe_write.specs.Handed.{handed}
 use Rattle.subscribe_write.proofs.Laws.{put-frame}
-use borrow.Author.Needs.{needs}
 use Rattle.subscribe_write.proofs.put.Statement.{statement}
 use Rattle.subscribe_write.proofs.put.Tie as tie
 

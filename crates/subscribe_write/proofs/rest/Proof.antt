@@ -1,8 +1,8 @@
 -- `subscribe_write::rest` is right since R is the identifier, the block and the filters. Assumes nothing.
+use borrow.Author.Needs.{needs}
 use denote.Ref.{now}
 use Rattle.subscribe_write.specs.Handed.{handed}
 use Rattle.subscribe_write.proofs.Laws.{subscribe-rest}
-use borrow.Author.Needs.{needs}
 use Rattle.subscribe_write.proofs.rest.Statement.{statement}
 use Rattle.subscribe_write.proofs.rest.Tie as tie
 

@@ -1,10 +1,10 @@
 -- `subscribe_write::size` is right since what it hands on is whether all belongs together, and R. Assumes nothing.
 use mathlib.Core.Path.{_∙_}
+use borrow.Author.Needs.{needs}
 use denote.Ref.{now}
 use Rattle.writing.specs.Handed.{subscribe}
 use Rattle.settle.proofs.Laws.{sized-found}
 use Rattle.subscribe_write.specs.Handed.{handed}
-use borrow.Author.Needs.{needs}
 use Rattle.subscribe_write.proofs.size.Statement.{statement}
 use Rattle.subscribe_write.proofs.size.Tie as tie
 

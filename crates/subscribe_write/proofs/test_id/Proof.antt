@@ -1,8 +1,8 @@
 -- `subscribe_write::test_id` is right since a number is compared with the largest that four bytes spell. Assumes nothing.
 use native.Mathlib.Omega.{arith}
+use borrow.Author.Needs.{needs}
 use Rattle.writing.specs.Order.{judge}
 use Rattle.subscribe_write.proofs.Laws.{number-large, number-fine}
-use borrow.Author.Needs.{needs}
 use Rattle.subscribe_write.proofs.test_id.Statement.{statement}
 use Rattle.subscribe_write.proofs.test_id.Tie as tie
 

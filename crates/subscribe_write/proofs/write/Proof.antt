@@ -1,12 +1,12 @@
 -- `subscribe_write::write` is right since the order is settled from what is found, and only then is the frame put. Assumes nothing.
 use mathlib.Core.Path.{sym, ap, _∙_}
+use borrow.Author.Needs.{needs}
 use denote.Ref.{now}
 use Rattle.writing.specs.Handed.{subscribe}
 use Rattle.records.specs.Told.{limitOf}
 use Rattle.records.specs.Answered.{toldWritten}
 use Rattle.settle.proofs.Laws.{settled-found, none-written, all-written}
 use Rattle.subscribe_write.specs.Handed.{handed}
-use borrow.Author.Needs.{needs}
 use Rattle.subscribe_write.proofs.write.Statement.{statement}
 use Rattle.subscribe_write.proofs.write.Tie as tie
 

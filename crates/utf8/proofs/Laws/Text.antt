@@ -261,8 +261,12 @@ module _ {s : List ℕ} {at i next : ℕ} (g : Going s at i) (p : Passed s i nex
   pub going-stuck : next ≡ i → isText (drop at s) ≡ false
   going-stuck e = g .rest ∙ p .no e
 
+-- nothing is left at the end
+pub text-over : (s : List ℕ) (i : ℕ) → length s ≤ i → isText (drop i s) ≡ true
+text-over s i h = rw (drop-of-length-le s h) text-end
+
 pub going-end : {s : List ℕ} {at i : ℕ} → Going s at i → length s ≤ i → isText (drop at s) ≡ true
-going-end {s} g h = g .rest ∙ rw (drop-of-length-le s h) text-end
+going-end {s} {i = i} g h = g .rest ∙ text-over s i h
 
 -- the top bits of two bytes
 pub both-low : (a b : ℕ) → bitOr a b < 128 → (a < 128) × (b < 128)

@@ -21,7 +21,7 @@ use Rattle.positions.proofs.At.{sized-bad, sized-crossed, sized-at, span-at}
 use Rattle.positions.proofs.Trails.{trails-reads}
 use Rattle.positions.proofs.Position.{got-left, got-within, bad-left, left-at, left-bad}
 use Rattle.writing.specs.Spell.{wide, string}
-use Rattle.wire.proofs.Laws.Put.{sets-append, sets-out, length-wide}
+use Rattle.numbers.proofs.Laws.Put.{sets-append, sets-out, length-wide}
 
 -- the length at an index
 abbrev sizeAt : List ℕ → ℕ → Fit (ℕ × ℕ)

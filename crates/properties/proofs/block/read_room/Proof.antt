@@ -4,7 +4,7 @@ use mathlib.Core.Path.{ap, sym, _∙_}
 use native.Mathlib.Omega.{arith}
 use borrow.Author.Needs.{needs}
 use denote.Ref.{now}
-use Rattle.wire.specs.Told.{toldU32}
+use Rattle.numbers.specs.Told.{toldGotU32}
 use Rattle.properties.proofs.Laws.Block.{length-within, room-short, room-over, room-within}
 use Rattle.properties.proofs.block.read_room.Statement.{statement}
 use Rattle.properties.proofs.block.read_room.Tie as tie
@@ -22,12 +22,12 @@ cast-len : tie.Need-cast-len
 cast-len c = search needs
 
 sub-if1 : tie.Need-sub-if1
-sub-if1 c = length-within _ _ _ _ (sym (ap toldU32 (c .before .n .given .1)) ∙ c .before .before .before .read-length .ensures)
+sub-if1 c = length-within _ _ _ _ (sym (ap toldGotU32 (c .before .n .given .1)) ∙ c .before .before .before .read-length .ensures)
 
 returns : tie.Need-returns
 returns c =
     let a = c .before .before .before .before .before .before .args in
-    let e = sym (ap toldU32 (c .before .before .n .given .1)) ∙ c .before .before .before .before .read-length .ensures in
+    let e = sym (ap toldGotU32 (c .before .before .n .given .1)) ∙ c .before .before .before .before .read-length .ensures in
     room-over (now (a .s)) (a .at) _ _ e (omega arith)
 
 add-t9 : tie.Need-add-t9
@@ -36,12 +36,12 @@ add-t9 c = search needs
 returns-2 : tie.Need-returns-2
 returns-2 c =
     let a = c .before .before .before .before .before .args in
-    room-short (now (a .s)) (a .at) _ (sym (ap toldU32 (c .before .e .given .1)) ∙ c .before .before .before .read-length .ensures)
+    room-short (now (a .s)) (a .at) _ (sym (ap toldGotU32 (c .before .e .given .1)) ∙ c .before .before .before .read-length .ensures)
 
 returns-3 : tie.Need-returns-3
 returns-3 c =
     let a = c .before .before .before .before .before .before .args in
-    let e = sym (ap toldU32 (c .before .before .n .given .1)) ∙ c .before .before .before .before .read-length .ensures in
+    let e = sym (ap toldGotU32 (c .before .before .n .given .1)) ∙ c .before .before .before .before .read-length .ensures in
     room-within (now (a .s)) (a .at) _ _ e (omega (arith, length-within _ _ _ _ e))
 
 pub read-room-spec : {M : Type 1} → statement M

@@ -10,7 +10,7 @@ use Rattle.reading.specs.Reader.{got}
 use Rattle.records.specs.Told.{toldSpan}
 use Rattle.property_value.specs.Told.{toldProperty}
 use Rattle.properties.specs.Block.{toldSingles, publishRow, loopFrom}
-use Rattle.properties.proofs.Laws.Fold.{Filling, filling-start, filling-next, filling-ahead, filled-bad, filled-end}
+use Rattle.properties.proofs.Laws.Fold.{Filling, filling-start, filling-next, filling-ahead, over-ahead, filling-over, filled-bad, filled-end}
 use Rattle.properties.proofs.publish.fill.Statement.{statement}
 use Rattle.properties.proofs.publish.fill.Tie as tie
 
@@ -26,6 +26,15 @@ none-requires c κs = search needs
 loop-holds : tie.Need-loop-holds Inv-loop μ-loop
 loop-holds c = filling-start _ _ _ _
 
+pass-listed-requires : tie.Need-pass-listed-requires Inv-loop μ-loop
+pass-listed-requires c κs = search needs
+
+loop-less : tie.Need-loop-less Inv-loop μ-loop
+loop-less c = omega (arith, over-ahead (c .before .pass-listed .ensures) (c .if1 .taken))
+
+loop-again : tie.Need-loop-again Inv-loop μ-loop
+loop-again c = filling-over (c .before .pass-listed .ensures) (c .if1 .taken) (c .before .before .before .loop .inv) (c .before .before .loop-test .taken)
+
 read-property-requires : tie.Need-read-property-requires Inv-loop μ-loop
 read-property-requires c κs = search needs
 
@@ -35,17 +44,17 @@ enum-known-k c = search needs
 apply-requires : tie.Need-apply-requires Inv-loop μ-loop
 apply-requires c κs = rw (c .before .k .given .1) at (c .before .before .before .read-property .ensures .typed)
 
-loop-less : tie.Need-loop-less Inv-loop μ-loop
-loop-less c =
+loop-less-2 : tie.Need-loop-less-2 Inv-loop μ-loop
+loop-less-2 c =
     let b = c .before .before .before .before in
     let e = sym (ap toldProperty (c .before .before .k .given .1)) ∙ b .read-property .ensures .says in
-    omega (arith, b .before .loop-test .taken, filling-ahead (b .before .before .loop .inv) (b .before .loop-test .taken) _ _ e)
+    omega (arith, b .before .before .before .loop-test .taken, filling-ahead (b .before .before .before .before .loop .inv) (b .before .before .before .loop-test .taken) _ _ e)
 
-loop-again : tie.Need-loop-again Inv-loop μ-loop
-loop-again c =
+loop-again-2 : tie.Need-loop-again-2 Inv-loop μ-loop
+loop-again-2 c =
     let b = c .before .before .before .before in
     let e = sym (ap toldProperty (c .before .before .k .given .1)) ∙ b .read-property .ensures .says in
-    filling-next (b .before .before .loop .inv) (b .before .loop-test .taken) _ _ e _ (c .apply .ensures)
+    filling-next (b .before .before .before .before .loop .inv) (b .before .before .before .loop-test .taken) _ _ e _ (c .apply .ensures)
 
 enum-known-e : tie.Need-enum-known-e Inv-loop μ-loop
 enum-known-e c = search needs
@@ -54,7 +63,7 @@ returns : tie.Need-returns Inv-loop μ-loop
 returns c =
     let b = c .before .before .before in
     let e = sym (ap toldProperty (c .before .e .given .1)) ∙ b .read-property .ensures .says in
-    filled-bad (toldSpan (c .before .before .before .before .before .before .before .before .args .block)) (c .before .before .before .before .before .before .none .ensures) (b .before .before .loop .inv) (b .before .loop-test .taken) _ e
+    filled-bad (toldSpan (c .before .before .before .before .before .before .before .before .before .before .args .block)) (c .before .before .before .before .before .before .before .before .none .ensures) (b .before .before .before .before .loop .inv) (b .before .before .before .loop-test .taken) _ e
 
 made-requires : tie.Need-made-requires Inv-loop μ-loop
 made-requires c κs = search needs
@@ -73,11 +82,14 @@ fill-spec =
     μ-loop
     none-requires
     loop-holds
+    pass-listed-requires
+    loop-less
+    loop-again
     read-property-requires
     enum-known-k
     apply-requires
-    loop-less
-    loop-again
+    loop-less-2
+    loop-again-2
     enum-known-e
     returns
     made-requires

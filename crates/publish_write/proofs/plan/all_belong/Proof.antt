@@ -1,7 +1,7 @@
 -- `publish_write::plan::all_belong` is right since all rows belong exactly if each does. Assumes nothing.
-use Rattle.publish_write.proofs.Laws.Plan.{belong-all}
-use denote.Ref.{now}
 use borrow.Author.Needs.{needs}
+use denote.Ref.{now}
+use Rattle.publish_write.proofs.Laws.Plan.{belong-all}
 use Rattle.publish_write.proofs.plan.all_belong.Statement.{statement}
 use Rattle.publish_write.proofs.plan.all_belong.Tie as tie
 
@@ -54,9 +54,15 @@ returns : tie.Need-returns
 returns c =
     let a = c .before .before .before .before .before .before .before .before .before .before .before .before .before .before .before .before .before .before .before .before .before .args in
     λ t p. belong-all (a .head) t (now (a .response-topic)) (now (a .correlation-data)) (now (a .user)) (now (a .user-lengths)) (now (a .subscription-identifiers)) (now (a .content-type)) p
-    (c .before .before .before .u8-belongs .ensures) (c .before .before .u32-belongs .ensures) (c .before .before .before .before .before .u16-belongs .ensures) (c .before .before .before .before .before .before .before .before .lent-belongs3 .ensures) (c .before .before .before .before .before .before .before .before .before .lent-belongs2 .ensures)
-    (c .before .before .before .before .before .before .before .before .before .before .before .before .pairs-belong .ensures) (c .before .before .before .before .before .before .before .before .before .before .before .before .before .before .ids-belong .ensures) (c .before .before .before .before .before .before .before .before .before .before .before .before .before .lent-belongs .ensures)
-    (c .before .before .before .before .before .before .before .before .before .before .before .both .ensures) (c .before .before .before .before .before .before .before .before .before .before .both2 .ensures) (c .before .before .before .before .before .before .before .both3 .ensures) (c .before .before .before .before .before .before .both4 .ensures) (c .before .before .before .before .both5 .ensures) (c .before .both6 .ensures) (c .both7 .ensures)
+    (c .before .before .before .u8-belongs .ensures) (c .before .before .u32-belongs .ensures) (c .before .before .before .before .before .u16-belongs .ensures)
+    (c .before .before .before .before .before .before .before .before .lent-belongs3 .ensures)
+    (c .before .before .before .before .before .before .before .before .before .lent-belongs2 .ensures)
+    (c .before .before .before .before .before .before .before .before .before .before .before .before .pairs-belong .ensures)
+    (c .before .before .before .before .before .before .before .before .before .before .before .before .before .before .ids-belong .ensures)
+    (c .before .before .before .before .before .before .before .before .before .before .before .before .before .lent-belongs .ensures)
+    (c .before .before .before .before .before .before .before .before .before .before .before .both .ensures)
+    (c .before .before .before .before .before .before .before .before .before .before .both2 .ensures) (c .before .before .before .before .before .before .before .both3 .ensures)
+    (c .before .before .before .before .before .before .both4 .ensures) (c .before .before .before .before .both5 .ensures) (c .before .both6 .ensures) (c .both7 .ensures)
 
 pub all-belong-spec : {M : Type 1} → statement M
 all-belong-spec =

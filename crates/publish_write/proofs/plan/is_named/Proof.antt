@@ -1,7 +1,5 @@
 -- `publish_write::plan::is_named` is right since QoS 0 has no identifier, and another QoS must have one. Assumes nothing.
 use Rattle.publish_write.proofs.Laws.Plan.{zero-qos, some-qos}
-use lib.Dec.{eqb}
-use mathlib.Core.Bool.{not}
 use Rattle.publish_write.proofs.plan.is_named.Statement.{statement}
 use Rattle.publish_write.proofs.plan.is_named.Tie as tie
 

@@ -1,6 +1,6 @@
 -- `publish_write::plan::pkid_size` is right since an identifier that is written is two bytes. Assumes nothing.
-use Rattle.publish_write.proofs.Laws.Plan.{ident-none, ident-some}
 use borrow.Author.Needs.{needs}
+use Rattle.publish_write.proofs.Laws.Plan.{ident-none, ident-some}
 use Rattle.publish_write.proofs.plan.pkid_size.Statement.{statement}
 use Rattle.publish_write.proofs.plan.pkid_size.Tie as tie
 

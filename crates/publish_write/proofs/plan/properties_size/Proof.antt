@@ -1,8 +1,8 @@
 -- `publish_write::plan::properties_size` is right since L is the sum of the rows, and a sum of sums that are cut off is cut off alike. Assumes nothing.
-use Rattle.publish_write.proofs.Laws.Plan.{sum-all}
-use Rattle.grammar.specs.Tables.{text, bytes}
-use denote.Ref.{now}
 use borrow.Author.Needs.{needs}
+use denote.Ref.{now}
+use Rattle.grammar.specs.Tables.{text, bytes}
+use Rattle.publish_write.proofs.Laws.Plan.{sum-all}
 use Rattle.publish_write.proofs.plan.properties_size.Statement.{statement}
 use Rattle.publish_write.proofs.plan.properties_size.Tie as tie
 
@@ -55,9 +55,15 @@ returns : tie.Need-returns
 returns c =
     let a = c .before .before .before .before .before .before .before .before .before .before .before .before .before .before .before .before .before .before .before .before .before .args in
     λ t p. sum-all (a .head) t (now (a .response-topic)) (now (a .correlation-data)) (now (a .user)) (now (a .user-lengths)) (now (a .subscription-identifiers)) (now (a .content-type)) p
-    (c .before .before .before .one-size-u8 .ensures) (c .before .before .one-size-u32 .ensures) (c .before .before .before .before .before .one-size-u16 .ensures) (c .before .before .before .before .before .before .before .before .lent-size3 .ensures text) (c .before .before .before .before .before .before .before .before .before .lent-size2 .ensures bytes)
-    (c .before .before .before .before .before .before .before .before .before .before .before .before .pairs-size .ensures) (c .before .before .before .before .before .before .before .before .before .before .before .before .before .before .ids-size .ensures) (c .before .before .before .before .before .before .before .before .before .before .before .before .before .lent-size .ensures text)
-    (c .before .before .before .before .before .before .before .before .before .before .before .add .ensures) (c .before .before .before .before .before .before .before .before .before .before .add2 .ensures) (c .before .before .before .before .before .before .before .add3 .ensures) (c .before .before .before .before .before .before .add4 .ensures) (c .before .before .before .before .add5 .ensures) (c .before .add6 .ensures) (c .add7 .ensures)
+    (c .before .before .before .one-size-u8 .ensures) (c .before .before .one-size-u32 .ensures) (c .before .before .before .before .before .one-size-u16 .ensures)
+    (c .before .before .before .before .before .before .before .before .lent-size3 .ensures text)
+    (c .before .before .before .before .before .before .before .before .before .lent-size2 .ensures bytes)
+    (c .before .before .before .before .before .before .before .before .before .before .before .before .pairs-size .ensures)
+    (c .before .before .before .before .before .before .before .before .before .before .before .before .before .before .ids-size .ensures)
+    (c .before .before .before .before .before .before .before .before .before .before .before .before .before .lent-size .ensures text)
+    (c .before .before .before .before .before .before .before .before .before .before .before .add .ensures)
+    (c .before .before .before .before .before .before .before .before .before .before .add2 .ensures) (c .before .before .before .before .before .before .before .add3 .ensures)
+    (c .before .before .before .before .before .before .add4 .ensures) (c .before .before .before .before .add5 .ensures) (c .before .add6 .ensures) (c .add7 .ensures)
 
 pub properties-size-spec : {M : Type 1} → statement M
 properties-size-spec =

@@ -1,8 +1,8 @@
 -- `publish_write::plan::rest_size` is right since R is the sum of its parts. Assumes nothing.
-use Rattle.publish_write.proofs.Laws.Plan.{rest-all}
-use Rattle.publish_write.specs.Handed.{handed}
-use denote.Ref.{now}
 use borrow.Author.Needs.{needs}
+use denote.Ref.{now}
+use Rattle.publish_write.specs.Handed.{handed}
+use Rattle.publish_write.proofs.Laws.Plan.{rest-all}
 use Rattle.publish_write.proofs.plan.rest_size.Statement.{statement}
 use Rattle.publish_write.proofs.plan.rest_size.Tie as tie
 
@@ -30,7 +30,9 @@ add-requires-3 c κs = search needs
 returns : tie.Need-returns
 returns c =
     let a = c .before .before .before .before .before .before .before .before .args in
-    λ r b u l i d e. rest-all (handed (a .head) (now (a .topic)) r b u l i d (now (a .payload))) (c .before .before .before .qos-number .ensures) e (c .before .before .before .before .before .with-length .ensures) (c .before .before .before .before .add .ensures) (c .before .before .pkid-size .ensures) (c .before .add2 .ensures) (c .add3 .ensures)
+    λ r b u l i d e. rest-all (handed (a .head) (now (a .topic)) r b u l i d (now (a .payload))) (c .before .before .before .qos-number .ensures) e
+    (c .before .before .before .before .before .with-length .ensures) (c .before .before .before .before .add .ensures) (c .before .before .pkid-size .ensures) (c .before .add2 .ensures)
+    (c .add3 .ensures)
 
 pub rest-size-spec : {M : Type 1} → statement M
 rest-size-spec =

@@ -1,6 +1,6 @@
 -- `publish_write::plan::sizes` is right since R is counted from L. Assumes nothing.
-use denote.Ref.{now}
 use borrow.Author.Needs.{needs}
+use denote.Ref.{now}
 use Rattle.publish_write.proofs.plan.sizes.Statement.{statement}
 use Rattle.publish_write.proofs.plan.sizes.Tie as tie
 

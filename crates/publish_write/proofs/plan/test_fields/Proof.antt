@@ -1,8 +1,8 @@
 -- `publish_write::plan::test_fields` is right since the tests go field by field. Assumes nothing.
-use Rattle.publish_write.proofs.Laws.Plan.{fields-all}
-use Rattle.publish_write.specs.Handed.{handed}
-use denote.Ref.{now}
 use borrow.Author.Needs.{needs}
+use denote.Ref.{now}
+use Rattle.publish_write.specs.Handed.{handed}
+use Rattle.publish_write.proofs.Laws.Plan.{fields-all}
 use Rattle.publish_write.proofs.plan.test_fields.Statement.{statement}
 use Rattle.publish_write.proofs.plan.test_fields.Tie as tie
 
@@ -37,7 +37,8 @@ returns : tie.Need-returns
 returns c =
     let a = c .before .before .before .before .before .before .before .before .before .before .before .before .before .before .before .args in
     λ i p. fields-all (handed (a .head) (now (a .topic)) (now (a .response-topic)) (now (a .correlation-data)) (now (a .user)) (now (a .user-lengths)) i (now (a .content-type)) p)
-    (c .before .before .before .test-raw .ensures) (c .before .before .before .before .test-text2 .ensures) (c .before .before .before .before .before .test-bytes .ensures) (c .before .before .before .before .before .before .before .test-words .ensures) (c .before .before .before .before .before .before .before .before .test-text .ensures)
+    (c .before .before .before .test-raw .ensures) (c .before .before .before .before .test-text2 .ensures) (c .before .before .before .before .before .test-bytes .ensures)
+    (c .before .before .before .before .before .before .before .test-words .ensures) (c .before .before .before .before .before .before .before .before .test-text .ensures)
     (c .before .before .before .before .before .before .then .ensures) (c .before .before .then2 .ensures) (c .before .then3 .ensures) (c .then4 .ensures)
 
 pub test-fields-spec : {M : Type 1} → statement M

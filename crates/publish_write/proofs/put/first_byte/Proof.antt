@@ -1,9 +1,8 @@
 -- `publish_write::put::first_byte` is right since the flags are digits that do not meet. Assumes nothing.
-use Rattle.publish_write.specs.Handed.{handed}
-use Rattle.publish_write.proofs.Laws.Put.{first-all}
-use Rattle.publish_write.proofs.Laws.Given.{qos-most}
 use native.Mathlib.Omega.{arith}
 use borrow.Author.Needs.{needs}
+use Rattle.publish_write.specs.Handed.{handed}
+use Rattle.publish_write.proofs.Laws.Put.{first-all, qos-most}
 use Rattle.publish_write.proofs.put.first_byte.Statement.{statement}
 use Rattle.publish_write.proofs.put.first_byte.Tie as tie
 

@@ -1,13 +1,13 @@
 -- `publish_write::put::put_back` is right since L, the properties and the payload are put one behind the other. Assumes nothing.
+use mathlib.Core.List.{List, _++_}
+use Prim.Native.Nat.{ℕ}
+use borrow.Author.Needs.{needs}
+use denote.Ref.{now}
+use Rattle.grammar.specs.Tables.{publishPlace}
 use Rattle.writing.specs.Spell.{short, propsBytes}
 use Rattle.writing.specs.Handed.{PublishHanded, publishGiven}
+use Rattle.row_puts.proofs.Laws.{store-next, next-last}
 use Rattle.publish_write.specs.Handed.{handed}
-use Rattle.grammar.specs.Tables.{publishPlace}
-use Prim.Native.Nat.{ℕ}
-use mathlib.Core.List.{List, _++_}
-use Rattle.publish_write.proofs.Laws.Put.{store-next, next-last}
-use denote.Ref.{now}
-use borrow.Author.Needs.{needs}
 use Rattle.publish_write.proofs.put.put_back.Statement.{statement}
 use Rattle.publish_write.proofs.put.put_back.Tie as tie
 
@@ -29,8 +29,11 @@ same-length c = search needs
 returns : tie.Need-returns
 returns c =
     let a = c .before .before .before .before .before .before .before .before .before .before .before .before .before .before .before .before .before .before .before .before .before .args in
-    let g : List ℕ → PublishHanded = λ t. handed (a .head) t (now (a .response-topic)) (now (a .correlation-data)) (now (a .user)) (now (a .user-lengths)) (now (a .subscription-identifiers)) (now (a .content-type)) (now (a .payload)) in
-    λ t. next-last (store-next (short (a .properties)) (c .before .before .before .before .before .before .before .before .before .before .before .write-remaining-length .ensures .0) (c .before .before .before .before .before .before .before .before .before .before .before .write-remaining-length .ensures .1) (c .before .before .before .before .before .before .before .before .after .ensures)) (propsBytes publishPlace (publishGiven (g t)) ++ now (a .payload)) (next-last (c .before .before .before .before .before .before .put-properties .ensures t (now (a .payload))) (now (a .payload)) (c .before .before .put-bytes .ensures))
+    let w = c .before .before .before .before .before .before .before .before .before .before .before .write-remaining-length .ensures in
+    λ t. next-last (store-next (short (a .properties)) (w .0) (w .1) (c .before .before .before .before .before .before .before .before .after .ensures))
+    (propsBytes publishPlace (publishGiven (handed (a .head) t (now (a .response-topic)) (now (a .correlation-data)) (now (a .user)) (now (a .user-lengths)) (now (a .subscription-identifiers))
+    (now (a .content-type)) (now (a .payload)))) ++ now (a .payload))
+    (next-last (c .before .before .before .before .before .before .put-properties .ensures t (now (a .payload))) (now (a .payload)) (c .before .before .put-bytes .ensures))
 
 pub put-back-spec : {M : Type 1} → statement M
 put-back-spec =

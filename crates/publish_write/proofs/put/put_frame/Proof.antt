@@ -1,14 +1,14 @@
 -- `publish_write::put::put_frame` is right since the front and the back, one behind the other, are the frame. Assumes nothing.
-use Rattle.publish_write.specs.Handed.{handed}
-use Rattle.records.specs.Told.{toldQoS}
+use mathlib.Core.List.{_++_}
+use borrow.Author.Needs.{needs}
+use denote.Ref.{now}
+use Rattle.grammar.specs.Tables.{publishPlace}
 use Rattle.writing.specs.Write.{firstByte, identBytes}
 use Rattle.writing.specs.Spell.{short, string, propsBytes}
 use Rattle.writing.specs.Handed.{publish, publishGiven}
-use Rattle.grammar.specs.Tables.{publishPlace}
-use mathlib.Core.List.{_++_}
+use Rattle.records.specs.Told.{toldQoS}
+use Rattle.publish_write.specs.Handed.{handed}
 use Rattle.publish_write.proofs.Laws.Put.{frame-all}
-use denote.Ref.{now}
-use borrow.Author.Needs.{needs}
 use Rattle.publish_write.proofs.put.put_frame.Statement.{statement}
 use Rattle.publish_write.proofs.put.put_frame.Tie as tie
 
@@ -24,8 +24,13 @@ same-length c = search needs
 returns : tie.Need-returns
 returns c =
     let a = c .before .before .before .before .before .before .before .before .before .before .before .before .before .before .before .before .before .args in
-    let h = handed (a .head) (now (a .topic)) (now (a .response-topic)) (now (a .correlation-data)) (now (a .user)) (now (a .user-lengths)) (now (a .subscription-identifiers)) (now (a .content-type)) (now (a .payload)) in
-    frame-all (firstByte (publish h)) (short (a .rest)) (string (now (a .topic))) (identBytes (toldQoS (a .head .qos)) (a .head .pkid)) (short (a .properties) ++ (propsBytes publishPlace (publishGiven h) ++ now (a .payload))) (c .before .before .before .before .before .before .put-front .ensures (now (a .response-topic)) (now (a .correlation-data)) (now (a .user)) (now (a .user-lengths)) (now (a .subscription-identifiers)) (now (a .content-type)) (now (a .payload))) (c .before .before .put-back .ensures (now (a .topic)))
+    let h =
+    handed (a .head) (now (a .topic)) (now (a .response-topic)) (now (a .correlation-data)) (now (a .user)) (now (a .user-lengths)) (now (a .subscription-identifiers))
+    (now (a .content-type)) (now (a .payload)) in
+    frame-all (firstByte (publish h)) (short (a .rest)) (string (now (a .topic))) (identBytes (toldQoS (a .head .qos)) (a .head .pkid)) (short (a .properties) ++
+    (propsBytes publishPlace (publishGiven h) ++ now (a .payload))) (c .before .before .before .before .before .before .put-front .ensures (now (a .response-topic))
+    (now (a .correlation-data)) (now (a .user)) (now (a .user-lengths)) (now (a .subscription-identifiers)) (now (a .content-type)) (now (a .payload))) (c .before .before .put-back .ensures
+    (now (a .topic)))
 
 pub put-frame-spec : {M : Type 1} → statement M
 put-frame-spec = tie.close (tie.spec put-front-requires put-back-requires same-length returns)

@@ -1,25 +1,19 @@
--- `publish_write::put::put_front` is right since the first byte, R, the topic and the identifier are put one behind the other. Assumes nothing.
-use Rattle.publish_write.proofs.Laws.Put.{first-less, front-all}
-use Rattle.publish_write.specs.Handed.{handed}
-use denote.Ref.{now}
+-- `publish_write::put::put_front` is right since the first byte and R, the topic and the identifier are put one behind the other. Assumes nothing.
 use borrow.Author.Needs.{needs}
+use denote.Ref.{now}
+use Rattle.publish_write.specs.Handed.{handed}
+use Rattle.publish_write.proofs.Laws.Put.{front-all}
 use Rattle.publish_write.proofs.put.put_front.Statement.{statement}
 use Rattle.publish_write.proofs.put.put_front.Tie as tie
 
 first-byte-requires : tie.Need-first-byte-requires
 first-byte-requires c κs = search needs
 
-put-u8-requires : tie.Need-put-u8-requires
-put-u8-requires c κs = search needs
+put-header-requires : tie.Need-put-header-requires
+put-header-requires c κs = search needs
 
 after-requires : tie.Need-after-requires
 after-requires c κs = search needs
-
-write-remaining-length-requires : tie.Need-write-remaining-length-requires
-write-remaining-length-requires c κs = search needs
-
-after-requires-2 : tie.Need-after-requires-2
-after-requires-2 c κs = search needs
 
 write-mqtt-bytes-requires : tie.Need-write-mqtt-bytes-requires
 write-mqtt-bytes-requires c κs = search needs
@@ -27,8 +21,8 @@ write-mqtt-bytes-requires c κs = search needs
 add-after : tie.Need-add-after
 add-after c = search needs
 
-after-requires-3 : tie.Need-after-requires-3
-after-requires-3 c κs = search needs
+after-requires-2 : tie.Need-after-requires-2
+after-requires-2 c κs = search needs
 
 qos-number-requires : tie.Need-qos-number-requires
 qos-number-requires c κs = search needs
@@ -36,33 +30,34 @@ qos-number-requires c κs = search needs
 put-pkid-requires : tie.Need-put-pkid-requires
 put-pkid-requires c κs = search needs
 
-after-requires-4 : tie.Need-after-requires-4
-after-requires-4 c κs = search needs
+after-requires-3 : tie.Need-after-requires-3
+after-requires-3 c κs = search needs
 
 same-length : tie.Need-same-length
 same-length c = search needs
 
 returns : tie.Need-returns
 returns c =
-    let a = c .before .before .before .before .before .before .before .before .before .before .before .before .before .before .before .before .before .before .before .before .before .before .before .before .args in
-    λ r b u l i d p. front-all (handed (a .head) (now (a .topic)) r b u l i d p) (a .rest) (first-less (a .head) (now (a .topic)) r b u l i d p) (c .before .before .before .before .before .before .before .before .before .before .before .before .before .before .before .before .before .before .before .before .first-byte .ensures (now (a .topic)) r b u l i d p)
-    (c .before .before .before .before .before .before .before .before .before .before .before .before .before .before .before .before .before .before .before .put-u8 .ensures) (c .before .before .before .before .before .before .before .before .before .before .before .before .before .before .before .before .after .ensures) (c .before .before .before .before .before .before .before .before .before .before .before .before .before .before .write-remaining-length .ensures) (c .before .before .before .before .before .before .before .before .before .before .before .after2 .ensures) (c .before .before .before .before .before .before .before .before .before .write-mqtt-bytes .ensures) (c .before .before .before .before .before .before .after3 .ensures)
-    (c .before .before .before .before .qos-number .ensures) (c .before .before .before .put-pkid .ensures) (c .after4 .ensures)
+    let a = c .before .before .before .before .before .before .before .before .before .before .before .before .before .before .before .before .before .before .before .args in
+    λ r b u l i d p. front-all (handed (a .head) (now (a .topic)) r b u l i d p) (a .rest)
+    (c .before .before .before .before .before .before .before .before .before .before .before .before .before .before .before .first-byte .ensures (now (a .topic)) r b u l i d p)
+    (c .before .before .before .before .before .before .before .before .before .before .before .before .before .before .put-header .ensures)
+    (c .before .before .before .before .before .before .before .before .before .before .before .after .ensures)
+    (c .before .before .before .before .before .before .before .before .before .write-mqtt-bytes .ensures) (c .before .before .before .before .before .before .after2 .ensures)
+    (c .before .before .before .before .qos-number .ensures) (c .before .before .before .put-pkid .ensures) (c .after3 .ensures)
 
 pub put-front-spec : {M : Type 1} → statement M
 put-front-spec =
     tie.close
     (tie.spec
     first-byte-requires
-    put-u8-requires
+    put-header-requires
     after-requires
-    write-remaining-length-requires
-    after-requires-2
     write-mqtt-bytes-requires
     add-after
-    after-requires-3
+    after-requires-2
     qos-number-requires
     put-pkid-requires
-    after-requires-4
+    after-requires-3
     same-length
     returns)

@@ -1,7 +1,7 @@
 -- `publish_write::put::put_lists` is right since the rows are put one behind the other. Assumes nothing.
-use Rattle.publish_write.proofs.Laws.Put.{put-next, next-then}
-use Rattle.grammar.specs.Tables.{text}
 use borrow.Author.Needs.{needs}
+use Rattle.grammar.specs.Tables.{text}
+use Rattle.row_puts.proofs.Laws.{put-next, next-then}
 use Rattle.publish_write.proofs.put.put_lists.Statement.{statement}
 use Rattle.publish_write.proofs.put.put_lists.Tie as tie
 
@@ -27,7 +27,12 @@ same-length : tie.Need-same-length
 same-length c = search needs
 
 returns : tie.Need-returns
-returns c = next-then (put-next (c .before .before .before .before .before .before .before .before .before .before .before .before .before .put-pairs .ensures) (c .before .before .before .before .before .before .before .before .before .before .after .ensures)) (next-then (put-next (c .before .before .before .before .before .before .before .before .put-ids .ensures) (c .before .before .before .before .before .after2 .ensures)) (put-next (c .before .before .before .put-lent .ensures text) (c .after3 .ensures)))
+returns c =
+    let first =
+    put-next (c .before .before .before .before .before .before .before .before .before .before .before .before .before .put-pairs .ensures)
+    (c .before .before .before .before .before .before .before .before .before .before .after .ensures) in
+    let second = put-next (c .before .before .before .before .before .before .before .before .put-ids .ensures) (c .before .before .before .before .before .after2 .ensures) in
+    next-then first (next-then second (put-next (c .before .before .before .put-lent .ensures text) (c .after3 .ensures)))
 
 pub put-lists-spec : {M : Type 1} → statement M
 put-lists-spec =

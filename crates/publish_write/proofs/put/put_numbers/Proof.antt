@@ -1,6 +1,6 @@
 -- `publish_write::put::put_numbers` is right since the rows are put one behind the other. Assumes nothing.
-use Rattle.publish_write.proofs.Laws.Put.{put-next, next-then}
 use borrow.Author.Needs.{needs}
+use Rattle.row_puts.proofs.Laws.{put-next, next-then}
 use Rattle.publish_write.proofs.put.put_numbers.Statement.{statement}
 use Rattle.publish_write.proofs.put.put_numbers.Tie as tie
 
@@ -26,7 +26,12 @@ same-length : tie.Need-same-length
 same-length c = search needs
 
 returns : tie.Need-returns
-returns c = next-then (put-next (c .before .before .before .before .before .before .before .before .before .before .before .before .before .put-u8-if .ensures) (c .before .before .before .before .before .before .before .before .before .before .after .ensures)) (next-then (put-next (c .before .before .before .before .before .before .before .before .put-u32-if .ensures) (c .before .before .before .before .before .after2 .ensures)) (put-next (c .before .before .before .put-u16-if .ensures) (c .after3 .ensures)))
+returns c =
+    let first =
+    put-next (c .before .before .before .before .before .before .before .before .before .before .before .before .before .put-u8-if .ensures)
+    (c .before .before .before .before .before .before .before .before .before .before .after .ensures) in
+    let second = put-next (c .before .before .before .before .before .before .before .before .put-u32-if .ensures) (c .before .before .before .before .before .after2 .ensures) in
+    next-then first (next-then second (put-next (c .before .before .before .put-u16-if .ensures) (c .after3 .ensures)))
 
 pub put-numbers-spec : {M : Type 1} → statement M
 put-numbers-spec =

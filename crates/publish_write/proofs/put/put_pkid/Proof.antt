@@ -1,7 +1,7 @@
 -- `publish_write::put::put_pkid` is right since an identifier that is left out is no bytes, and else it is two. Assumes nothing.
-use Rattle.publish_write.proofs.Laws.Put.{ident-off, ident-on}
-use denote.Ref.{now}
 use borrow.Author.Needs.{needs}
+use denote.Ref.{now}
+use Rattle.publish_write.proofs.Laws.Put.{ident-off, ident-on}
 use Rattle.publish_write.proofs.put.put_pkid.Statement.{statement}
 use Rattle.publish_write.proofs.put.put_pkid.Tie as tie
 
@@ -9,7 +9,9 @@ no-pkid-requires : tie.Need-no-pkid-requires
 no-pkid-requires c κs = search needs
 
 returns : tie.Need-returns
-returns c = ident-off (c .before .before .before .args .qos) (c .before .before .before .args .pkid) (c .before .no-pkid .ensures) (c .if1 .taken) (now (c .before .before .before .args .out)) (c .before .before .before .args .at)
+returns c =
+    ident-off (c .before .before .before .args .qos) (c .before .before .before .args .pkid) (c .before .no-pkid .ensures) (c .if1 .taken) (now (c .before .before .before .args .out))
+    (c .before .before .before .args .at)
 
 put-u16-requires : tie.Need-put-u16-requires
 put-u16-requires c κs = search needs
@@ -18,7 +20,9 @@ same-length : tie.Need-same-length
 same-length c = search needs
 
 returns-2 : tie.Need-returns-2
-returns-2 c = ident-on (c .before .before .before .before .before .before .before .args .qos) (c .before .before .before .before .before .before .before .args .pkid) (c .before .before .before .before .before .no-pkid .ensures) (c .before .before .before .before .if1 .left) (c .before .before .put-u16 .ensures)
+returns-2 c =
+    ident-on (c .before .before .before .before .before .before .before .args .qos) (c .before .before .before .before .before .before .before .args .pkid)
+    (c .before .before .before .before .before .no-pkid .ensures) (c .before .before .before .before .if1 .left) (c .before .before .put-u16 .ensures)
 
 pub put-pkid-spec : {M : Type 1} → statement M
 put-pkid-spec =

@@ -1,7 +1,8 @@
 -- `publish_write::put::put_properties` is right since numbers, strings and lists are the eight rows in the table's order. Assumes nothing.
-use Rattle.publish_write.proofs.Laws.Put.{next-then, put-props}
-use denote.Ref.{now}
 use borrow.Author.Needs.{needs}
+use denote.Ref.{now}
+use Rattle.row_puts.proofs.Laws.{next-then}
+use Rattle.publish_write.proofs.Laws.Put.{put-props}
 use Rattle.publish_write.proofs.put.put_properties.Statement.{statement}
 use Rattle.publish_write.proofs.put.put_properties.Tie as tie
 
@@ -21,7 +22,8 @@ returns : tie.Need-returns
 returns c =
     let a = c .before .before .before .before .before .before .before .before .before .before .before .before .before .before .before .before .before .before .before .args in
     λ t p. put-props (a .head) t (now (a .response-topic)) (now (a .correlation-data)) (now (a .user)) (now (a .user-lengths)) (now (a .subscription-identifiers)) (now (a .content-type)) p
-    (next-then (c .before .before .before .before .before .before .before .before .before .before .put-numbers .ensures) (next-then (c .before .before .before .before .before .before .put-strings .ensures) (c .before .before .put-lists .ensures)))
+    (next-then (c .before .before .before .before .before .before .before .before .before .before .put-numbers .ensures)
+    (next-then (c .before .before .before .before .before .before .put-strings .ensures) (c .before .before .put-lists .ensures)))
 
 pub put-properties-spec : {M : Type 1} → statement M
 put-properties-spec =

@@ -1,7 +1,7 @@
 -- `publish_write::put::put_strings` is right since the rows are put one behind the other. Assumes nothing.
-use Rattle.publish_write.proofs.Laws.Put.{put-next, next-then}
-use Rattle.grammar.specs.Tables.{text, bytes}
 use borrow.Author.Needs.{needs}
+use Rattle.grammar.specs.Tables.{text, bytes}
+use Rattle.row_puts.proofs.Laws.{put-next, next-then}
 use Rattle.publish_write.proofs.put.put_strings.Statement.{statement}
 use Rattle.publish_write.proofs.put.put_strings.Tie as tie
 
@@ -21,7 +21,9 @@ same-length : tie.Need-same-length
 same-length c = search needs
 
 returns : tie.Need-returns
-returns c = next-then (put-next (c .before .before .before .before .before .before .before .before .put-lent .ensures text) (c .before .before .before .before .before .after .ensures)) (put-next (c .before .before .before .put-lent2 .ensures bytes) (c .after2 .ensures))
+returns c =
+    next-then (put-next (c .before .before .before .before .before .before .before .before .put-lent .ensures text) (c .before .before .before .before .before .after .ensures))
+    (put-next (c .before .before .before .put-lent2 .ensures bytes) (c .after2 .ensures))
 
 pub put-strings-spec : {M : Type 1} → statement M
 put-strings-spec =

@@ -1,57 +1,82 @@
--- `publish_write::write::write` is right since a refusal comes before any byte is put, and what is permitted is put whole. Assumes nothing.
-use Rattle.publish_write.proofs.Laws.Plan.{wrote-all}
-use Rattle.publish_write.specs.Handed.{handed}
-use Rattle.rows.specs.Tested.{toldTested}
-use Rattle.records.specs.Told.{limitOf}
-use Rattle.writing.proofs.ForCode.{writes-none}
-use Rattle.writing.specs.Handed.{publish}
-use denote.Ref.{now}
+-- `publish_write::write::write` is right since the order is settled from what is found, and only then is the frame put. Assumes nothing.
 use mathlib.Core.Path.{sym, ap, _∙_}
 use borrow.Author.Needs.{needs}
+use denote.Ref.{now}
+use Rattle.writing.specs.Handed.{publish}
+use Rattle.records.specs.Told.{limitOf}
+use Rattle.records.specs.Answered.{toldWritten}
+use Rattle.settle.proofs.Laws.{settled-found, none-written, all-written}
+use Rattle.publish_write.specs.Handed.{handed}
+use Rattle.publish_write.proofs.Laws.Plan.{put-frame}
 use Rattle.publish_write.proofs.write.write.Statement.{statement}
 use Rattle.publish_write.proofs.write.write.Tie as tie
+
+early-requires : tie.Need-early-requires
+early-requires c κs = search needs
 
 sizes-requires : tie.Need-sizes-requires
 sizes-requires c κs = search needs
 
-permitted-requires : tie.Need-permitted-requires
-permitted-requires c κs = search needs
+late-requires : tie.Need-late-requires
+late-requires c κs = search needs
 
-enum-known-tested : tie.Need-enum-known-tested
-enum-known-tested c = search needs
+settle-requires : tie.Need-settle-requires
+settle-requires c κs = search needs
 
-enum-told : tie.Need-enum-told
-enum-told c = search needs
+enum-known-e : tie.Need-enum-known-e
+enum-known-e c = search needs
+
+enum-known-n : tie.Need-enum-known-n
+enum-known-n c = search needs
 
 put-frame-requires : tie.Need-put-frame-requires
 put-frame-requires c κs = search needs
 
-frame-size-requires : tie.Need-frame-size-requires
-frame-size-requires c κs = search needs
-
 returns : tie.Need-returns
 returns c =
-    let a = c .before .before .before .before .before .before .before .before .before .before .before .before .before .before .args in
-    writes-none (limitOf (a .limit)) (publish (handed (a .head) (now (a .topic)) (now (a .response-topic)) (now (a .correlation-data)) (now (a .user)) (now (a .user-lengths)) (now (a .subscription-identifiers)) (now (a .content-type)) (now (a .payload)))) (now (a .out)) _ (sym (c .before .before .before .permitted .ensures (now (a .payload)) (c .before .before .before .before .sizes .ensures .0)) ∙ ap toldTested (c .before .tested .given .1))
+    let a = c .before .before .before .before .before .before .before .before .before .before .before .before .before .before .before .before .args in
+    let h =
+    handed (a .head) (now (a .topic)) (now (a .response-topic)) (now (a .correlation-data)) (now (a .user)) (now (a .user-lengths)) (now (a .subscription-identifiers))
+    (now (a .content-type)) (now (a .payload)) in
+    let f = settled-found (limitOf (a .limit)) _ (publish h) (record {
+      early = c .before .before .before .before .before .before .early .ensures (now (a .payload));
+      rest = c .before .before .before .before .before .sizes .ensures .0;
+      late = c .before .before .before .before .late .ensures (now (a .topic)) (now (a .response-topic)) (now (a .correlation-data)) (now (a .user)) (now (a .user-lengths))
+          (now (a .content-type)) (now (a .payload));
+    }) in
+    none-written (limitOf (a .limit)) (publish h) (now (a .out)) _ (sym (ap toldWritten (c .before .e .given .1)) ∙ c .before .before .before .settle .ensures ∙ f)
 
 same-length : tie.Need-same-length
 same-length c = search needs
 
 returns-2 : tie.Need-returns-2
 returns-2 c =
-    let a = c .before .before .before .before .before .before .before .before .before .before .before .before .before .before .before .before .before .before .args in
-    wrote-all (handed (a .head) (now (a .topic)) (now (a .response-topic)) (now (a .correlation-data)) (now (a .user)) (now (a .user-lengths)) (now (a .subscription-identifiers)) (now (a .content-type)) (now (a .payload))) (limitOf (a .limit)) (now (a .out)) (sym (c .before .before .before .before .before .before .before .permitted .ensures (now (a .payload)) (c .before .before .before .before .before .before .before .before .sizes .ensures .0)) ∙ ap toldTested (c .before .before .before .before .before .enum-told .given .1)) (c .before .before .before .before .before .before .before .before .sizes .ensures .0) (c .before .before .before .before .before .before .before .before .sizes .ensures .1) (c .frame-size .ensures) (c .before .before .before .put-frame .ensures)
+    let a = c .before .before .before .before .before .before .before .before .before .before .before .before .before .before .before .before .before .before .before .before .args in
+    let h =
+    handed (a .head) (now (a .topic)) (now (a .response-topic)) (now (a .correlation-data)) (now (a .user)) (now (a .user-lengths)) (now (a .subscription-identifiers))
+    (now (a .content-type)) (now (a .payload)) in
+    let f = settled-found (limitOf (a .limit)) _ (publish h) (record {
+      early = c .before .before .before .before .before .before .before .before .before .before .early .ensures (now (a .payload));
+      rest = c .before .before .before .before .before .before .before .before .before .sizes .ensures .0;
+      late = c .before .before .before .before .before .before .before .before .late .ensures (now (a .topic)) (now (a .response-topic)) (now (a .correlation-data)) (now (a .user))
+          (now (a .user-lengths)) (now (a .content-type)) (now (a .payload));
+    }) in
+    let s = c .before .before .before .before .before .before .before .before .before .sizes .ensures in
+    all-written (limitOf (a .limit)) (publish h) (now (a .out)) _
+    (sym (ap toldWritten (c .before .before .before .before .before .n .given .1)) ∙ c .before .before .before .before .before .before .before .settle .ensures ∙ f) _
+    (put-frame h (now (a .out)) (s .0) (s .1) (c .before .before .put-frame .ensures))
 
 pub write-spec : {M : Type 1} → statement M
 write-spec =
     tie.close
     (tie.spec
+    early-requires
     sizes-requires
-    permitted-requires
-    enum-known-tested
-    enum-told
+    late-requires
+    settle-requires
+    enum-known-e
+    enum-known-n
     put-frame-requires
-    frame-size-requires
     returns
     same-length
     returns-2)

@@ -8,8 +8,6 @@ use Rattle.writing.specs.Lists.{sum}
 use Rattle.rows.proofs.Laws.Belong.{adds-past, adds-next, adds-end}
 use Rattle.rows.proofs.belong.adds_up.Statement.{statement}
 use Rattle.rows.proofs.belong.adds_up.Tie as tie
-use Rattle.rows.proofs.belong.adds_up.Reads as reads
-use Rattle.rows.proofs.belong.adds_up.Lts as lts
 
 abbrev Inv-loop : tie.InvT-loop
 Inv-loop bytes lengths left₀ i₀ left i = eqb (sum lengths) (length bytes) ≡ eqb (sum (drop i lengths)) left

@@ -3,8 +3,6 @@ use denote.Ref.{now}
 use Rattle.rows.proofs.Laws.Belong.{empty-length}
 use Rattle.rows.proofs.belong.ids_belong.Statement.{statement}
 use Rattle.rows.proofs.belong.ids_belong.Tie as tie
-use Rattle.rows.proofs.belong.ids_belong.Reads as reads
-use Rattle.rows.proofs.belong.ids_belong.Lts as lts
 
 returns : tie.Need-returns
 returns c = simp (c .if1 .taken)

@@ -6,8 +6,6 @@ use denote.Ref.{now}
 use Rattle.rows.proofs.Laws.Belong.{lent-off}
 use Rattle.rows.proofs.belong.lent_belongs.Statement.{statement}
 use Rattle.rows.proofs.belong.lent_belongs.Tie as tie
-use Rattle.rows.proofs.belong.lent_belongs.Reads as reads
-use Rattle.rows.proofs.belong.lent_belongs.Lts as lts
 
 returns : tie.Need-returns
 returns c = rw (c .if1 .taken) (sym (or-false _))

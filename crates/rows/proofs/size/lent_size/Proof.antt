@@ -1,5 +1,4 @@
 -- `rows::size::lent_size` is right since a string that is on has an identifier byte and two bytes of length. Assumes nothing.
-use mathlib.Core.Path.{_∙_}
 use borrow.Author.Needs.{needs}
 use Rattle.rows.proofs.size.lent_size.Statement.{statement}
 use Rattle.rows.proofs.size.lent_size.Tie as tie

@@ -1,5 +1,5 @@
 -- `rows::size::one_size_number` is right since it is the size of one identifier, or of none. Assumes nothing.
-use mathlib.Core.Path.{sym, _∙_}
+use mathlib.Core.Path.{sym}
 use native.Mathlib.Omega.{arith}
 use borrow.Author.Needs.{needs}
 use Rattle.writing.proofs.ForCode.{cap-small}

@@ -4,7 +4,7 @@ use mathlib.Core.List.{List, map}
 use Prim.Native.Nat.{ℕ, _-_}
 use native.Mathlib.Omega.{arith}
 use borrow.Author.Needs.{needs}
-use lib.ListN.{length, drop, getD}
+use lib.ListN.{drop, getD}
 use denote.Ref.{now}
 use Rattle.writing.specs.Lists.{beside}
 use Rattle.writing.specs.Handed.{strings}

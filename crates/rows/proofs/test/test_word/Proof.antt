@@ -2,23 +2,43 @@
 use mathlib.Core.Path.{sym, _∙_}
 use borrow.Author.Needs.{needs}
 use denote.Ref.{now}
-use Rattle.writing.specs.Refuse.{long-word}
-use Rattle.writing.proofs.Judge.{field-fault}
-use Rattle.rows.proofs.Laws.Test.{word-fine, word-broken}
+use Rattle.rows.proofs.Laws.Test.{word-long, word-fine, word-broken}
 use Rattle.rows.proofs.test.test_word.Statement.{statement}
 use Rattle.rows.proofs.test.test_word.Tie as tie
 
-returns : tie.Need-returns
-returns c = sym (field-fault (long-word {s = now (c .before .before .args .s)} (c .if1 .taken)))
+test-raw-requires : tie.Need-test-raw-requires
+test-raw-requires c κs = search needs
+
+enum-known-e : tie.Need-enum-known-e
+enum-known-e c = search needs
+
+enum-told : tie.Need-enum-told
+enum-told c = search needs
 
 is-utf8-requires : tie.Need-is-utf8-requires
 is-utf8-requires c κs = search needs
 
+returns : tie.Need-returns
+returns c =
+    let b = c .before .before in
+    word-fine _ (rw (b .enum-told .given .1) at (b .before .before .test-raw .ensures)) (sym (c .before .is-utf8 .ensures) ∙ c .if1 .taken)
+
 returns-2 : tie.Need-returns-2
-returns-2 c = sym (word-fine (now (c .before .before .before .before .args .s)) (c .before .before .if1 .left) (sym (c .before .is-utf8 .ensures) ∙ c .if2 .taken))
+returns-2 c = word-long (now (c .before .before .before .before .before .args .s)) _ (rw (c .before .e .given .1) at (c .before .before .before .test-raw .ensures))
 
 returns-3 : tie.Need-returns-3
-returns-3 c = sym (word-broken (now (c .before .before .before .before .args .s)) (c .before .before .if1 .left) (sym (c .before .is-utf8 .ensures) ∙ c .if2 .left))
+returns-3 c =
+    let b = c .before .before in
+    word-broken _ (rw (b .enum-told .given .1) at (b .before .before .test-raw .ensures)) (sym (c .before .is-utf8 .ensures) ∙ c .if1 .left)
 
 pub test-word-spec : {M : Type 1} → statement M
-test-word-spec = tie.close (tie.spec returns is-utf8-requires returns-2 returns-3)
+test-word-spec =
+    tie.close
+    (tie.spec
+    test-raw-requires
+    enum-known-e
+    enum-told
+    is-utf8-requires
+    returns
+    returns-2
+    returns-3)

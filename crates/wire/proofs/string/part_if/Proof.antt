@@ -1,5 +1,6 @@
 -- `wire::string::part_if` meets its contract: a place that is there is left to `part`. Assumes nothing.
 use borrow.Author.Needs.{needs}
+use Rattle.wire.specs.Told.{stringIf}
 use Rattle.wire.proofs.string.part_if.Statement.{statement}
 use Rattle.wire.proofs.string.part_if.Tie as tie
 
@@ -16,9 +17,11 @@ part-requires : tie.Need-part-requires
 part-requires c κs = search needs
 
 returns : tie.Need-returns
+unfolding stringIf
 returns c = search needs
 
 returns-2 : tie.Need-returns-2
+unfolding stringIf
 returns-2 c = rw (c .before .before .p .given .1) (c .part .ensures)
 
 pub part-if-spec : {M : Type 1} → statement M

@@ -2,7 +2,7 @@
 use borrow.Author.Needs.{needs}
 use denote.Ref.{now}
 use Rattle.writing.specs.Spell.{string}
-use Rattle.wire.proofs.Laws.Put.{sets-out}
+use Rattle.numbers.proofs.Laws.Put.{sets-out}
 use Rattle.wire.proofs.Laws.Strings.{put-string}
 use Rattle.wire.proofs.string.write_mqtt_bytes.Statement.{statement}
 use Rattle.wire.proofs.string.write_mqtt_bytes.Tie as tie

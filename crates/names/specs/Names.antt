@@ -1,0 +1,52 @@
+-- The name of each refusal, as ASCII bytes. Assumes nothing.
+use mathlib.Core.List.{List, [], _∷_, _++_}
+use Prim.Native.Nat.{ℕ, _-_}
+use Prim.Native.Char.{code}
+use Prim.Native.String.{String, [] as empty, _∷_ as _then_}
+use lib.ListN.{length, getD, replicate}
+use Rattle.records.specs.Told.{toldError, rowOf}
+use Rattle.records.specs.declared.error.Error.{Error}
+use Rattle.names.specs.declared.shown.Name.{Name}
+
+-- 01, "When the desk says no": the column Refusal, in the order of the column No., which begins at 1
+unfoldable pub names : List String
+names =
+    "InsufficientBytes" ∷
+    "MalformedRemainingLength" ∷
+    "PayloadSizeLimitExceeded" ∷
+    "InvalidPacketType" ∷
+    "PayloadRequired" ∷
+    "KindNotCarried" ∷
+    "MalformedPacket" ∷
+    "BoundaryCrossed" ∷
+    "TopicNotUtf8" ∷
+    "InvalidPropertyType" ∷
+    "InvalidQoS" ∷
+    "PacketIdZero" ∷
+    "EmptySubscription" ∷
+    "InvalidRetainForwardRule" ∷
+    "InvalidReason" ∷
+    "OutgoingPacketTooLarge" ∷
+    "PayloadTooLong" ∷
+    "StringTooLong" ∷
+    "NoRoom" ∷
+    "ListMismatch" ∷
+    "NoItem" ∷
+    []
+
+-- a name is spelled in ASCII: the codes of its characters
+abbrev pub codesOf : String → List ℕ
+codesOf empty = []
+codesOf (c then s) = code c ∷ codesOf s
+
+-- 01, "When the desk says no": the name in the refusal's row
+abbrev pub nameOf : Error → List ℕ
+nameOf e = codesOf (getD names (rowOf (toldError e) - 1) "")
+
+-- a name of these bytes and this length
+abbrev pub made : List ℕ → ℕ → Name
+made b n = record { bytes = b; len = n }
+
+-- a name and its length, with 0 in what is left of the 24 bytes
+abbrev pub padded : List ℕ → Name
+padded b = made (b ++ replicate (24 - length b) 0) (length b)

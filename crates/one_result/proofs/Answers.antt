@@ -1,0 +1,26 @@
+-- The answers of `records`: a read, sizes, items and a reason. Assumes nothing.
+use Rattle.records.specs.Answered.{told, toldSized, toldWritten, toldUser, toldIdentifier, toldFilterItem, toldGotReason}
+use Rattle.records.proofs.Answered.{backRead, back-read, backSized, back-sized, backWritten, back-written, backUser, back-user, backIdentifier, back-identifier, backFilterItem, back-filter-item, backGotReason, back-got-reason}
+use Rattle.one_result.specs.OneResult.{OneResult}
+use Rattle.one_result.proofs.Laws.{one-by}
+
+pub read-same : OneResult told
+read-same = one-by told backRead back-read
+
+pub sized-same : OneResult toldSized
+sized-same = one-by toldSized backSized back-sized
+
+pub written-same : OneResult toldWritten
+written-same = one-by toldWritten backWritten back-written
+
+pub user-same : OneResult toldUser
+user-same = one-by toldUser backUser back-user
+
+pub identifier-same : OneResult toldIdentifier
+identifier-same = one-by toldIdentifier backIdentifier back-identifier
+
+pub filter-item-same : OneResult toldFilterItem
+filter-item-same = one-by toldFilterItem backFilterItem back-filter-item
+
+pub reason-same : OneResult toldGotReason
+reason-same = one-by toldGotReason backGotReason back-got-reason

@@ -1,0 +1,246 @@
+-- The answers of the leaves: numbers, strings, qualities of service, headers, kinds, and one property. Assumes nothing.
+use mathlib.Core.Path.{_≡_, refl, sym, ap, _∙_}
+use mathlib.Core.Bool.{Bool, true, false}
+use mathlib.Core.Option.{Option, none, some}
+use mathlib.Core.List.{List}
+use Prim.Native.Nat.{ℕ, _-_}
+use native.Mathlib.Omega.{arith}
+use lib.Dec.{eqb}
+use Rattle.grammar.specs.Choice.{pick, lookup}
+use Rattle.grammar.specs.Tables.{Form, u8, u16, u32, number, text, bytes, pair, Place, Layout, aPublish, anAck, aSubscribe, aPing}
+use Rattle.grammar.specs.Record.{Val, num, str, duo}
+use Rattle.reading.specs.Refusal.{Refusal, nr, cut}
+use Rattle.reading.specs.Reader.{Fit, got, bad}
+use Rattle.reading.specs.Place as place
+use Rattle.reading.proofs.Reading.{bad-got, got-inj}
+use Rattle.records.specs.Told.{toldError}
+use Rattle.records.proofs.Told.{back-error, error-injective, backQoS, back-qos, backSpan, back-span}
+use Rattle.records.specs.declared.error.Error.{Error}
+use Rattle.records.specs.declared.span.Span.{Span}
+use Rattle.numbers.specs.Told.{toldGotU8, toldGotU16, toldGotU32}
+use Rattle.numbers.specs.Length.{toldLength}
+use Rattle.numbers.specs.declared.got.GotU8.{GotU8}
+use Rattle.numbers.specs.declared.got.GotU16.{GotU16}
+use Rattle.numbers.specs.declared.got.GotU32.{GotU32}
+use Rattle.numbers.specs.declared.length.GotLength.{GotLength}
+use Rattle.wire.specs.Told.{toldPart}
+use Rattle.wire.specs.Written.{toldStringLength}
+use Rattle.wire.specs.Qos.{toldGotQos}
+use Rattle.wire.specs.Property.{toldForm}
+use Rattle.wire.specs.declared.got.GotSpan.{GotSpan}
+use Rattle.wire.specs.declared.string.GotStringLength.{GotStringLength}
+use Rattle.wire.specs.declared.qos.GotQos.{GotQos}
+use Rattle.wire.specs.declared.property.PropertyForm.{PropertyForm}
+use Rattle.framing.specs.Told.{toldKind, toldHeader, toldChecked, frameAt}
+use Rattle.framing.proofs.Laws.Frame as frame
+use Rattle.framing.specs.declared.check.Checked.{Checked}
+use Rattle.framing.specs.declared.header.FixedHeader.{FixedHeader}
+use Rattle.framing.specs.declared.header.Kind.{Kind}
+use Rattle.property_value.specs.Told.{toldValue, formOf, PropertyRead}
+use Rattle.property_value.specs.declared.Value.{Value}
+use Rattle.property_value.specs.declared.GotProperty.{GotProperty}
+use Rattle.one_result.specs.OneResult.{OneResult}
+use Rattle.one_result.proofs.Laws.{one-by, backFit}
+
+-- ---- numbers
+
+abbrev backU8 : Fit (ℕ × ℕ) → GotU8
+backU8 = backFit (λ z. GotU8.Value (z .0) (z .1)) GotU8.Refused
+
+back-u8 : (r : GotU8) → backU8 (toldGotU8 r) ≡ r
+back-u8 (GotU8.Value n next) = refl
+back-u8 (GotU8.Refused e) = ap GotU8.Refused (back-error e)
+
+pub u8-same : OneResult toldGotU8
+u8-same = one-by toldGotU8 backU8 back-u8
+
+abbrev backU16 : Fit (ℕ × ℕ) → GotU16
+backU16 = backFit (λ z. GotU16.Value (z .0) (z .1)) GotU16.Refused
+
+back-u16 : (r : GotU16) → backU16 (toldGotU16 r) ≡ r
+back-u16 (GotU16.Value n next) = refl
+back-u16 (GotU16.Refused e) = ap GotU16.Refused (back-error e)
+
+pub u16-same : OneResult toldGotU16
+u16-same = one-by toldGotU16 backU16 back-u16
+
+abbrev backU32 : Fit (ℕ × ℕ) → GotU32
+backU32 = backFit (λ z. GotU32.Value (z .0) (z .1)) GotU32.Refused
+
+back-u32 : (r : GotU32) → backU32 (toldGotU32 r) ≡ r
+back-u32 (GotU32.Value n next) = refl
+back-u32 (GotU32.Refused e) = ap GotU32.Refused (back-error e)
+
+pub u32-same : OneResult toldGotU32
+u32-same = one-by toldGotU32 backU32 back-u32
+
+module _ (at : ℕ) where
+  backLength : Fit (ℕ × ℕ) → GotLength
+  backLength (got z) = GotLength.Number (z .0) (z .1 - at)
+  backLength (bad (nr k vs)) = pick (eqb k 2) GotLength.Long GotLength.Cut
+
+  back-length : (r : GotLength) → backLength (toldLength cut at r) ≡ r
+  unfolding backLength
+  back-length (GotLength.Number n count) = ap (GotLength.Number n) (omega arith)
+  back-length GotLength.Cut = refl
+  back-length GotLength.Long = refl
+
+  -- the contract of `length` speaks of every refusal of a number cut off: that of a frame leaves no choice already
+  pub length-same : OneResult (toldLength cut at)
+  length-same = one-by (toldLength cut at) backLength back-length
+
+-- ---- strings
+
+abbrev backPart : Fit (place.Span × ℕ) → GotSpan
+backPart = backFit (λ z. GotSpan.Value (backSpan (z .0)) (z .1)) GotSpan.Refused
+
+back-part : (r : GotSpan) → backPart (toldPart r) ≡ r
+back-part (GotSpan.Value p next) = ap (λ (q : Span). GotSpan.Value q next) (back-span p)
+back-part (GotSpan.Refused e) = ap GotSpan.Refused (back-error e)
+
+pub part-same : OneResult toldPart
+part-same = one-by toldPart backPart back-part
+
+abbrev backStringLength : Fit ℕ → GotStringLength
+backStringLength = backFit GotStringLength.Value GotStringLength.Refused
+
+back-string-length : (r : GotStringLength) → backStringLength (toldStringLength r) ≡ r
+back-string-length (GotStringLength.Value n) = refl
+back-string-length (GotStringLength.Refused e) = ap GotStringLength.Refused (back-error e)
+
+pub string-length-same : OneResult toldStringLength
+string-length-same = one-by toldStringLength backStringLength back-string-length
+
+-- ---- a quality of service, and the form of a property
+
+abbrev backGotQos : Fit ℕ → GotQos
+backGotQos = backFit (λ n. GotQos.Value (backQoS n)) GotQos.Refused
+
+back-got-qos : (r : GotQos) → backGotQos (toldGotQos r) ≡ r
+back-got-qos (GotQos.Value q) = ap GotQos.Value (back-qos q)
+back-got-qos (GotQos.Refused e) = ap GotQos.Refused (back-error e)
+
+pub qos-same : OneResult toldGotQos
+qos-same = one-by toldGotQos backGotQos back-got-qos
+
+backForm : Option Form → PropertyForm
+backForm none = PropertyForm.NotHere
+backForm (some u8) = PropertyForm.U8
+backForm (some u16) = PropertyForm.U16
+backForm (some u32) = PropertyForm.U32
+backForm (some number) = PropertyForm.Number
+backForm (some text) = PropertyForm.Text
+backForm (some bytes) = PropertyForm.Bytes
+backForm (some pair) = PropertyForm.Pair
+
+back-form : (f : PropertyForm) → backForm (toldForm f) ≡ f
+unfolding backForm
+back-form PropertyForm.U8 = refl
+back-form PropertyForm.U16 = refl
+back-form PropertyForm.U32 = refl
+back-form PropertyForm.Number = refl
+back-form PropertyForm.Text = refl
+back-form PropertyForm.Bytes = refl
+back-form PropertyForm.Pair = refl
+back-form PropertyForm.NotHere = refl
+
+pub form-same : OneResult toldForm
+form-same = one-by toldForm backForm back-form
+
+-- ---- headers
+
+backKind : ℕ × Bool × Option Layout → Kind
+backKind (k, true, o) = Kind.Reserved k
+backKind (k, false, none) = Kind.NotCarried k
+backKind (k, false, some aPublish) = Kind.Publish
+backKind (k, false, some (anAck rs)) = Kind.PubAck
+backKind (k, false, some aSubscribe) = Kind.Subscribe
+backKind (k, false, some aPing) = pick (eqb k 12) Kind.PingReq Kind.PingResp
+
+back-kind : (k : Kind) → backKind (toldKind k) ≡ k
+unfolding backKind
+back-kind Kind.Publish = refl
+back-kind Kind.PubAck = refl
+back-kind Kind.Subscribe = refl
+back-kind Kind.PingReq = refl
+back-kind Kind.PingResp = refl
+back-kind (Kind.Reserved k) = refl
+back-kind (Kind.NotCarried k) = refl
+
+pub kind-same : OneResult toldKind
+kind-same = one-by toldKind backKind back-kind
+
+abbrev backHeader : Fit ((ℕ × ℕ) × ℕ) → Checked
+backHeader = backFit (λ z. Checked.Header (record { byte1 = z .0 .0; «fixed_header_len» = z .1; «remaining_len» = z .0 .1 })) Checked.Refused
+
+back-header : (r : Checked) → backHeader (toldHeader r) ≡ r
+back-header (Checked.Header h) = refl
+back-header (Checked.Refused e) = ap Checked.Refused (back-error e)
+
+pub header-same : OneResult toldHeader
+header-same = one-by toldHeader backHeader back-header
+
+-- what `check` tells are bytes of the stream, so that it needs the contract: they are as many as R says
+pub checked-same : (limit : Option ℕ) (s : List ℕ) (a b : Checked) → toldChecked s a ≡ frameAt limit s → toldChecked s b ≡ frameAt limit s → a ≡ b
+checked-same limit s (Checked.Header h) (Checked.Header h′) i j =
+    let (x, l, m) = frame.checked-same limit s (h .byte1) (h .«remaining_len») (h .«fixed_header_len») (h′ .byte1) (h′ .«remaining_len») (h′ .«fixed_header_len») i j in
+    header-same (toldHeader (Checked.Header h′)) (Checked.Header h) (Checked.Header h′) (rw (x, l, m)) refl
+checked-same limit s (Checked.Header h) (Checked.Refused e) i j = absurd (bad-got (j ∙ sym i))
+checked-same limit s (Checked.Refused e) (Checked.Header h) i j = absurd (bad-got (i ∙ sym j))
+checked-same limit s (Checked.Refused e) (Checked.Refused e′) i j = ap Checked.Refused (error-injective (let k : toldError e ≡ toldError e′ = cc in k))
+
+-- ---- one property
+
+-- what is told as a number, as a string or as the first of a pair, as the second of a pair
+abbrev numberIn : Val place.Span → ℕ
+numberIn (num n) = n
+numberIn (str p) = 0
+numberIn (duo p q) = 0
+
+abbrev firstIn : Val place.Span → place.Span
+firstIn (num n) = record { start = 0; len = 0 }
+firstIn (str p) = p
+firstIn (duo p q) = p
+
+abbrev secondIn : Val place.Span → place.Span
+secondIn (num n) = record { start = 0; len = 0 }
+secondIn (str p) = p
+secondIn (duo p q) = q
+
+-- the value of a form
+backValue : Form → Val place.Span → Value
+backValue u8 v = Value.U8 (numberIn v)
+backValue u16 v = Value.U16 (numberIn v)
+backValue u32 v = Value.U32 (numberIn v)
+backValue number v = Value.Number (numberIn v)
+backValue text v = Value.Text (backSpan (firstIn v))
+backValue bytes v = Value.Bytes (backSpan (firstIn v))
+backValue pair v = Value.Pair (backSpan (firstIn v)) (backSpan (secondIn v))
+
+back-value : (v : Value) → backValue (formOf v) (toldValue v) ≡ v
+unfolding backValue
+back-value (Value.U8 n) = refl
+back-value (Value.U16 n) = refl
+back-value (Value.U32 n) = refl
+back-value (Value.Number n) = refl
+back-value (Value.Text p) = ap Value.Text (back-span p)
+back-value (Value.Bytes p) = ap Value.Bytes (back-span p)
+back-value (Value.Pair p q) = simp back-span
+
+value-same : (v v′ : Value) → formOf v ≡ formOf v′ → toldValue v ≡ toldValue v′ → v ≡ v′
+value-same v v′ f t = sym (back-value v) ∙ ap (λ g. backValue g (toldValue v)) f ∙ ap (backValue (formOf v′)) t ∙ back-value v′
+
+-- what is told may be a u8 or a u16; the row of the place says which
+pub property-same : (row : Place) (s : List ℕ) (at : ℕ) (a b : GotProperty) → PropertyRead row s at a → PropertyRead row s at b → a ≡ b
+property-same row s at (GotProperty.Found k v n) (GotProperty.Found k′ v′ n′) r r′ =
+    let e = got-inj (r .says ∙ sym (r′ .says)) in
+    let i : k ≡ k′ = ap (λ z. z .0 .0) e in
+    let f : formOf v ≡ formOf v′ = let o : some (formOf v) ≡ some (formOf v′) = sym (r .typed) ∙ ap (lookup row) i ∙ r′ .typed in cc in
+    let t : v ≡ v′ = value-same v v′ f (ap (λ z. z .0 .1) e) in
+    let m : n ≡ n′ = ap (λ z. z .1) e in
+    rw (i, t, m)
+property-same row s at (GotProperty.Found k v n) (GotProperty.Refused e) r r′ = absurd (bad-got (r′ .says ∙ sym (r .says)))
+property-same row s at (GotProperty.Refused e) (GotProperty.Found k v n) r r′ = absurd (bad-got (r .says ∙ sym (r′ .says)))
+property-same row s at (GotProperty.Refused e) (GotProperty.Refused e′) r r′ =
+    let i : bad (toldError e) ≡ bad (toldError e′) = r .says ∙ sym (r′ .says) in
+    ap GotProperty.Refused (error-injective (let k : toldError e ≡ toldError e′ = cc in k))

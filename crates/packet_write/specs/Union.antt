@@ -1,0 +1,109 @@
+-- A packet handed over in the lent parts of every kind: what belongs to its kind, and that nothing else is handed over. Assumes nothing.
+use mathlib.Core.Path.{_≡_}
+use mathlib.Core.Option.{Option}
+use mathlib.Core.List.{List, [], _∷_, _++_}
+use Prim.Native.Nat.{ℕ}
+use lib.ListN.{length}
+use Rattle.grammar.specs.Choice.{isEmpty}
+use Rattle.reading.specs.Refusal.{nr}
+use Rattle.reading.specs.Reader.{Fit, got, _>>=_, _>>_, guard}
+use Rattle.writing.specs.Lists.{all}
+use Rattle.writing.specs.Handed.{Handed, publish, ack, subscribe, ping}
+use Rattle.writing.specs.Write.{sizeOf, writeOf, answerOf, leaves}
+use Rattle.puback_write.specs.Handed as puback
+use Rattle.subscribe_write.specs.Handed as subscribe-of
+use Rattle.publish_write.specs.Handed as publish-of
+use Rattle.packet_write.specs.declared.head.PacketHead.{PacketHead}
+
+-- 01, "What must change shape": each string as bytes, each list as one run of bytes and its lengths, of whatever kind
+pub record Parts : Type 0 where
+  pub topic : List ℕ
+  pub response : List ℕ
+  pub correlation : List ℕ
+  pub user : List ℕ
+  pub userLengths : List ℕ
+  pub subscriptions : List ℕ
+  pub content : List ℕ
+  pub payload : List ℕ
+  pub reason : List ℕ
+  pub filters : List ℕ
+  pub filterLengths : List ℕ
+  pub options : List ℕ
+
+-- the parts, in the order of the arguments
+abbrev pub parts : List ℕ → List ℕ → List ℕ → List ℕ → List ℕ → List ℕ → List ℕ → List ℕ → List ℕ → List ℕ → List ℕ → List ℕ → Parts
+parts topic response correlation user userLengths subscriptions content payload reason filters filterLengths options = record {
+  topic = topic;
+  response = response;
+  correlation = correlation;
+  user = user;
+  userLengths = userLengths;
+  subscriptions = subscriptions;
+  content = content;
+  payload = payload;
+  reason = reason;
+  filters = filters;
+  filterLengths = filterLengths;
+  options = options;
+}
+
+-- ---- whose parts they are
+
+-- 01, grammar, Publish, and its row of the table: the parts that no other kind has
+abbrev pub publishParts : Parts → List (List ℕ)
+publishParts p = p .topic ∷ p .response ∷ p .correlation ∷ p .subscriptions ∷ p .content ∷ p .payload ∷ []
+
+-- 01, table of properties, row PubAck
+abbrev pub ackParts : Parts → List (List ℕ)
+ackParts p = p .reason ∷ []
+
+-- 01, grammar, Subscribe: its filters
+abbrev pub subscribeParts : Parts → List (List ℕ)
+subscribeParts p = p .filters ∷ p .filterLengths ∷ p .options ∷ []
+
+-- 01, table of properties: the user properties, which each of the three rows has
+abbrev pub userParts : Parts → List (List ℕ)
+userParts p = p .user ∷ p .userLengths ∷ []
+
+-- what does not belong to the record
+abbrev pub foreign : PacketHead → Parts → List (List ℕ)
+foreign (PacketHead.Publish m) p = ackParts p ++ subscribeParts p
+foreign (PacketHead.PubAck m) p = publishParts p ++ subscribeParts p
+foreign (PacketHead.Subscribe m) p = publishParts p ++ ackParts p
+foreign PacketHead.PingReq p = publishParts p ++ (ackParts p ++ (subscribeParts p ++ userParts p))
+foreign PacketHead.PingResp p = publishParts p ++ (ackParts p ++ (subscribeParts p ++ userParts p))
+
+-- ---- what is handed over
+
+-- what belongs to the record, by its kind; 01, grammar: PubAck is 4, PingReq 12, PingResp 13
+abbrev pub own : PacketHead → Parts → Handed
+own (PacketHead.Publish m) p = publish (publish-of.handed m (p .topic) (p .response) (p .correlation) (p .user) (p .userLengths) (p .subscriptions) (p .content) (p .payload))
+own (PacketHead.PubAck m) p = ack 4 (puback.handed m (p .reason) (p .user) (p .userLengths))
+own (PacketHead.Subscribe m) p = subscribe (subscribe-of.handed m (p .user) (p .userLengths) (p .filters) (p .filterLengths) (p .options))
+own PacketHead.PingReq p = ping 12
+own PacketHead.PingResp p = ping 13
+
+-- 01, row 20: "anything is handed over for an absent value": first of all, nothing but what belongs to the record
+unfoldable pub unionOf : PacketHead → Parts → Fit Handed
+unionOf m p = do
+  guard (all isEmpty (foreign m p)) (nr 20 [])
+  got (own m p)
+
+-- ---- the answers
+
+-- 01: "Asked alone, size refuses only with 20, then 17 for R"
+unfoldable pub sizeOfUnion : Fit Handed → Fit ℕ
+sizeOfUnion f = f >>= sizeOf
+
+-- 01, writing order: what a write gives, into an output of `room` bytes
+unfoldable pub answerOfUnion : Option ℕ → ℕ → Fit Handed → Fit ℕ
+answerOfUnion limit room f = f >>= answerOf limit room
+
+-- 01: "A refused write leaves the output as it stood": the output afterwards
+unfoldable pub outOfUnion : Option ℕ → List ℕ → Fit Handed → List ℕ
+outOfUnion limit out f = leaves out (f >>= writeOf limit (length out))
+
+-- what the contract of the writer says: what its answer tells, and the output before and after
+pub record Wrote (limit : Option ℕ) (f : Fit Handed) (before after : List ℕ) (told : Fit ℕ) : Type 0 where
+  pub answer : told ≡ answerOfUnion limit (length before) f
+  pub output : after ≡ outOfUnion limit before f

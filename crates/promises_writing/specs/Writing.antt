@@ -1,0 +1,66 @@
+-- The contract that an answer of a writer meets, its refusals, and what the types of its arguments ensure. Assumes nothing.
+use mathlib.Core.Path.{_≡_}
+use mathlib.Core.Bool.{Bool, true, false}
+use mathlib.Core.List.{List, [], _∷_}
+use Prim.Native.Nat.{ℕ, _<_}
+use Rattle.reading.specs.Refusal.{Refusal, nr}
+use Rattle.reading.specs.Reader.{got, _>>_, guard}
+use Rattle.writing.specs.Lists.{Octets}
+use Rattle.writing.specs.Handed.{Handed}
+use Rattle.writing.specs.Meant.{Below}
+use Rattle.records.specs.Told.{limitOf}
+use Rattle.records.specs.Answered.{toldSized, toldWritten}
+use Rattle.records.specs.declared.answer.Limit.{Limit}
+use Rattle.records.specs.declared.answer.Sized.{Sized}
+use Rattle.records.specs.declared.answer.Written.{Written}
+use Rattle.publish_write.specs.Handed.{optU8, optU16, optU32}
+use Rattle.publish_write.specs.declared.head.PublishHead.{PublishHead}
+use Rattle.packet_write.specs.Union.{Parts, sizeOfUnion, Wrote}
+use Rattle.packet_write.specs.declared.head.PacketHead.{PacketHead}
+
+-- ---- the contract
+
+-- of the answer w and the output before and after, where h is handed over; `alone` says whether nothing is lent that does not belong to it
+abbrev pub Meets : Limit → Bool → Handed → List ℕ → List ℕ → Written → Type 0
+Meets limit alone h before after w = Wrote (limitOf limit) (guard alone (nr 20 []) >> got h) before after (toldWritten w)
+
+-- the same of the answer z of a `size`
+abbrev pub Counts : Bool → Handed → Sized → Type 0
+Counts alone h z = toldSized z ≡ sizeOfUnion (guard alone (nr 20 []) >> got h)
+
+-- 01, writing order: 20 for what does not belong to the record, else what P says
+pub data Refusing (P : Refusal → Type 0) : Bool → Refusal → Type 0 where
+  foreign : Refusing P false (nr 20 [])
+  own : {k : Refusal} → P k → Refusing P true k
+
+-- 01, writing order: "20; then 18, and 9 ..; with 14 then 11 ..; 17 ..; 16; 12; 17 ..; 13; 19": the refusals of a writer
+abbrev pub writerRows : List ℕ
+writerRows = 9 ∷ 11 ∷ 12 ∷ 13 ∷ 14 ∷ 16 ∷ 17 ∷ 18 ∷ 19 ∷ 20 ∷ []
+
+-- ---- what the types of the arguments ensure: u8, u16 and u32 are below their bounds; nothing of a usize
+
+-- of a Publish by value
+pub record PublishWidths (m : PublishHead) : Type 0 where
+  pub pkid : m .pkid < 65536
+  pub format : Below 256 (optU8 (m .«payload_format_indicator»))
+  pub expiry : Below 4294967296 (optU32 (m .«message_expiry_interval»))
+  pub alias : Below 65536 (optU16 (m .«topic_alias»))
+
+-- of a packet by value
+abbrev pub Widths : PacketHead → Type 0
+Widths (PacketHead.Publish m) = PublishWidths m
+Widths (PacketHead.PubAck m) = m .pkid < 65536
+Widths (PacketHead.Subscribe m) = m .pkid < 65536
+Widths PacketHead.PingReq = Unit {0}
+Widths PacketHead.PingResp = Unit {0}
+
+-- of the lent parts
+pub record Lent (p : Parts) : Type 0 where
+  pub topic : Octets (p .topic)
+  pub response : Octets (p .response)
+  pub correlation : Octets (p .correlation)
+  pub user : Octets (p .user)
+  pub content : Octets (p .content)
+  pub payload : Octets (p .payload)
+  pub reason : Octets (p .reason)
+  pub filters : Octets (p .filters)

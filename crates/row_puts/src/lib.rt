@@ -1,0 +1,179 @@
+// The bytes of a row, after `write` of the properties in publish.rs, subscribe.rs and puback.rs, and of filters: each function puts them
+// at an index of an output and gives how many they are. What would lie past the end is not stored.
+use numbers::fixed;
+use numbers::length::write_remaining_length;
+use records::span::MaybeU8;
+use records::span::MaybeU16;
+use records::span::MaybeU32;
+use rows::run;
+use wire::string::write_mqtt_bytes;
+ghost use mathlib.Core.Path.{_≡_};
+ghost use mathlib.Core.List.{_∷_, [], _++_};
+ghost use Prim.Native.Nat.{_+_, _^_, _≤_, _<_, min};
+ghost use lib.ListN.{length};
+ghost use lib.Seq.{sets};
+ghost use Rattle.grammar.specs.Tables.{Form, u8, u16, u32, number, pair};
+ghost use Rattle.writing.specs.Lists.{flat};
+ghost use Rattle.writing.specs.Handed.{several};
+ghost use Rattle.writing.specs.Spell.{short, string, rowBytes, filterBytes};
+ghost use Rattle.rows.specs.Given.{givenU8, givenU16, givenU32, givenLent, givenPairs, filtersOf};
+ghost use Rattle.row_puts.specs.Put.{Put};
+
+// An identifier byte; gives the place after it.
+fn put_id(out: &mut [u8], at: usize, id: u8) -> usize
+    ensures { λ r. ⌜ (now (out .exit) ≡ sets (now (out .entry)) at (id ∷ [])) × (r ≡ min (at + 1) (length (now (out .exit)))) ⌝ }
+{
+    fixed::put_u8(&mut *out, at, id);
+    run::after(out.len(), at, 1)
+}
+
+pub fn put_u8_if(out: &mut [u8], at: usize, id: u8, v: MaybeU8) -> usize
+    ensures { λ r. ⌜ Put (now (out .entry)) at (rowBytes (id, u8) (givenU8 v)) (now (out .exit)) r ⌝ }
+{
+    match v {
+        MaybeU8::Absent => 0,
+        MaybeU8::Present(n) => {
+            let next = put_id(&mut *out, at, id);
+            fixed::put_u8(&mut *out, next, n);
+            2
+        }
+    }
+}
+
+pub fn put_u16_if(out: &mut [u8], at: usize, id: u8, v: MaybeU16) -> usize
+    ensures { λ r. ⌜ Put (now (out .entry)) at (rowBytes (id, u16) (givenU16 v)) (now (out .exit)) r ⌝ }
+{
+    match v {
+        MaybeU16::Absent => 0,
+        MaybeU16::Present(n) => {
+            let next = put_id(&mut *out, at, id);
+            fixed::put_u16(&mut *out, next, n);
+            3
+        }
+    }
+}
+
+pub fn put_u32_if(out: &mut [u8], at: usize, id: u8, v: MaybeU32) -> usize
+    ensures { λ r. ⌜ Put (now (out .entry)) at (rowBytes (id, u32) (givenU32 v)) (now (out .exit)) r ⌝ }
+{
+    match v {
+        MaybeU32::Absent => 0,
+        MaybeU32::Present(n) => {
+            let next = put_id(&mut *out, at, id);
+            fixed::put_u32(&mut *out, next, n);
+            5
+        }
+    }
+}
+
+// An identifier byte, and the shortest spelling.
+fn put_number(out: &mut [u8], at: usize, id: u8, n: u32) -> usize
+    ensures { λ r. ⌜ Put (now (out .entry)) at (id ∷ short n) (now (out .exit)) r × (r ≤ 5) ⌝ }
+{
+    let next = put_id(&mut *out, at, id);
+    1 + write_remaining_length(&mut *out, next, n as usize)
+}
+
+pub fn put_number_if(out: &mut [u8], at: usize, id: u8, v: MaybeU32) -> usize
+    ensures { λ r. ⌜ Put (now (out .entry)) at (rowBytes (id, number) (givenU32 v)) (now (out .exit)) r ⌝ }
+{
+    match v {
+        MaybeU32::Absent => 0,
+        MaybeU32::Present(n) => put_number(&mut *out, at, id, n),
+    }
+}
+
+// Text or bytes.
+pub fn put_lent(out: &mut [u8], at: usize, id: u8, on: bool, s: &[u8]) -> usize
+    ensures { λ r. ⌜ ((f : Form) → Put (now (out .entry)) at (rowBytes (id, f) (givenLent on (now (s .entry)))) (now (out .exit)) r) ⌝ }
+{
+    if on {
+        let next = put_id(&mut *out, at, id);
+        write_mqtt_bytes(&mut *out, next, s);
+        return 3 + s.len();
+    }
+    0
+}
+
+fn put_pair(out: &mut [u8], at: usize, key: &[u8], value: &[u8]) -> usize
+    requires { ⌜ length (now key) + length (now value) + 5 < 2 ^ 64 ⌝ }
+    ensures { λ r. ⌜ Put (now (out .entry)) at (38 ∷ (string (now (key .entry)) ++ string (now (value .entry)))) (now (out .exit)) r ⌝ }
+{
+    let next = put_id(&mut *out, at, 38);
+    write_mqtt_bytes(&mut *out, next, key);
+    let last = run::after(out.len(), at, 3 + key.len());
+    write_mqtt_bytes(&mut *out, last, value);
+    5 + key.len() + value.len()
+}
+
+// User properties one after the other: the strings that the lengths cut the run into, two by two.
+pub fn put_pairs(out: &mut [u8], at: usize, bytes: &[u8], lengths: &[usize]) -> usize
+    ensures { λ r. ⌜ Put (now (out .entry)) at (rowBytes (38, pair) (givenPairs (now (bytes .entry)) (now (lengths .entry)))) (now (out .exit)) r ⌝ }
+{
+    let mut n: usize = 0;
+    let mut from: usize = 0;
+    let mut i: usize = 0;
+    while i + 1 < lengths.len() {
+        let k = lengths[i];
+        let v = lengths[i + 1];
+        let mid = run::after(bytes.len(), from, k);
+        let to = run::after(out.len(), at, n);
+        n = n
+            + put_pair(
+                &mut *out,
+                to,
+                run::piece(bytes, from, k),
+                run::piece(bytes, mid, v),
+            );
+        from = run::after(bytes.len(), mid, v);
+        i = i + 2;
+    }
+    n
+}
+
+// Subscription identifiers one after the other.
+pub fn put_ids(out: &mut [u8], at: usize, ids: &[u32]) -> usize
+    ensures { λ r. ⌜ Put (now (out .entry)) at (rowBytes (11, number) (several (now (ids .entry)))) (now (out .exit)) r ⌝ }
+{
+    let mut n: usize = 0;
+    let mut i: usize = 0;
+    while i < ids.len() {
+        let to = run::after(out.len(), at, n);
+        n = n + put_number(&mut *out, to, 11, ids[i]);
+        i = i + 1;
+    }
+    n
+}
+
+fn put_filter(out: &mut [u8], at: usize, s: &[u8], options: u8) -> usize
+    ensures { λ r. ⌜ Put (now (out .entry)) at (filterBytes (now (s .entry), options)) (now (out .exit)) r ⌝ }
+{
+    write_mqtt_bytes(&mut *out, at, s);
+    let next = run::after(out.len(), at, 2 + s.len());
+    fixed::put_u8(&mut *out, next, options % 64);
+    3 + s.len()
+}
+
+// Filters one after the other, as far as there are both lengths and options.
+pub fn put_filters(
+    out: &mut [u8],
+    at: usize,
+    bytes: &[u8],
+    lengths: &[usize],
+    options: &[u8],
+) -> usize
+    ensures { λ r. ⌜ Put (now (out .entry)) at (flat filterBytes (filtersOf (now (bytes .entry)) (now (lengths .entry)) (now (options .entry)))) (now (out .exit)) r ⌝ }
+{
+    let count = run::after(options.len(), 0, lengths.len());
+    let mut n: usize = 0;
+    let mut from: usize = 0;
+    let mut i: usize = 0;
+    while i < count {
+        let k = lengths[i];
+        let to = run::after(out.len(), at, n);
+        n = n + put_filter(&mut *out, to, run::piece(bytes, from, k), options[i]);
+        from = run::after(bytes.len(), from, k);
+        i = i + 1;
+    }
+    n
+}
