@@ -3,6 +3,7 @@
 mod hand;
 mod show;
 
+use numbers::length::write_remaining_length;
 use records::answer::Limit;
 use records::puback::PubAckReason;
 use records::qos::QoS;

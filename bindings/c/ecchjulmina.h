@@ -1,0 +1,230 @@
+/* Ecchjulmina for C: MQTT 5 packets read and written by proved code (crates/capi). x86-64; link with libcapi.a (`rt staticlib capi`).
+ *
+ * Every function ends, allocates nothing, keeps nothing, and calls nothing but its own code. What each gives for every input is proved
+ * (docs/PROMISES.md); that a C caller hands over what the declarations below say is assumed:
+ * - a pointer with a length stands for that many elements that can be read, and for `out`, `record`, `item`, `answer` and `name` also be
+ *   written; it is aligned and never NULL, not even with length 0 (ECCH_NOTHING serves there);
+ * - what is written overlaps nothing else that is handed over, and no other thread writes what is handed over while the call lasts.
+ *
+ * Numbers of refusals are those of 01, 1 to 21 (enum ecch_refusal); 0 is success. A flag that is handed over is false if it is 0, else
+ * true; one that is handed back is 0 or 1.
+ *
+ * Arrays that are filled: every number of the layout is set in every answer, 0 where it does not apply. Of a shorter array what fits is
+ * set, from index 0 on; of a longer one the rest stays.
+ */
+#ifndef ECCHJULMINA_H
+#define ECCHJULMINA_H
+
+#include <stddef.h>
+#include <stdint.h>
+
+#ifdef __cplusplus
+extern "C" {
+#endif
+
+/* The number of a refusal, and how many values it has. */
+enum ecch_refusal {
+    ECCH_OK = 0,
+    ECCH_INSUFFICIENT_BYTES = 1,          /* value 1: how many bytes are lacking at least */
+    ECCH_MALFORMED_REMAINING_LENGTH = 2,
+    ECCH_PAYLOAD_SIZE_LIMIT_EXCEEDED = 3, /* value 1: R; value 2: the limit */
+    ECCH_INVALID_PACKET_TYPE = 4,         /* value 1: the kind */
+    ECCH_PAYLOAD_REQUIRED = 5,
+    ECCH_KIND_NOT_CARRIED = 6,            /* value 1: the kind */
+    ECCH_MALFORMED_PACKET = 7,
+    ECCH_BOUNDARY_CROSSED = 8,            /* value 1: the length */
+    ECCH_TOPIC_NOT_UTF8 = 9,
+    ECCH_INVALID_PROPERTY_TYPE = 10,      /* value 1: the identifier */
+    ECCH_INVALID_QOS = 11,                /* value 1: the QoS */
+    ECCH_PACKET_ID_ZERO = 12,
+    ECCH_EMPTY_SUBSCRIPTION = 13,
+    ECCH_INVALID_RETAIN_FORWARD_RULE = 14, /* value 1: the rule */
+    ECCH_INVALID_REASON = 15,             /* value 1: the reason */
+    ECCH_OUTGOING_PACKET_TOO_LARGE = 16,  /* value 1: the size; value 2: the limit */
+    ECCH_PAYLOAD_TOO_LONG = 17,
+    ECCH_STRING_TOO_LONG = 18,            /* value 1: the length */
+    ECCH_NO_ROOM = 19,                    /* value 1: the size */
+    ECCH_LIST_MISMATCH = 20,
+    ECCH_NO_ITEM = 21
+};
+
+/* The kind of a packet that was read. */
+enum ecch_kind { ECCH_PUBLISH = 3, ECCH_PUBACK = 4, ECCH_SUBSCRIBE = 8, ECCH_PINGREQ = 12, ECCH_PINGRESP = 13 };
+
+/* `answer`, and the first numbers of `record`. */
+enum ecch_answer_layout {
+    ECCH_SIZE = 0,    /* size and write: the size; 0 if refused */
+    ECCH_VALUE_1 = 1, /* the refusal's values; 0 where it has none */
+    ECCH_VALUE_2 = 2,
+    ECCH_ANSWER_LEN = 3
+};
+
+/* `record`. A place is a start and a length in the stream. A property that may be absent has 1 before its value if it is present; if it
+ * is absent there are zeros. */
+enum ecch_record_layout {
+    ECCH_TAKEN = 0, /* bytes of the stream used up, by a packet or by a refusal */
+    /* 1 and 2: the values of a refusal, as above */
+    ECCH_KIND = 3, /* enum ecch_kind; 0 if refused: then all that follows is 0 */
+    ECCH_PKID = 4, /* Publish (0 at QoS 0), PubAck, Subscribe */
+    ECCH_DUP = 5,  /* Publish */
+    ECCH_QOS = 6,
+    ECCH_RETAIN = 7,
+    ECCH_REASON = 8, /* PubAck */
+    ECCH_TOPIC_START = 9, /* Publish */
+    ECCH_TOPIC_LEN = 10,
+    ECCH_PAYLOAD_START = 11,
+    ECCH_PAYLOAD_LEN = 12,
+    ECCH_FILTERS_START = 13, /* Subscribe: where the filters stand (ecch_filter) */
+    ECCH_FILTERS_LEN = 14,
+    ECCH_BLOCK = 15, /* 1 if there are properties, and where they stand (ecch_user_property, ecch_subscription_identifier) */
+    ECCH_BLOCK_START = 16,
+    ECCH_BLOCK_LEN = 17,
+    ECCH_FORMAT = 18, /* Publish: payload format indicator */
+    ECCH_FORMAT_VALUE = 19,
+    ECCH_EXPIRY = 20, /* Publish: message expiry interval */
+    ECCH_EXPIRY_VALUE = 21,
+    ECCH_ALIAS = 22, /* Publish: topic alias */
+    ECCH_ALIAS_VALUE = 23,
+    ECCH_RESPONSE = 24, /* Publish: response topic */
+    ECCH_RESPONSE_START = 25,
+    ECCH_RESPONSE_LEN = 26,
+    ECCH_CORRELATION = 27, /* Publish: correlation data */
+    ECCH_CORRELATION_START = 28,
+    ECCH_CORRELATION_LEN = 29,
+    ECCH_CONTENT = 30, /* Publish: content type */
+    ECCH_CONTENT_START = 31,
+    ECCH_CONTENT_LEN = 32,
+    ECCH_REASON_STRING = 33, /* PubAck: reason string */
+    ECCH_REASON_STRING_START = 34,
+    ECCH_REASON_STRING_LEN = 35,
+    ECCH_SUBSCRIPTION = 36, /* Subscribe: subscription identifier; those of a Publish are items */
+    ECCH_SUBSCRIPTION_VALUE = 37,
+    ECCH_RECORD_LEN = 38
+};
+
+/* `item` of ecch_user_property: the places of key and value. */
+enum ecch_user_layout { ECCH_KEY_START = 0, ECCH_KEY_LEN = 1, ECCH_ITEM_VALUE_START = 2, ECCH_ITEM_VALUE_LEN = 3, ECCH_USER_LEN = 4 };
+
+/* `item` of ecch_subscription_identifier. */
+enum ecch_identifier_layout { ECCH_NUMBER = 0, ECCH_IDENTIFIER_LEN = 1 };
+
+/* `item` of ecch_filter: the place of the text, and the options. */
+enum ecch_filter_layout {
+    ECCH_PATH_START = 0,
+    ECCH_PATH_LEN = 1,
+    ECCH_FILTER_QOS = 2,
+    ECCH_NO_LOCAL = 3,
+    ECCH_PRESERVE_RETAIN = 4,
+    ECCH_FORWARD_RULE = 5,
+    ECCH_FILTER_LEN = 6
+};
+
+/* ---- reading. A stream is only read. */
+
+/* The packet at the start of the stream: 0, or the refusal's number (1 to 15). If `limited` is not 0, R may be `limit` at most, and 0 is
+ * a limit. */
+uint32_t ecch_read(const uint8_t *stream, size_t stream_len, uint8_t limited, size_t limit, uint64_t *record, size_t record_len);
+
+/* How many bytes of a place lie in the stream: `len` if all of it does, else 0. The part is then stream + start. */
+size_t ecch_part(const uint8_t *stream, size_t stream_len, size_t start, size_t len);
+
+/* The n-th item, n from 0, of the list at a place of the stream: 0, or 21 if there is none, or if the place is no well-formed block of
+ * the kind (run of filters). `kind` is 3, 4 or 8; any other is 21. */
+uint32_t ecch_user_property(const uint8_t *stream, size_t stream_len, uint8_t kind, size_t start, size_t len, size_t n, uint64_t *item, size_t item_len);
+uint32_t ecch_subscription_identifier(const uint8_t *stream, size_t stream_len, size_t start, size_t len, size_t n, uint64_t *item, size_t item_len);
+uint32_t ecch_filter(const uint8_t *stream, size_t stream_len, size_t start, size_t len, size_t n, uint64_t *item, size_t item_len);
+
+/* The name of a refusal, as in 01's table: how many bytes it has (24 at most), 0 for a number that is none of 1 to 21. Its bytes are set
+ * from index 0 on, what fits of them; no 0 follows them. */
+size_t ecch_name(uint32_t number, uint8_t *name, size_t name_len);
+
+/* ---- size and write: 0, or the refusal's number. `answer` has the size, or the refusal's values. A refused write leaves `out` as it
+ * stood; an accepted one sets the first `size` bytes of it and keeps the rest. If `limited` is not 0, the size may be `limit` at most.
+ *
+ * `.._on` says whether the value behind it is present; `block` whether there is a property set at all. A value that is off is not looked
+ * at, but bytes for one that is off, and anything for a set that is absent, are refusal 20. User properties are one run of bytes, and the
+ * lengths of key, value, key, value and so on; filters are one run of bytes, their lengths, and an options byte each (bits 0-1 QoS, 2
+ * no-local, 3 preserve-retain, 4-5 forward rule). A QoS above 2 is refused with 11, a reason that is none of the nine with 15, before all
+ * else. */
+
+uint32_t ecch_publish_size(
+    uint8_t dup, uint8_t qos, uint8_t retain, uint16_t pkid,
+    const uint8_t *topic, size_t topic_len,
+    uint8_t block,
+    uint8_t format_on, uint8_t format,
+    uint8_t expiry_on, uint32_t expiry,
+    uint8_t alias_on, uint16_t alias,
+    uint8_t response_on, const uint8_t *response, size_t response_len,
+    uint8_t correlation_on, const uint8_t *correlation, size_t correlation_len,
+    const uint8_t *user, size_t user_len, const size_t *user_lengths, size_t user_lengths_len,
+    const uint32_t *identifiers, size_t identifiers_len,
+    uint8_t content_on, const uint8_t *content, size_t content_len,
+    const uint8_t *payload, size_t payload_len,
+    uint64_t *answer, size_t answer_len);
+
+uint32_t ecch_publish_write(
+    uint8_t dup, uint8_t qos, uint8_t retain, uint16_t pkid,
+    const uint8_t *topic, size_t topic_len,
+    uint8_t block,
+    uint8_t format_on, uint8_t format,
+    uint8_t expiry_on, uint32_t expiry,
+    uint8_t alias_on, uint16_t alias,
+    uint8_t response_on, const uint8_t *response, size_t response_len,
+    uint8_t correlation_on, const uint8_t *correlation, size_t correlation_len,
+    const uint8_t *user, size_t user_len, const size_t *user_lengths, size_t user_lengths_len,
+    const uint32_t *identifiers, size_t identifiers_len,
+    uint8_t content_on, const uint8_t *content, size_t content_len,
+    const uint8_t *payload, size_t payload_len,
+    uint8_t limited, size_t limit,
+    uint8_t *out, size_t out_len,
+    uint64_t *answer, size_t answer_len);
+
+uint32_t ecch_subscribe_size(
+    uint16_t pkid,
+    uint8_t block,
+    uint8_t identifier_on, uint32_t identifier,
+    const uint8_t *user, size_t user_len, const size_t *user_lengths, size_t user_lengths_len,
+    const uint8_t *filters, size_t filters_len, const size_t *filter_lengths, size_t filter_lengths_len,
+    const uint8_t *options, size_t options_len,
+    uint64_t *answer, size_t answer_len);
+
+uint32_t ecch_subscribe_write(
+    uint16_t pkid,
+    uint8_t block,
+    uint8_t identifier_on, uint32_t identifier,
+    const uint8_t *user, size_t user_len, const size_t *user_lengths, size_t user_lengths_len,
+    const uint8_t *filters, size_t filters_len, const size_t *filter_lengths, size_t filter_lengths_len,
+    const uint8_t *options, size_t options_len,
+    uint8_t limited, size_t limit,
+    uint8_t *out, size_t out_len,
+    uint64_t *answer, size_t answer_len);
+
+uint32_t ecch_puback_size(
+    uint16_t pkid, uint8_t reason,
+    uint8_t block,
+    uint8_t reason_string_on, const uint8_t *reason_string, size_t reason_string_len,
+    const uint8_t *user, size_t user_len, const size_t *user_lengths, size_t user_lengths_len,
+    uint64_t *answer, size_t answer_len);
+
+uint32_t ecch_puback_write(
+    uint16_t pkid, uint8_t reason,
+    uint8_t block,
+    uint8_t reason_string_on, const uint8_t *reason_string, size_t reason_string_len,
+    const uint8_t *user, size_t user_len, const size_t *user_lengths, size_t user_lengths_len,
+    uint8_t limited, size_t limit,
+    uint8_t *out, size_t out_len,
+    uint64_t *answer, size_t answer_len);
+
+/* Of either ping. */
+uint32_t ecch_ping_size(uint64_t *answer, size_t answer_len);
+uint32_t ecch_pingreq_write(uint8_t limited, size_t limit, uint8_t *out, size_t out_len, uint64_t *answer, size_t answer_len);
+uint32_t ecch_pingresp_write(uint8_t limited, size_t limit, uint8_t *out, size_t out_len, uint64_t *answer, size_t answer_len);
+
+/* A pointer for what has length 0: aligned, and not NULL. */
+#define ECCH_NOTHING ((void *)sizeof(size_t))
+
+#ifdef __cplusplus
+}
+#endif
+
+#endif

@@ -1,0 +1,58 @@
+// PingReq and PingResp: their size, and written.
+use crate::given::bound;
+use layout::answer;
+use layout::store::store;
+ghost use mathlib.Core.Path.{_≡_};
+ghost use lib.ListN.{length};
+ghost use lib.Seq.{sets};
+ghost use Prim.Native.Nat.{ℕ};
+ghost use Rattle.writing.specs.Handed.{ping};
+ghost use Rattle.writing.specs.Write.{sizeOf, answerOf, outOf};
+ghost use Rattle.layout.specs.Record.{limitGiven};
+ghost use Rattle.layout.specs.Item.{fitNumber};
+ghost use Rattle.layout.specs.Answer.{answerNumbers};
+
+// Of either ping.
+#[no_mangle]
+pub extern "C" fn ecch_ping_size(answer: &mut [u64]) -> u32
+    ensures { λ r. ⌜ ((k : ℕ) → (r ≡ fitNumber (sizeOf (ping k))) × (now (answer .exit) ≡ sets (now (answer .entry)) 0 (answerNumbers (sizeOf (ping k))))) ⌝ }
+{
+    let written = answer::as_written(ping::ping_size());
+    let numbers = answer::written_numbers(written);
+    store(&mut *answer, &numbers);
+    answer::written_number(written)
+}
+
+#[no_mangle]
+pub extern "C" fn ecch_pingreq_write(
+    limited: u8,
+    limit: usize,
+    out: &mut [u8],
+    answer: &mut [u64],
+) -> u32
+    ensures number { λ r. ⌜ r ≡ fitNumber (answerOf (limitGiven limited limit) (length (now (out .entry))) (ping 12)) ⌝ }
+    ensures output { λ r. ⌜ now (out .exit) ≡ outOf (limitGiven limited limit) (now (out .entry)) (ping 12) ⌝ }
+    ensures stored { λ r. ⌜ now (answer .exit) ≡ sets (now (answer .entry)) 0 (answerNumbers (answerOf (limitGiven limited limit) (length (now (out .entry))) (ping 12))) ⌝ }
+{
+    let written = ping::write_ping_req(&mut *out, bound(limited, limit));
+    let numbers = answer::written_numbers(written);
+    store(&mut *answer, &numbers);
+    answer::written_number(written)
+}
+
+#[no_mangle]
+pub extern "C" fn ecch_pingresp_write(
+    limited: u8,
+    limit: usize,
+    out: &mut [u8],
+    answer: &mut [u64],
+) -> u32
+    ensures number { λ r. ⌜ r ≡ fitNumber (answerOf (limitGiven limited limit) (length (now (out .entry))) (ping 13)) ⌝ }
+    ensures output { λ r. ⌜ now (out .exit) ≡ outOf (limitGiven limited limit) (now (out .entry)) (ping 13) ⌝ }
+    ensures stored { λ r. ⌜ now (answer .exit) ≡ sets (now (answer .entry)) 0 (answerNumbers (answerOf (limitGiven limited limit) (length (now (out .entry))) (ping 13))) ⌝ }
+{
+    let written = ping::write_ping_resp(&mut *out, bound(limited, limit));
+    let numbers = answer::written_numbers(written);
+    store(&mut *answer, &numbers);
+    answer::written_number(written)
+}

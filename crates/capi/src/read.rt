@@ -1,0 +1,31 @@
+// The packet at the start of a stream, and the part at a place.
+use crate::given::bound;
+use layout::record;
+use layout::store::store;
+use records::span::Span;
+use wire::string;
+ghost use mathlib.Core.Path.{_≡_};
+ghost use lib.ListN.{length};
+ghost use lib.Seq.{sets};
+ghost use Rattle.reading.specs.Place.{readPlacedOf, heldOf};
+ghost use Rattle.layout.specs.Record.{limitGiven, numberOf, encoded};
+
+// 0, or the refusal's number; every number of the layout is stored.
+#[no_mangle]
+pub extern "C" fn ecch_read(stream: &[u8], limited: u8, limit: usize, into: &mut [u64]) -> u32
+    ensures number { λ r. ⌜ r ≡ numberOf (readPlacedOf (limitGiven limited limit) (now (stream .entry))) ⌝ }
+    ensures stored { λ r. ⌜ now (into .exit) ≡ sets (now (into .entry)) 0 (encoded (readPlacedOf (limitGiven limited limit) (now (stream .entry)))) ⌝ }
+{
+    let read = packet::read(stream, bound(limited, limit));
+    let numbers = record::read_numbers(read);
+    store(&mut *into, &numbers);
+    record::read_number(read)
+}
+
+// How many bytes of the place lie within the stream: all or none.
+#[no_mangle]
+pub extern "C" fn ecch_part(stream: &[u8], start: usize, len: usize) -> usize
+    ensures { λ r. ⌜ r ≡ length (heldOf (now (stream .entry)) (record { start = start; len = len })) ⌝ }
+{
+    string::part(stream, Span { start, len }).len()
+}

@@ -1,0 +1,45 @@
+-- `layout::record::puback_block` is right since each name has what the definition has. Assumes nothing.
+use borrow.Author.Needs.{needs}
+use Rattle.layout.proofs.record.puback_block.Statement.{statement}
+use Rattle.layout.proofs.record.puback_block.Tie as tie
+
+enum-told : tie.Need-enum-told
+enum-told c = search needs
+
+no-block-requires : tie.Need-no-block-requires
+no-block-requires c κs = search needs
+
+enum-known-m : tie.Need-enum-known-m
+enum-known-m c = search needs
+
+place-text-requires : tie.Need-place-text-requires
+place-text-requires c κs = search needs
+
+span-text-requires : tie.Need-span-text-requires
+span-text-requires c κs = search needs
+
+no-text-requires : tie.Need-no-text-requires
+no-text-requires c κs = search needs
+
+no-number-requires : tie.Need-no-number-requires
+no-number-requires c κs = search needs
+
+returns : tie.Need-returns
+returns c = search needs
+
+returns-2 : tie.Need-returns-2
+returns-2 c = rw (c .before .before .before .before .before .m .given .1, c .before .before .before .place-text .ensures, c .before .before .span-text .ensures, c .before .no-text .ensures, c .no-number .ensures)
+
+pub puback-block-spec : {M : Type 1} → statement M
+puback-block-spec =
+    tie.close
+    (tie.spec
+    enum-told
+    no-block-requires
+    enum-known-m
+    place-text-requires
+    span-text-requires
+    no-text-requires
+    no-number-requires
+    returns
+    returns-2)

@@ -1,0 +1,5 @@
+pub mod Layout
+pub mod Record
+pub mod Item
+pub mod Name
+pub mod Answer

@@ -1,0 +1,75 @@
+// What is returned and stored of an item.
+use crate::record::flag;
+use records::answer::FilterItem;
+use records::answer::IdentifierItem;
+use records::answer::UserItem;
+use records::qos::qos_number;
+use records::subscribe::rule_number;
+ghost use mathlib.Core.Path.{_≡_};
+ghost use Rattle.records.specs.Answered.{toldUser, toldIdentifier, toldFilterItem};
+ghost use Rattle.layout.specs.Item.{fitNumber, userNumbers, identifierNumbers, filterNumbers};
+
+pub fn user_number(item: UserItem) -> u32
+    ensures { λ r. ⌜ r ≡ fitNumber (toldUser item) ⌝ }
+{
+    match item {
+        UserItem::Pair(_, _) => 0,
+        UserItem::NoItem => 21,
+    }
+}
+
+pub fn user_numbers(item: UserItem) -> [u64; 4]
+    ensures { λ r. ⌜ r ≡ userNumbers (toldUser item) ⌝ }
+{
+    match item {
+        UserItem::Pair(k, v) => [k.start as u64, k.len as u64, v.start as u64, v.len as u64],
+        UserItem::NoItem => [0, 0, 0, 0],
+    }
+}
+
+pub fn identifier_number(item: IdentifierItem) -> u32
+    ensures { λ r. ⌜ r ≡ fitNumber (toldIdentifier item) ⌝ }
+{
+    match item {
+        IdentifierItem::Number(_) => 0,
+        IdentifierItem::NoItem => 21,
+    }
+}
+
+pub fn identifier_numbers(item: IdentifierItem) -> [u64; 1]
+    ensures { λ r. ⌜ r ≡ identifierNumbers (toldIdentifier item) ⌝ }
+{
+    match item {
+        IdentifierItem::Number(n) => [n as u64],
+        IdentifierItem::NoItem => [0],
+    }
+}
+
+pub fn filter_number(item: FilterItem) -> u32
+    ensures { λ r. ⌜ r ≡ fitNumber (toldFilterItem item) ⌝ }
+{
+    match item {
+        FilterItem::Filter(_) => 0,
+        FilterItem::NoItem => 21,
+    }
+}
+
+pub fn filter_numbers(item: FilterItem) -> [u64; 6]
+    ensures { λ r. ⌜ r ≡ filterNumbers (toldFilterItem item) ⌝ }
+{
+    match item {
+        FilterItem::Filter(f) => {
+            let qos = f.qos;
+            let rule = f.retain_forward_rule;
+            [
+                f.path.start as u64,
+                f.path.len as u64,
+                qos_number(qos) as u64,
+                flag(f.nolocal),
+                flag(f.preserve_retain),
+                rule_number(rule) as u64,
+            ]
+        }
+        FilterItem::NoItem => [0, 0, 0, 0, 0, 0],
+    }
+}
