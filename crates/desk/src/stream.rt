@@ -9,6 +9,11 @@ use records::error::Error;
 use records::packet::Packet;
 use records::span::Span;
 use wire::string;
+ghost use mathlib.Core.Path.{_≡_};
+ghost use Prim.Native.Nat.{_+_, _≤_};
+ghost use lib.ListN.{length};
+ghost use Rattle.records.specs.Told.{toldSpan};
+ghost use Rattle.desk.specs.Held.{fronted, Kept};
 
 // There is more to read.
 const GOING: u8 = 0;
@@ -89,7 +94,9 @@ fn refused(out: &mut [u8], tally: &mut [u64], d: Desk, e: Error, taken: usize) -
 }
 
 // The bytes from `start` on, `len` of them, to the front.
-fn to_front(buf: &mut [u8], start: usize, len: usize) {
+fn to_front(buf: &mut [u8], start: usize, len: usize)
+    ensures { λ r. ⌜ (start + len ≤ length (now (buf .entry)) → now (buf .exit) ≡ fronted (now (buf .entry)) start len) ⌝ }
+{
     if buf.len() < start {
         return;
     }
@@ -104,7 +111,9 @@ fn to_front(buf: &mut [u8], start: usize, len: usize) {
 }
 
 // What is held, with room behind it if it is shorter than the buffer.
-fn with_room(buf: &mut [u8], held: Span) -> Span {
+fn with_room(buf: &mut [u8], held: Span) -> Span
+    ensures { λ r. ⌜ Kept (now (buf .entry)) (toldSpan held) (now (buf .exit)) (toldSpan r) ⌝ }
+{
     let start = held.start;
     let len = held.len;
     if len == 0 {
