@@ -1,0 +1,59 @@
+// One field of a line: a space, its name, `=` and its value. The name is lent with the space and the `=`.
+use crate::output;
+use records::span::MaybeSpan;
+use records::span::MaybeU8;
+use records::span::MaybeU16;
+use records::span::MaybeU32;
+use wire::string;
+
+pub fn number(out: &mut [u8], at: usize, name: &[u8], n: u64) -> usize {
+    let value = output::word(&mut *out, at, name);
+    output::decimal(&mut *out, value, n)
+}
+
+pub fn bytes(out: &mut [u8], at: usize, name: &[u8], s: &[u8]) -> usize {
+    let value = output::word(&mut *out, at, name);
+    output::quoted(&mut *out, value, s)
+}
+
+pub fn flag(out: &mut [u8], at: usize, name: &[u8], on: bool) -> usize {
+    if on {
+        return number(&mut *out, at, name, 1);
+    }
+    number(&mut *out, at, name, 0)
+}
+
+pub fn hex(out: &mut [u8], at: usize, name: &[u8], b: u8) -> usize {
+    let value = output::word(&mut *out, at, name);
+    output::hex(&mut *out, value, b)
+}
+
+// The fields that may be absent, and are then no field.
+pub fn u8_if(out: &mut [u8], at: usize, name: &[u8], n: MaybeU8) -> usize {
+    match n {
+        MaybeU8::Absent => at,
+        MaybeU8::Present(x) => number(&mut *out, at, name, x as u64),
+    }
+}
+
+pub fn u16_if(out: &mut [u8], at: usize, name: &[u8], n: MaybeU16) -> usize {
+    match n {
+        MaybeU16::Absent => at,
+        MaybeU16::Present(x) => number(&mut *out, at, name, x as u64),
+    }
+}
+
+pub fn u32_if(out: &mut [u8], at: usize, name: &[u8], n: MaybeU32) -> usize {
+    match n {
+        MaybeU32::Absent => at,
+        MaybeU32::Present(x) => number(&mut *out, at, name, x as u64),
+    }
+}
+
+// The part of s at a place.
+pub fn part_if(out: &mut [u8], at: usize, name: &[u8], s: &[u8], place: MaybeSpan) -> usize {
+    match place {
+        MaybeSpan::Absent => at,
+        MaybeSpan::Present(p) => bytes(&mut *out, at, name, string::part(s, p)),
+    }
+}

@@ -1,0 +1,192 @@
+// The line of a frame that starts at `offset` of the stream and takes `taken` bytes of it, put into the output from place `at` on.
+use crate::field;
+use crate::list;
+use crate::output;
+use publish;
+use records::error;
+use records::error::Error;
+use records::packet::Packet;
+use records::puback::MaybePubAckProperties;
+use records::puback::PubAck;
+use records::puback::reason_code;
+use records::publish::MaybePublishProperties;
+use records::publish::Publish;
+use records::publish::PublishProperties;
+use records::qos;
+use records::shown::Values;
+use records::span::Span;
+use records::subscribe::MaybeSubscribeProperties;
+use records::subscribe::Subscribe;
+use wire::property::PropertyPlace;
+use wire::string;
+
+// The offset, the kind and the count: `kind` is lent with the words around it.
+fn head(out: &mut [u8], at: usize, offset: u64, kind: &[u8], taken: usize) -> usize {
+    let a = output::decimal(&mut *out, at, offset);
+    field::number(&mut *out, a, kind, taken as u64)
+}
+
+// The identifier, which a Publish has at QoS 1 and 2.
+fn identifier(out: &mut [u8], at: usize, q: u64, pkid: u16) -> usize {
+    if q == 0 {
+        return at;
+    }
+    field::number(&mut *out, at, b" id=", pkid as u64)
+}
+
+fn wide(b: u8) -> u64 {
+    b as u64
+}
+
+fn publish_flags(out: &mut [u8], at: usize, s: &[u8], m: Publish) -> usize {
+    let qos = m.qos;
+    let q = wide(qos::qos_number(qos));
+    let a = field::flag(&mut *out, at, b" dup=", m.dup);
+    let b = field::number(&mut *out, a, b" qos=", q);
+    let c = field::flag(&mut *out, b, b" retain=", m.retain);
+    let d = field::bytes(&mut *out, c, b" topic=", publish::topic(s, m));
+    identifier(&mut *out, d, q, m.pkid)
+}
+
+fn publish_singles(out: &mut [u8], at: usize, s: &[u8], p: PublishProperties) -> usize {
+    let format = p.payload_format_indicator;
+    let expiry = p.message_expiry_interval;
+    let alias = p.topic_alias;
+    let response = p.response_topic;
+    let correlation = p.correlation_data;
+    let a = field::u8_if(&mut *out, at, b" payload-format=", format);
+    let b = field::u32_if(&mut *out, a, b" message-expiry=", expiry);
+    let c = field::u16_if(&mut *out, b, b" topic-alias=", alias);
+    let d = field::part_if(&mut *out, c, b" response-topic=", s, response);
+    field::part_if(&mut *out, d, b" correlation-data=", s, correlation)
+}
+
+fn publish_properties(out: &mut [u8], at: usize, s: &[u8], p: PublishProperties) -> usize {
+    let block = p.block;
+    let content = p.content_type;
+    let a = publish_singles(&mut *out, at, s, p);
+    let b = list::users(&mut *out, a, PropertyPlace::Publish, s, block);
+    let c = list::identifiers(&mut *out, b, s, block);
+    field::part_if(&mut *out, c, b" content-type=", s, content)
+}
+
+fn publish_block(out: &mut [u8], at: usize, s: &[u8], properties: MaybePublishProperties) -> usize {
+    match properties {
+        MaybePublishProperties::Absent => at,
+        MaybePublishProperties::Present(p) => publish_properties(&mut *out, at, s, p),
+    }
+}
+
+fn publish_of(out: &mut [u8], at: usize, s: &[u8], m: Publish) -> usize {
+    let properties = m.properties;
+    let a = publish_flags(&mut *out, at, s, m);
+    let b = publish_block(&mut *out, a, s, properties);
+    field::bytes(&mut *out, b, b" payload=", publish::payload(s, m))
+}
+
+fn subscribe_block(
+    out: &mut [u8],
+    at: usize,
+    s: &[u8],
+    properties: MaybeSubscribeProperties,
+) -> usize {
+    match properties {
+        MaybeSubscribeProperties::Absent => at,
+        MaybeSubscribeProperties::Present(p) => {
+            let id = p.id;
+            let block = p.block;
+            let a = field::u32_if(&mut *out, at, b" subscription-id=", id);
+            list::users(&mut *out, a, PropertyPlace::Subscribe, s, block)
+        }
+    }
+}
+
+fn subscribe_of(out: &mut [u8], at: usize, s: &[u8], m: Subscribe) -> usize {
+    let properties = m.properties;
+    let filters = m.filters;
+    let a = field::number(&mut *out, at, b" id=", m.pkid as u64);
+    let b = subscribe_block(&mut *out, a, s, properties);
+    list::filters(&mut *out, b, s, filters)
+}
+
+fn puback_block(out: &mut [u8], at: usize, s: &[u8], properties: MaybePubAckProperties) -> usize {
+    match properties {
+        MaybePubAckProperties::Absent => at,
+        MaybePubAckProperties::Present(p) => {
+            let text = p.reason_string;
+            let block = p.block;
+            let a = field::part_if(&mut *out, at, b" reason-string=", s, text);
+            list::users(&mut *out, a, PropertyPlace::PubAck, s, block)
+        }
+    }
+}
+
+fn puback_of(out: &mut [u8], at: usize, s: &[u8], m: PubAck) -> usize {
+    let reason = m.reason;
+    let properties = m.properties;
+    let a = field::number(&mut *out, at, b" id=", m.pkid as u64);
+    let b = field::hex(&mut *out, a, b" reason=0x", reason_code(reason));
+    puback_block(&mut *out, b, s, properties)
+}
+
+// Without the end of the line.
+fn packet_of(out: &mut [u8], at: usize, offset: u64, s: &[u8], p: Packet, taken: usize) -> usize {
+    match p {
+        Packet::Publish(m) => {
+            let a = head(&mut *out, at, offset, b" publish taken=", taken);
+            publish_of(&mut *out, a, s, m)
+        }
+        Packet::Subscribe(m) => {
+            let a = head(&mut *out, at, offset, b" subscribe taken=", taken);
+            subscribe_of(&mut *out, a, s, m)
+        }
+        Packet::PubAck(m) => {
+            let a = head(&mut *out, at, offset, b" puback taken=", taken);
+            puback_of(&mut *out, a, s, m)
+        }
+        Packet::PingReq => head(&mut *out, at, offset, b" pingreq taken=", taken),
+        Packet::PingResp => head(&mut *out, at, offset, b" pingresp taken=", taken),
+    }
+}
+
+// Of the packet p that was read from s.
+pub fn packet(out: &mut [u8], at: usize, offset: u64, s: &[u8], p: Packet, taken: usize) -> usize {
+    let a = packet_of(&mut *out, at, offset, s, p, taken);
+    output::word(&mut *out, a, b"\n")
+}
+
+fn values(out: &mut [u8], at: usize, e: Error) -> usize {
+    match error::values(e) {
+        Values::None => at,
+        Values::One(n) => {
+            let a = field::number(&mut *out, at, b"(", n as u64);
+            output::word(&mut *out, a, b")")
+        }
+        Values::Two(m, n) => {
+            let a = field::number(&mut *out, at, b"(", m as u64);
+            let b = field::number(&mut *out, a, b",", n as u64);
+            output::word(&mut *out, b, b")")
+        }
+    }
+}
+
+fn name(out: &mut [u8], at: usize, e: Error) -> usize {
+    let shown = error::name(e);
+    let bytes = shown.bytes;
+    let text = Span {
+        start: 0,
+        len: shown.len,
+    };
+    output::word(&mut *out, at, string::part(&bytes, text))
+}
+
+// Of a refusal.
+pub fn refused(out: &mut [u8], at: usize, offset: u64, e: Error, taken: usize) -> usize {
+    let a = output::decimal(&mut *out, at, offset);
+    let b = field::number(&mut *out, a, b" refused ", wide(error::number(e)));
+    let c = output::word(&mut *out, b, b" ");
+    let d = name(&mut *out, c, e);
+    let f = values(&mut *out, d, e);
+    let g = field::number(&mut *out, f, b" taken=", taken as u64);
+    output::word(&mut *out, g, b"\n")
+}

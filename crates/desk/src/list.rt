@@ -1,0 +1,105 @@
+// The fields of lists, each list in one pass over its place: user properties and subscription identifiers of a block, filters of a run.
+use crate::field;
+use property_value::GotProperty;
+use property_value::Value;
+use records::qos;
+use records::span::Span;
+use records::subscribe::Filter;
+use records::subscribe::rule_number;
+use subscribe::filter;
+use subscribe::filter::GotFilter;
+use wire::property::PropertyPlace;
+use wire::string;
+
+fn wide(b: u8) -> u64 {
+    b as u64
+}
+
+// The field of a value that is a pair: only user properties are.
+fn user_if(out: &mut [u8], at: usize, s: &[u8], v: Value) -> usize {
+    if let Value::Pair(key, value) = v {
+        let a = field::bytes(&mut *out, at, b" user=", string::part(s, key));
+        return field::bytes(&mut *out, a, b"=", string::part(s, value));
+    }
+    at
+}
+
+// The field of a value that is a variable length number: only subscription identifiers are.
+fn identifier_if(out: &mut [u8], at: usize, v: Value) -> usize {
+    if let Value::Number(id) = v {
+        return field::number(&mut *out, at, b" subscription-id=", id as u64);
+    }
+    at
+}
+
+// The field of a value of a list: of the user properties, or of the subscription identifiers.
+fn value_if(out: &mut [u8], at: usize, s: &[u8], v: Value, is_user: bool) -> usize {
+    if is_user {
+        return user_if(&mut *out, at, s, v);
+    }
+    identifier_if(&mut *out, at, v)
+}
+
+// The values of a list in the block s.
+fn values(out: &mut [u8], at: usize, place: PropertyPlace, s: &[u8], is_user: bool) -> usize {
+    let mut next = at;
+    let mut i: usize = 0;
+    while i < s.len() {
+        match property_value::read_property(place, s, i) {
+            GotProperty::Refused(_) => return next,
+            GotProperty::Found(_, v, end) => {
+                next = value_if(&mut *out, next, s, v, is_user);
+                i = end;
+            }
+        }
+    }
+    next
+}
+
+fn filter_of(out: &mut [u8], at: usize, s: &[u8], f: Filter) -> usize {
+    let path = f.path;
+    let q = f.qos;
+    let rule = f.retain_forward_rule;
+    let a = field::bytes(&mut *out, at, b" filter=", string::part(s, path));
+    let b = field::number(&mut *out, a, b" qos=", wide(qos::qos_number(q)));
+    let c = field::flag(&mut *out, b, b" no-local=", f.nolocal);
+    let d = field::flag(&mut *out, c, b" preserve-retain=", f.preserve_retain);
+    field::number(&mut *out, d, b" forward=", wide(rule_number(rule)))
+}
+
+// The filters that fill s.
+fn filters_in(out: &mut [u8], at: usize, s: &[u8]) -> usize {
+    let mut next = at;
+    let mut i: usize = 0;
+    while i < s.len() {
+        match filter::read_filter(s, i) {
+            GotFilter::Refused(_) => return next,
+            GotFilter::Value(f, end) => {
+                next = filter_of(&mut *out, next, s, f);
+                i = end;
+            }
+        }
+    }
+    next
+}
+
+// The user properties of the block at a place of s.
+pub fn users(out: &mut [u8], at: usize, place: PropertyPlace, s: &[u8], block: Span) -> usize {
+    values(&mut *out, at, place, string::part(s, block), true)
+}
+
+// The subscription identifiers of a Publish.
+pub fn identifiers(out: &mut [u8], at: usize, s: &[u8], block: Span) -> usize {
+    values(
+        &mut *out,
+        at,
+        PropertyPlace::Publish,
+        string::part(s, block),
+        false,
+    )
+}
+
+// The filters of the run at a place of s.
+pub fn filters(out: &mut [u8], at: usize, s: &[u8], run: Span) -> usize {
+    filters_in(&mut *out, at, string::part(s, run))
+}

@@ -1,0 +1,58 @@
+// Shows a stream of MQTT 5 frames, from a file or from standard input: a line for each frame on standard output, and what was read in all
+// on standard error.
+mod args;
+mod field;
+mod line;
+mod list;
+mod output;
+mod stream;
+mod tally;
+
+use args::Args;
+
+// The file that is named by word i.
+fn read_file(a: Args) -> u8 {
+    let mut path = io::buffer();
+    let n = os::arg(a.file, &mut path);
+    let fd = os::open_read(&path[..n]);
+    if fd < 0 {
+        io::write_all(libc::STDERR_FILENO, b"desk: ");
+        os::fail(&path[..n]);
+        return 1;
+    }
+    let status = stream::read(fd, &path[..n], args::limit_of(a));
+    libc::close(fd);
+    status
+}
+
+fn run(a: Args) -> u8 {
+    if a.is_bad {
+        io::write_all(libc::STDERR_FILENO, b"usage: desk [--limit N] [FILE]\n");
+        return 2;
+    }
+    if a.file == 0 {
+        return stream::read(libc::STDIN_FILENO, b"standard input", args::limit_of(a));
+    }
+    read_file(a)
+}
+
+// The status as a digit, on descriptor 3.
+fn tell(status: u8) {
+    if status == 0 {
+        io::write_all(3, b"0");
+        return;
+    }
+    if status == 1 {
+        io::write_all(3, b"1");
+        return;
+    }
+    io::write_all(3, b"2");
+}
+
+fn main() {
+    let a = args::read();
+    let status = run(a);
+    if a.status {
+        tell(status);
+    }
+}

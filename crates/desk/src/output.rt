@@ -1,0 +1,88 @@
+// What is put into the lent output before it is written: words, numbers and quoted bytes, each from place `at` on, and the place after it.
+// A full output is written to standard output. A place past the end of the output says that something could not be written.
+use libc::STDOUT_FILENO;
+use wire::string;
+
+// The place that no output has.
+const LOST: usize = 18446744073709551615;
+
+pub fn is_lost(out: &[u8], at: usize) -> bool {
+    out.len() < at
+}
+
+// Writes what was put.
+pub fn flush(out: &[u8], at: usize) -> usize {
+    if is_lost(out, at) {
+        return at;
+    }
+    if io::write_all(
+        STDOUT_FILENO,
+        string::part(out, records::span::Span { start: 0, len: at }),
+    ) {
+        return 0;
+    }
+    LOST
+}
+
+// A place with room for n bytes: the same, or the first once what was put is written.
+fn room(out: &[u8], at: usize, n: usize) -> usize {
+    if out.len() < at {
+        return at;
+    }
+    if n <= out.len() - at {
+        return at;
+    }
+    flush(out, at)
+}
+
+// The place after n bytes that were put; lost if they had no room.
+fn after(out: &[u8], at: usize, n: usize) -> usize {
+    if out.len() < at {
+        return at;
+    }
+    if n <= out.len() - at {
+        return at + n;
+    }
+    LOST
+}
+
+pub fn word(out: &mut [u8], at: usize, w: &[u8]) -> usize {
+    let from = room(&*out, at, w.len());
+    string::put_bytes(&mut *out, from, w);
+    after(&*out, from, w.len())
+}
+
+pub fn decimal(out: &mut [u8], at: usize, n: u64) -> usize {
+    let from = room(&*out, at, 20);
+    let k = render::put_decimal(&mut *out, from, n);
+    after(&*out, from, k)
+}
+
+// Two hexadecimal digits.
+pub fn hex(out: &mut [u8], at: usize, b: u8) -> usize {
+    let from = room(&*out, at, 2);
+    render::put_hex(&mut *out, from, b);
+    after(&*out, from, 2)
+}
+
+// The bytes of s as they stand between quotes; each turn shows one at least, for there is room for one.
+fn shown(out: &mut [u8], at: usize, s: &[u8]) -> usize {
+    let mut next = at;
+    let mut i: usize = 0;
+    while i < s.len() {
+        let from = room(&*out, next, 4);
+        let step = render::put_shown(&mut *out, from, &s[i..]);
+        if step.taken == 0 {
+            return LOST;
+        }
+        i = i + step.taken;
+        next = from + step.put;
+    }
+    next
+}
+
+pub fn quoted(out: &mut [u8], at: usize, s: &[u8]) -> usize {
+    let a = word(&mut *out, at, b"\"");
+    let b = shown(&mut *out, a, s);
+    word(&mut *out, b, b"\"")
+}
