@@ -1,5 +1,5 @@
 //! The crate's text against the port: every short frame, random ones and damaged copies of them, records written; see oracle/README.md.
-//! compare [--seed N] [--share PERCENT] [--fault D1..D7] [--corpus FILE]
+//! compare [--seed N] [--share PERCENT] [--fault D1..D7] [--listed] [--corpus FILE]
 use oracle::compare::corpus::Corpus;
 use oracle::compare::frames::{self, one_in, pick, Frame};
 use oracle::compare::hold::{entries, Hold};
@@ -371,7 +371,67 @@ fn unhex(s: &str) -> Vec<u8> {
     s.split_whitespace().map(|b| u8::from_str_radix(b, 16).unwrap()).collect()
 }
 
+/// The records of docs/DIFFERENCES.md, and whether each goes under a limit.
+fn listed_records() -> Vec<(Given, Option<u32>)> {
+    let publish = Given {
+        kind: 3,
+        ..Given::default()
+    };
+    let zero = Given { qos: 1, ..publish.clone() };
+    let identifier = Given {
+        block: true,
+        ids: vec![268_435_456],
+        ..publish.clone()
+    };
+    let long = Given {
+        topic: vec![b'x'; 65_536].into(),
+        ..publish.clone()
+    };
+    let most = Given {
+        payload: vec![0; 268_435_453].into(),
+        ..publish.clone()
+    };
+    let bare = Given {
+        kind: 8,
+        ..Given::default()
+    };
+    let plain = Given {
+        kind: 4,
+        id: 10,
+        ..Given::default()
+    };
+    let text = Given {
+        kind: 8,
+        filters: vec![0xFF],
+        filter_lengths: vec![1],
+        options: vec![0],
+        ..Given::default()
+    };
+    let extra = Given {
+        sid: Some(1),
+        ..bare.clone()
+    };
+    let words = [
+        (extra, None),
+        (zero, None),
+        (identifier, None),
+        (most.clone(), None),
+        (long.clone(), None),
+        (long, Some(5)),
+        (bare, None),
+        (most, Some(5)),
+        (plain, None),
+        (text, None),
+    ];
+    let pings = [12, 13].into_iter().flat_map(|kind| [None, Some(1)].map(|limit| (Given { kind, ..Given::default() }, limit)));
+    words.into_iter().chain(pings).collect()
+}
+
 fn listed(run: &mut Run) {
+    for (g, limit) in listed_records() {
+        run.hold.write(&g, limit, 16);
+        run.hold.write(&g, limit, 0);
+    }
     for s in LISTED {
         let s = unhex(s);
         for limit in [None, Some(0), Some(3), Some(4), Some(7), Some(8), Some(u32::MAX)] {
@@ -465,7 +525,7 @@ fn report(run: &Run) {
 
 fn main() {
     let mut args = std::env::args().skip(1);
-    let (mut seed, mut share, mut file, mut cap) = (2026u64, 100, None, 14);
+    let (mut seed, mut share, mut file, mut cap, mut only_listed) = (2026u64, 100, None, 14, false);
     while let Some(a) = args.next() {
         let mut value = || args.next().unwrap_or_else(|| panic!("{a} wants a value"));
         match a.as_str() {
@@ -474,6 +534,7 @@ fn main() {
             "--cap" => cap = value().parse().unwrap(),
             "--fault" => port::seed(entry(value().trim_start_matches('D').parse().unwrap())),
             "--corpus" => file = Some(value()),
+            "--listed" => only_listed = true,
             _ => panic!("what is {a}?"),
         }
     }
@@ -487,13 +548,17 @@ fn main() {
     };
     match file {
         Some(file) => corpus(&mut run, &file, cap),
+        None if only_listed => {
+            run.hold.show = true;
+            listed(&mut run);
+        }
         None => {
             listed(&mut run);
             run.every_option_and_reason();
             run.every_property();
             run.every_write();
-            run.writes(run.scaled(2_000_000));
-            run.random(run.scaled(2_000_000));
+            run.writes(run.scaled(4_000_000));
+            run.random(run.scaled(4_000_000));
             run.large_writes();
             run.streams();
             run.short_bodies();

@@ -29,6 +29,8 @@ pub struct Hold {
     pub read_classes: BTreeMap<Entries, Seen>,
     pub write_classes: BTreeMap<Entries, Seen>,
     pub corpus: Option<Corpus>,
+    /// print each input with its answers
+    pub show: bool,
     read_sets: Vec<Entries>,
     write_sets: Vec<Entries>,
     of_port: Lists,
@@ -118,14 +120,17 @@ impl Hold {
         }
         self.panics += matches!(said.0, Err(No { no: PANIC, .. })) as u64;
         self.read_answers[answered.0.as_ref().map_or_else(|e| e.no as usize & 31, |_| 0)] += 1;
-        note(&mut self.read_classes, class, s.len(), || {
-            let short = |a: &dyn std::fmt::Debug| format!("{a:?}");
+        let line = || {
             let of_port = match &answered.0 {
                 Ok(r) => format!("accepted, kind {}", r.kind),
-                Err(e) => short(e),
+                Err(e) => format!("{e:?}"),
             };
-            format!("{}; limit {limit:?}; crate {}; port {of_port}; taken {} and {}", hex(s), short(&said.0), said.1, answered.1)
-        });
+            format!("{}; limit {limit:?}; crate {:?}; port {of_port}; taken {} and {}", hex(s), said.0, said.1, answered.1)
+        };
+        if self.show {
+            println!("read {}\n    class {}", line(), entries(class));
+        }
+        note(&mut self.read_classes, class, s.len(), line);
         if let Some(corpus) = &mut self.corpus {
             corpus.read(s, limit, class, &rules, &self.of_rules);
         }
@@ -223,7 +228,11 @@ impl Hold {
         let packet = if model_write::belongs(g) { text::packet(g) } else { None };
         let Some(packet) = packet else {
             let class = if model_write::belongs(g) { model_write::NO_TEXT } else { model_write::MISMATCH };
-            note(&mut self.write_classes, class, weight(g), || short(g));
+            let line = || format!("{}; limit {limit:?} room {room}; the crate cannot be handed it; port {answered:?}", short(g));
+            if self.show {
+                println!("write {:.900}\n    class {}", line(), entries(class));
+            }
+            note(&mut self.write_classes, class, weight(g), line);
             return class;
         };
         let mut put = BytesMut::new();
@@ -247,9 +256,11 @@ impl Hold {
             self.fail("(c): crate and port write otherwise, and no entry tells why", shown());
         }
         self.panics += matches!(said.0, Err(No { no: PANIC, .. })) as u64;
-        note(&mut self.write_classes, class, weight(g), || {
-            format!("{}; limit {limit:?} room {room}; crate {said:?}, put {}; port {answered:?}", short(g), hex(&put))
-        });
+        let line = || format!("{}; limit {limit:?} room {room}; crate {said:?}, put {}; port {answered:?}", short(g), hex(&put));
+        if self.show {
+            println!("write {:.900}\n    class {}", line(), entries(class));
+        }
+        note(&mut self.write_classes, class, weight(g), line);
         class
     }
 }
