@@ -22,7 +22,10 @@ impl Run {
     fn say(&self, what: &str) {
         let h = &self.hold;
         let seconds = self.start.elapsed().as_secs();
-        println!("{seconds:4} s  {what}: {} reads, {} items, {} writes so far", h.reads, h.items, h.writes);
+        println!(
+            "{seconds:4} s  {what}: {} reads, {} items, {} writes so far",
+            h.reads, h.items, h.writes
+        );
     }
     fn scaled(&self, n: u64) -> u64 {
         (n * self.share / 100).max(1)
@@ -58,15 +61,17 @@ impl Run {
         self.say("every first byte with every body of 1 and 2 bytes");
     }
 
-    /// One first byte for each layout and QoS with every body of three bytes.
+    /// Every first byte of a kind that is carried with every body of three bytes.
     fn bodies_of_three(&mut self) {
-        for first in [0x30, 0x32, 0x34, 0x40, 0x82, 0xC0, 0xD0] {
-            let step = if self.share == 100 { 1 } else { 101 };
+        let step = if self.share == 100 { 1 } else { 1009 };
+        for first in (0..=255u8).filter(|a| matches!(a >> 4, 3 | 4 | 8 | 12 | 13)) {
             for n in (0..1u32 << 24).step_by(step) {
                 self.hold.read(&[first, 3, (n >> 16) as u8, (n >> 8) as u8, n as u8], None);
             }
+            if first % 16 == 15 {
+                self.say(&format!("every body of 3 bytes, first byte up to {first:02X}"));
+            }
         }
-        self.say("every body of 3 bytes");
     }
 
     fn read_body(&mut self, first: u8, body: &[u8]) {
@@ -84,7 +89,17 @@ impl Run {
             for first in 0..=255 {
                 self.read_body(0x82, &[0, 1, 0, 0, 1, b'a', first, 0, 1, b'b', o]);
             }
-            for tail in [&[][..], &[0], &[0x80], &[1], &[0, 0xFF], &[1, 0xFF], &[3, 31, 0, 0], &[5, 38, 0, 0, 0, 0], &[3, 31, 0, 0, 1]] {
+            for tail in [
+                &[][..],
+                &[0],
+                &[0x80],
+                &[1],
+                &[0, 0xFF],
+                &[1, 0xFF],
+                &[3, 31, 0, 0],
+                &[5, 38, 0, 0, 0, 0],
+                &[3, 31, 0, 0, 1],
+            ] {
                 self.read_body(0x40, &[&[0, 1, o], tail].concat());
             }
         }
@@ -149,7 +164,11 @@ impl Run {
             2 => (n as usize, 0),
             _ => (self.dice.below(n + 2) as usize, self.dice.below(n + 2) as usize),
         };
-        let nth = if one_in(&mut self.dice, 30) { usize::MAX } else { self.dice.below(4) as usize };
+        let nth = if one_in(&mut self.dice, 30) {
+            usize::MAX
+        } else {
+            self.dice.below(4) as usize
+        };
         self.hold.items(s, Span { start, len }, nth);
     }
 
@@ -423,7 +442,9 @@ fn listed_records() -> Vec<(Given, Option<u32>)> {
         (plain, None),
         (text, None),
     ];
-    let pings = [12, 13].into_iter().flat_map(|kind| [None, Some(1)].map(|limit| (Given { kind, ..Given::default() }, limit)));
+    let pings = [12, 13]
+        .into_iter()
+        .flat_map(|kind| [None, Some(1)].map(|limit| (Given { kind, ..Given::default() }, limit)));
     words.into_iter().chain(pings).collect()
 }
 
@@ -509,7 +530,10 @@ fn corpus(run: &mut Run, file: &str, cap: u32) {
 fn report(run: &Run) {
     let h = &run.hold;
     let seconds = run.start.elapsed().as_secs();
-    println!("\n{} reads, {} items, {} writes with their sizes, {seconds} s", h.reads, h.items, h.writes);
+    println!(
+        "\n{} reads, {} items, {} writes with their sizes, {seconds} s",
+        h.reads, h.items, h.writes
+    );
     println!("answers to reads, by refusal (0: accepted): {:?}", &h.read_answers[..22]);
     println!("answers to writes, by refusal (0: accepted): {:?}", &h.write_answers[..22]);
     println!("panics of the crate: {}", h.panics);

@@ -96,8 +96,20 @@ impl Corpus {
                 e.no
             }
             Ok(r) => {
-                let set = [r.format.is_some(), r.expiry.is_some(), r.alias.is_some(), r.response.is_some(), r.correlation.is_some()];
-                let more = [!lists.users.is_empty(), !lists.ids.is_empty(), r.content.is_some(), r.sid.is_some(), r.reason_string.is_some()];
+                let set = [
+                    r.format.is_some(),
+                    r.expiry.is_some(),
+                    r.alias.is_some(),
+                    r.response.is_some(),
+                    r.correlation.is_some(),
+                ];
+                let more = [
+                    !lists.users.is_empty(),
+                    !lists.ids.is_empty(),
+                    r.content.is_some(),
+                    r.sid.is_some(),
+                    r.reason_string.is_some(),
+                ];
                 let options = lists.filters.first().map_or(0, |f| f.1 as u64);
                 bucket.extend([0, bits(&set), bits(&more), r.reason as u64, r.qos as u64, options]);
                 0
@@ -138,7 +150,15 @@ impl Corpus {
         let (no, class) = if filled.is_some() { (0, 0) } else { (21, entry(12)) };
         let filled = filled.unwrap_or_default();
         let outside = p.start.saturating_add(p.len) > s.len();
-        let bucket = vec![2, list as u64, kind as u64, no as u64, n.min(4) as u64, outside as u64, p.len.min(12) as u64];
+        let bucket = vec![
+            2,
+            list as u64,
+            kind as u64,
+            no as u64,
+            n.min(4) as u64,
+            outside as u64,
+            p.len.min(12) as u64,
+        ];
         let mut row = start(2, class);
         row.extend([list, kind]);
         [p.start, p.len, n].iter().for_each(|v| u32s(&mut row, *v as u64));
@@ -213,7 +233,15 @@ impl Corpus {
         answer(&mut row, no_size, &size);
         answer(&mut row, no, &written);
         run(&mut row, put);
-        let set = [g.block, g.format.is_some(), g.expiry.is_some(), g.alias.is_some(), !g.users.is_empty(), !g.ids.is_empty(), g.sid.is_some()];
+        let set = [
+            g.block,
+            g.format.is_some(),
+            g.expiry.is_some(),
+            g.alias.is_some(),
+            !g.users.is_empty(),
+            !g.ids.is_empty(),
+            g.sid.is_some(),
+        ];
         let present: Vec<bool> = lents.iter().map(|l| l.present).collect();
         let mut bucket = vec![g.kind as u64, class as u64, no as u64, no_size as u64, limit.is_some() as u64];
         if no == 0 {

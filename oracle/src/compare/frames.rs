@@ -11,7 +11,20 @@ pub struct Frame {
     pub marks: Vec<usize>,
 }
 
-pub const TEXTS: [&str; 12] = ["", "a", "a/b", "hi", "\0", "ä", "€", "😀", "unit", "m", "line3/armour/length", "{\"n\":1}"];
+pub const TEXTS: [&str; 12] = [
+    "",
+    "a",
+    "a/b",
+    "hi",
+    "\0",
+    "ä",
+    "€",
+    "😀",
+    "unit",
+    "m",
+    "line3/armour/length",
+    "{\"n\":1}",
+];
 /// Bytes that are no text, and some that are by a hair.
 pub const BROKEN: [&[u8]; 10] = [
     b"\x80",
@@ -141,7 +154,8 @@ pub fn well_formed(d: &mut Dice) -> Frame {
             f.block(Place::Subscribe, d);
             for _ in 0..1 + d.below(3) {
                 f.string(&text(d));
-                f.body.push(d.below(3) as u8 + d.below(4) as u8 * 4 + d.below(3) as u8 * 16 + d.below(4) as u8 * 64);
+                f.body
+                    .push(d.below(3) as u8 + d.below(4) as u8 * 4 + d.below(3) as u8 * 16 + d.below(4) as u8 * 64);
             }
         }
         _ => {

@@ -76,7 +76,11 @@ pub fn record(d: &mut Dice, long: bool) -> Given {
             (g.dup, g.retain) = (one_in(d, 2), one_in(d, 2));
             g.qos = if one_in(d, 100) { d.below(256) as u8 } else { d.below(3) as u8 };
             g.topic = Bytes::from(if one_in(d, 8) { bytes(d, 5) } else { word(d, long) });
-            g.payload = Bytes::from(if one_in(d, 30) { vec![7; d.below(300) as usize] } else { bytes(d, 8) });
+            g.payload = Bytes::from(if one_in(d, 30) {
+                vec![7; d.below(300) as usize]
+            } else {
+                bytes(d, 8)
+            });
             if filled {
                 let (a, b, c) = (d.below(256) as u8, d.below(1 << 32) as u32, d.below(65_536) as u16);
                 (g.format, g.expiry, g.alias) = (some(d, a), some(d, b), some(d, c));
@@ -93,7 +97,9 @@ pub fn record(d: &mut Dice, long: bool) -> Given {
             let count = if one_in(d, 12) { 0 } else { 1 + d.below(3) };
             (g.filters, g.filter_lengths) = run(d, count, long);
             unfit(&mut g.filter_lengths, d);
-            g.options = (0..count).map(|_| d.below(256) as u8 & pick(d, &[0xEE, 0xDD, 0xEC, 0xCE, 0xFF])).collect();
+            g.options = (0..count)
+                .map(|_| d.below(256) as u8 & pick(d, &[0xEE, 0xDD, 0xEC, 0xCE, 0xFF]))
+                .collect();
             if one_in(d, 200) {
                 g.options.push(0);
             }

@@ -107,9 +107,19 @@ impl Hold {
         } else {
             self.class_of_read(s, most, &said).unwrap_or(0)
         };
-        let shown = || format!("  stream {}\n  limit {limit:?}\n  port  {answered:?}\n  rules {rules:?}\n  crate {said:?}\n  model {modelled:?}", hex(s));
+        let shown = || {
+            format!(
+                "  stream {}\n  limit {limit:?}\n  port  {answered:?}\n  rules {rules:?}\n  crate {said:?}\n  model {modelled:?}",
+                hex(s)
+            )
+        };
         if answered != rules || self.of_port != self.of_rules {
-            let lists = format!("{}\n  lists of the port {:?}, of the rules {:?}", shown(), self.of_port, self.of_rules);
+            let lists = format!(
+                "{}\n  lists of the port {:?}, of the rules {:?}",
+                shown(),
+                self.of_port,
+                self.of_rules
+            );
             self.fail("(a): the port does not answer by the rules", lists);
         }
         if !text::same(&said, &modelled, &self.of_crate, s) {
@@ -125,7 +135,13 @@ impl Hold {
                 Ok(r) => format!("accepted, kind {}", r.kind),
                 Err(e) => format!("{e:?}"),
             };
-            format!("{}; limit {limit:?}; crate {:?}; port {of_port}; taken {} and {}", hex(s), said.0, said.1, answered.1)
+            format!(
+                "{}; limit {limit:?}; crate {:?}; port {of_port}; taken {} and {}",
+                hex(s),
+                said.0,
+                said.1,
+                answered.1
+            )
         };
         if self.show {
             println!("read {}\n    class {}", line(), entries(class));
@@ -142,7 +158,10 @@ impl Hold {
         let answered = port::read(s, Some(limit), &mut self.of_port);
         let rules = model::read(s, Some(limit), 0, &mut self.of_rules);
         if answered != rules || self.of_port != self.of_rules {
-            self.fail("(a): the port does not answer by the rules", format!("  stream {}\n  limit {limit}\n  port {answered:?}\n  rules {rules:?}", hex(s)));
+            self.fail(
+                "(a): the port does not answer by the rules",
+                format!("  stream {}\n  limit {limit}\n  port {answered:?}\n  rules {rules:?}", hex(s)),
+            );
         }
     }
 
@@ -155,18 +174,27 @@ impl Hold {
             let expected = lists.as_ref().and_then(|l| l.users.get(n).copied()).ok_or(no(21));
             let answered = port::user(*place, s, p, n);
             if answered != expected {
-                self.fail("(a): item", format!("  {place:?} {p:?} {n} of {}\n  port {answered:?}\n  rules {expected:?}", hex(s)));
+                self.fail(
+                    "(a): item",
+                    format!("  {place:?} {p:?} {n} of {}\n  port {answered:?}\n  rules {expected:?}", hex(s)),
+                );
             }
         }
         let expected = rules[0].as_ref().and_then(|l| l.ids.get(n).copied()).ok_or(no(21));
         let answered = port::identifier(s, p, n);
         if answered != expected {
-            self.fail("(a): item", format!("  identifier {p:?} {n} of {}\n  port {answered:?}\n  rules {expected:?}", hex(s)));
+            self.fail(
+                "(a): item",
+                format!("  identifier {p:?} {n} of {}\n  port {answered:?}\n  rules {expected:?}", hex(s)),
+            );
         }
         let expected = run.as_ref().and_then(|l| l.get(n).copied()).ok_or(no(21));
         let answered = port::filter(s, p, n);
         if answered != expected {
-            self.fail("(a): item", format!("  filter {p:?} {n} of {}\n  port {answered:?}\n  rules {expected:?}", hex(s)));
+            self.fail(
+                "(a): item",
+                format!("  filter {p:?} {n} of {}\n  port {answered:?}\n  rules {expected:?}", hex(s)),
+            );
         }
         let expected = p.of(s).len();
         let answered = port::part(s, p);
@@ -179,7 +207,14 @@ impl Hold {
     }
 
     /// The smallest set of entries with which the model of the writer gives the text's answer, its bytes and its size.
-    fn class_of_write(&self, g: &Given, limit: Option<u64>, room: usize, said: &(Result<u64, No>, Result<u64, No>), put: &[u8]) -> Option<Entries> {
+    fn class_of_write(
+        &self,
+        g: &Given,
+        limit: Option<u64>,
+        room: usize,
+        said: &(Result<u64, No>, Result<u64, No>),
+        put: &[u8],
+    ) -> Option<Entries> {
         let mut out = vec![];
         self.write_sets.iter().copied().find(|on| {
             let answer = model_write::write(g, limit, room, *on, &mut out);
@@ -200,7 +235,12 @@ impl Hold {
         let kept = out.get(by_rules.len()..).is_some_and(|rest| rest.iter().all(|b| *b == fill));
         let alike = kept && out[..by_rules.len()] == by_rules;
         if answered != rules || !alike {
-            let shown = format!("  {}\n  limit {limit:?} room {room} fill {fill}\n  port {answered:?} {}\n  rules {rules:?} {}", short(g), hex(&out), hex(&by_rules));
+            let shown = format!(
+                "  {}\n  limit {limit:?} room {room} fill {fill}\n  port {answered:?} {}\n  rules {rules:?} {}",
+                short(g),
+                hex(&out),
+                hex(&by_rules)
+            );
             self.fail("(a): the port does not write by the rules", shown);
         }
         let class = self.write_in_text(g, limit, room, &answered, &out, fill, &rules, &by_rules);
@@ -227,8 +267,17 @@ impl Hold {
         let most = limit.map(u64::from);
         let packet = if model_write::belongs(g) { text::packet(g) } else { None };
         let Some(packet) = packet else {
-            let class = if model_write::belongs(g) { model_write::NO_TEXT } else { model_write::MISMATCH };
-            let line = || format!("{}; limit {limit:?} room {room}; the crate cannot be handed it; port {answered:?}", short(g));
+            let class = if model_write::belongs(g) {
+                model_write::NO_TEXT
+            } else {
+                model_write::MISMATCH
+            };
+            let line = || {
+                format!(
+                    "{}; limit {limit:?} room {room}; the crate cannot be handed it; port {answered:?}",
+                    short(g)
+                )
+            };
             if self.show {
                 println!("write {:.900}\n    class {}", line(), entries(class));
             }
@@ -238,8 +287,19 @@ impl Hold {
         let mut put = BytesMut::new();
         let said = (text::write(&packet, limit, &mut put), text::size(&packet));
         let mut by_model = vec![];
-        let modelled = (model_write::write(g, most, room, model_write::ALL, &mut by_model), model_write::size(g, model_write::ALL));
-        let shown = || format!("  {}\n  limit {limit:?} room {room}\n  port {answered:?} {}\n  crate {said:?} {}\n  model {modelled:?} {}", short(g), hex(out), hex(&put), hex(&by_model));
+        let modelled = (
+            model_write::write(g, most, room, model_write::ALL, &mut by_model),
+            model_write::size(g, model_write::ALL),
+        );
+        let shown = || {
+            format!(
+                "  {}\n  limit {limit:?} room {room}\n  port {answered:?} {}\n  crate {said:?} {}\n  model {modelled:?} {}",
+                short(g),
+                hex(out),
+                hex(&put),
+                hex(&by_model)
+            )
+        };
         if said != modelled || by_model != put {
             self.fail("(b): the crate does not write as its model", shown());
         }
@@ -256,7 +316,13 @@ impl Hold {
             self.fail("(c): crate and port write otherwise, and no entry tells why", shown());
         }
         self.panics += matches!(said.0, Err(No { no: PANIC, .. })) as u64;
-        let line = || format!("{}; limit {limit:?} room {room}; crate {said:?}, put {}; port {answered:?}", short(g), hex(&put));
+        let line = || {
+            format!(
+                "{}; limit {limit:?} room {room}; crate {said:?}, put {}; port {answered:?}",
+                short(g),
+                hex(&put)
+            )
+        };
         if self.show {
             println!("write {:.900}\n    class {}", line(), entries(class));
         }
@@ -275,21 +341,47 @@ fn weight(g: &Given) -> usize {
 
 /// What a record is, in one line, long runs left out.
 fn short(g: &Given) -> String {
-    let run = |s: &[u8]| if s.len() > 40 { format!("[{} bytes]", s.len()) } else { format!("[{}]", hex(s)) };
-    let lent = |l: &Lent| if l.present { run(&l.bytes) } else { format!("absent{}", if l.bytes.is_empty() { String::new() } else { run(&l.bytes) }) };
+    let run = |s: &[u8]| {
+        if s.len() > 40 {
+            format!("[{} bytes]", s.len())
+        } else {
+            format!("[{}]", hex(s))
+        }
+    };
+    let lent = |l: &Lent| {
+        if l.present {
+            run(&l.bytes)
+        } else {
+            format!("absent{}", if l.bytes.is_empty() { String::new() } else { run(&l.bytes) })
+        }
+    };
     match g.kind {
-        3 => format!(
+        3 => {
+            format!(
             "Publish dup {} qos {} retain {} id {} topic {} block {} 1 {:?} 2 {:?} 35 {:?} 8 {} 9 {} 38 {} {:?} 11 {:?} 3 {} payload {}",
             g.dup as u8, g.qos, g.retain as u8, g.id, run(&g.topic), g.block, g.format, g.expiry, g.alias, lent(&g.response),
             lent(&g.correlation), run(&g.users), g.user_lengths, g.ids, lent(&g.content), run(&g.payload)
-        ),
+        )
+        }
         8 => format!(
             "Subscribe id {} block {} 11 {:?} 38 {} {:?} filters {} {:?} options {}",
-            g.id, g.block, g.sid, run(&g.users), g.user_lengths, run(&g.filters), g.filter_lengths, run(&g.options)
+            g.id,
+            g.block,
+            g.sid,
+            run(&g.users),
+            g.user_lengths,
+            run(&g.filters),
+            g.filter_lengths,
+            run(&g.options)
         ),
         4 => format!(
             "PubAck id {} reason {:02X} block {} 31 {} 38 {} {:?}",
-            g.id, g.reason, g.block, lent(&g.reason_string), run(&g.users), g.user_lengths
+            g.id,
+            g.reason,
+            g.block,
+            lent(&g.reason_string),
+            run(&g.users),
+            g.user_lengths
         ),
         12 => "PingReq".into(),
         _ => "PingResp".into(),

@@ -30,7 +30,17 @@ pub fn numbers(answer: &Answer) -> [u64; RECORD] {
     let span = |p: Span| [p.start as u64, p.len as u64];
     let maybe = |p: Option<Span>| p.map_or([0; 3], |p| [1, p.start as u64, p.len as u64]);
     let value = |v: Option<u64>| v.map_or([0; 2], |v| [1, v]);
-    set(3, &[r.kind as u64, r.id as u64, r.dup as u64, r.qos as u64, r.retain as u64, r.reason as u64]);
+    set(
+        3,
+        &[
+            r.kind as u64,
+            r.id as u64,
+            r.dup as u64,
+            r.qos as u64,
+            r.retain as u64,
+            r.reason as u64,
+        ],
+    );
     if r.kind == 3 {
         set(9, &span(r.topic));
         set(11, &span(r.payload));
@@ -146,7 +156,16 @@ mod side {
     pub fn read(s: &[u8], limit: Option<u64>) -> Answer {
         // what does not apply must be set to 0
         let mut n = [u64::MAX; RECORD];
-        let got = unsafe { ecch_read(s.as_ptr(), s.len(), limit.is_some() as u8, limit.unwrap_or(77) as usize, n.as_mut_ptr(), RECORD) };
+        let got = unsafe {
+            ecch_read(
+                s.as_ptr(),
+                s.len(),
+                limit.is_some() as u8,
+                limit.unwrap_or(77) as usize,
+                n.as_mut_ptr(),
+                RECORD,
+            )
+        };
         if got == 0 {
             return (Ok(told(&n)), n[0] as usize);
         }
@@ -344,11 +363,15 @@ mod side {
     }
 
     pub fn user(place: Place, s: &[u8], p: Span, nth: usize) -> Result<(Span, Span), No> {
-        model::block_items(place, s, p).and_then(|l| l.users.get(nth).copied()).ok_or(no(21))
+        model::block_items(place, s, p)
+            .and_then(|l| l.users.get(nth).copied())
+            .ok_or(no(21))
     }
 
     pub fn identifier(s: &[u8], p: Span, nth: usize) -> Result<u32, No> {
-        model::block_items(Place::Publish, s, p).and_then(|l| l.ids.get(nth).copied()).ok_or(no(21))
+        model::block_items(Place::Publish, s, p)
+            .and_then(|l| l.ids.get(nth).copied())
+            .ok_or(no(21))
     }
 
     pub fn filter(s: &[u8], p: Span, nth: usize) -> Result<(Span, u8), No> {

@@ -52,7 +52,10 @@ fn same_text(a: &Option<String>, b: Option<Span>, s: &[u8]) -> bool {
 }
 
 fn same_users(a: &[(String, String)], b: &[(Span, Span)], s: &[u8]) -> bool {
-    a.len() == b.len() && a.iter().zip(b).all(|((k, v), (p, q))| k.as_bytes() == p.of(s) && v.as_bytes() == q.of(s))
+    a.len() == b.len()
+        && a.iter()
+            .zip(b)
+            .all(|((k, v), (p, q))| k.as_bytes() == p.of(s) && v.as_bytes() == q.of(s))
 }
 
 /// The reason's byte, which the text keeps to itself but writes.
