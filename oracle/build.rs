@@ -2,9 +2,14 @@
 use std::{env, path::Path};
 
 fn main() {
-    let dir = Path::new(&env::var("CARGO_MANIFEST_DIR").unwrap()).join("../target/staticlib");
+    // oracle/fuzz has a library of its own
+    println!("cargo:rerun-if-env-changed=ORACLE_STATICLIB");
+    let dir = match env::var("ORACLE_STATICLIB") {
+        Ok(dir) => dir.into(),
+        Err(_) => Path::new(&env::var("CARGO_MANIFEST_DIR").unwrap()).join("../target/staticlib"),
+    };
     println!("cargo:rustc-link-search=native={}", dir.display());
-    for lib in ["leaf_bench", "read_bench", "write_bench"] {
+    for lib in ["leaf_bench", "read_bench", "write_bench", "capi"] {
         println!("cargo:rerun-if-changed={}", dir.join(format!("lib{lib}.a")).display());
     }
 }

@@ -171,7 +171,7 @@ fn values(out: &mut [u8], at: usize, e: Error) -> usize {
 }
 
 fn name(out: &mut [u8], at: usize, e: Error) -> usize {
-    let shown = error::name(e);
+    let shown = names::name(e);
     let bytes = shown.bytes;
     let text = Span {
         start: 0,

@@ -1,0 +1,598 @@
+//! The crate's text against the port: every short frame, random ones and damaged copies of them, records written; see oracle/README.md.
+//! compare [--seed N] [--share PERCENT] [--fault D1..D7] [--listed] [--corpus FILE]
+use oracle::compare::corpus::Corpus;
+use oracle::compare::frames::{self, one_in, pick, Frame};
+use oracle::compare::hold::{entries, Hold};
+use oracle::compare::model::{entry, Entries};
+use oracle::compare::shape::{Given, Lent, Span};
+use oracle::compare::{given, port};
+use oracle::streams::Dice;
+use std::collections::BTreeMap;
+use std::time::Instant;
+
+struct Run {
+    hold: Hold,
+    dice: Dice,
+    start: Instant,
+    /// how much of the whole is run, in percent
+    share: u64,
+}
+
+impl Run {
+    fn say(&self, what: &str) {
+        let h = &self.hold;
+        let seconds = self.start.elapsed().as_secs();
+        println!(
+            "{seconds:4} s  {what}: {} reads, {} items, {} writes so far",
+            h.reads, h.items, h.writes
+        );
+    }
+    fn scaled(&self, n: u64) -> u64 {
+        (n * self.share / 100).max(1)
+    }
+
+    /// Every stream of up to two bytes, and of three with every first byte of a kind (all of them in the whole run).
+    fn streams(&mut self) {
+        self.hold.read(&[], None);
+        for a in 0..=255 {
+            self.hold.read(&[a], None);
+            for b in 0..=255 {
+                self.hold.read(&[a, b], None);
+            }
+        }
+        for a in (0..=255).filter(|a| self.share == 100 || a % 16 == 0) {
+            for bc in 0..65_536u32 {
+                self.hold.read(&[a, (bc >> 8) as u8, bc as u8], None);
+            }
+        }
+        self.say("every stream of up to 3 bytes");
+    }
+
+    /// Every first byte with every body of one and two bytes.
+    fn short_bodies(&mut self) {
+        for first in (0..=255u8).filter(|a| self.share == 100 || a % 16 == 0 || a >> 4 == 3) {
+            for a in 0..=255 {
+                self.hold.read(&[first, 1, a], None);
+                for b in 0..=255 {
+                    self.hold.read(&[first, 2, a, b], None);
+                }
+            }
+        }
+        self.say("every first byte with every body of 1 and 2 bytes");
+    }
+
+    /// Every first byte of a kind that is carried with every body of three bytes.
+    fn bodies_of_three(&mut self) {
+        let step = if self.share == 100 { 1 } else { 1009 };
+        for first in (0..=255u8).filter(|a| matches!(a >> 4, 3 | 4 | 8 | 12 | 13)) {
+            for n in (0..1u32 << 24).step_by(step) {
+                self.hold.read(&[first, 3, (n >> 16) as u8, (n >> 8) as u8, n as u8], None);
+            }
+            if first % 16 == 15 {
+                self.say(&format!("every body of 3 bytes, first byte up to {first:02X}"));
+            }
+        }
+    }
+
+    fn read_body(&mut self, first: u8, body: &[u8]) {
+        let mut s = vec![first];
+        frames::spell(&mut s, body.len() as u32, false);
+        s.extend(body);
+        self.hold.read(&s, None);
+    }
+
+    /// Every options byte, in the first filter and behind another; every reason, alone and with blocks, good and bad.
+    fn every_option_and_reason(&mut self) {
+        for o in 0..=255 {
+            self.read_body(0x82, &[0, 1, 0, 0, 1, b'a', o]);
+            self.read_body(0x82, &[0, 1, 0, 0, 0, o]);
+            for first in 0..=255 {
+                self.read_body(0x82, &[0, 1, 0, 0, 1, b'a', first, 0, 1, b'b', o]);
+            }
+            for tail in [
+                &[][..],
+                &[0],
+                &[0x80],
+                &[1],
+                &[0, 0xFF],
+                &[1, 0xFF],
+                &[3, 31, 0, 0],
+                &[5, 38, 0, 0, 0, 0],
+                &[3, 31, 0, 0, 1],
+            ] {
+                self.read_body(0x40, &[&[0, 1, o], tail].concat());
+            }
+        }
+        self.say("every options byte and every reason");
+    }
+
+    /// Every identifier in every place with values that fit one property or another, the block's length right and off by one.
+    fn every_property(&mut self) {
+        let values: [&[u8]; 12] = [
+            &[],
+            &[0],
+            &[0, 0],
+            &[0, 0, 0, 0],
+            &[0, 1, b'a'],
+            &[0, 1, 0x80],
+            &[0, 1, b'a', 0, 1, b'b'],
+            &[0, 1, b'a', 0, 1, 0xFF],
+            &[0x80, 0],
+            &[0x80, 0x80, 0x80],
+            &[0x80, 0x80, 0x80, 0x80],
+            &[0xFF, 0xFF, 0xFF, 0x7F],
+        ];
+        for k in 0..=255u8 {
+            for value in values {
+                for (before, twice) in [(false, false), (true, false), (false, true)] {
+                    for off in [-1i32, 0, 1, 2] {
+                        for tail in [&[][..], &[0, 0, 0], &[k, 0, 1, b'a', 1]] {
+                            let one: Vec<u8> = [&[k], value].concat();
+                            let mut block: Vec<u8> = if before { vec![38, 0, 0, 0, 0] } else { vec![] };
+                            (0..1 + twice as u8).for_each(|_| block.extend(&one));
+                            let l = (block.len() as i32 + off) as u8;
+                            for (first, head) in [(0x30, &[0, 0][..]), (0x32, &[0, 0, 0, 1]), (0x82, &[0, 1]), (0x40, &[0, 1, 0])] {
+                                self.read_body(first, &[head, &[l], &block, tail].concat());
+                            }
+                        }
+                    }
+                }
+            }
+        }
+        self.say("every identifier in every place");
+    }
+
+    /// No limit, or one about R.
+    fn limit(&mut self, s: &[u8]) -> Option<u32> {
+        let r = s.len() as u32;
+        match self.dice.below(12) {
+            0 => Some(r.saturating_sub(2)),
+            1 => Some(r.saturating_sub(3)),
+            2 => Some(r),
+            3 => Some(self.dice.below(8) as u32),
+            4 => Some(u32::MAX),
+            _ => None,
+        }
+    }
+
+    /// Places in a stream: that of a list, and such about it.
+    fn some_items(&mut self, s: &[u8]) {
+        let n = s.len() as u64;
+        let (start, len) = match self.dice.below(20) {
+            0 => (usize::MAX - self.dice.below(3) as usize, self.dice.below(n + 3) as usize),
+            1 => (self.dice.below(n + 3) as usize, usize::MAX - self.dice.below(n + 3) as usize),
+            2 => (n as usize, 0),
+            _ => (self.dice.below(n + 2) as usize, self.dice.below(n + 2) as usize),
+        };
+        let nth = if one_in(&mut self.dice, 30) {
+            usize::MAX
+        } else {
+            self.dice.below(4) as usize
+        };
+        self.hold.items(s, Span { start, len }, nth);
+    }
+
+    /// A property block or a run of filters alone, at a place of its own.
+    fn items_of(&mut self, f: &Frame) {
+        let s = &f.body;
+        if let Some(m) = f.marks.get(f.first as usize % f.marks.len().max(1)) {
+            let start = (*m).saturating_sub(self.dice.below(3) as usize);
+            for len in [s.len().saturating_sub(start), self.dice.below(s.len() as u64 + 1) as usize] {
+                let nth = self.dice.below(3) as usize;
+                self.hold.items(s, Span { start, len }, nth);
+            }
+        }
+    }
+
+    /// The lists of a frame that is accepted, each item, and the number after the last.
+    fn items_of_read(&mut self, s: &[u8]) {
+        use oracle::compare::{model, shape::Lists};
+        let mut lists = Lists::default();
+        if let (Ok(r), _) = model::read(s, None, 0, &mut lists) {
+            let most = lists.users.len().max(lists.ids.len()).max(lists.filters.len());
+            let places: Vec<Span> = r.block.into_iter().chain((r.kind == 8).then_some(r.filters)).collect();
+            for p in places {
+                (0..=most).for_each(|n| self.hold.items(s, p, n));
+            }
+        }
+    }
+
+    fn random(&mut self, count: u64) {
+        for i in 0..count {
+            let f = frames::well_formed(&mut self.dice);
+            let longer = one_in(&mut self.dice, 12);
+            let s = f.stream(longer);
+            self.hold.read(&s, None);
+            let limit = self.limit(&s);
+            self.hold.read(&s, limit);
+            if i % 16 == 0 {
+                self.hold.read_wide(&s, u64::MAX - i);
+                self.hold.read_wide(&s, 1 << 32);
+                self.items_of_read(&s);
+                self.items_of(&f);
+            }
+            for j in 0..6 {
+                let s = frames::damaged(&f, &mut self.dice);
+                let limit = self.limit(&s);
+                self.hold.read(&s, limit);
+                if i % 8 == 0 && j < 2 {
+                    self.some_items(&s);
+                }
+            }
+        }
+        self.say("random frames and damaged copies");
+    }
+
+    fn write_some(&mut self, g: &Given) {
+        let size = oracle::compare::model_write::size(g, 0).unwrap_or(20).min(300_000) as usize;
+        let limit = match self.dice.below(8) {
+            0 => Some(size.saturating_sub(1) as u32),
+            1 => Some(size as u32),
+            2 => Some(size as u32 + 1),
+            3 => Some(pick(&mut self.dice, &[0, 1, 2, 5, u32::MAX])),
+            _ => None,
+        };
+        let room = match self.dice.below(10) {
+            0 => size.saturating_sub(1),
+            1 => self.dice.below(size as u64 + 1) as usize,
+            2 => size + 1 + self.dice.below(9) as usize,
+            3 => 0,
+            _ => size,
+        };
+        if let Some(frame) = self.hold.write(g, limit, room) {
+            self.hold.read(&frame, None);
+        }
+    }
+
+    fn writes(&mut self, count: u64) {
+        for i in 0..count {
+            let g = given::record(&mut self.dice, i % 2_000 == 7);
+            self.write_some(&g);
+        }
+        self.say("records written, and read again");
+    }
+
+    /// Every options byte, reason and QoS written.
+    fn every_write(&mut self) {
+        for o in 0..=255 {
+            let g = Given {
+                kind: 8,
+                filters: vec![b'a'],
+                filter_lengths: vec![1],
+                options: vec![o],
+                ..Given::default()
+            };
+            self.write_some(&g);
+            for block in [false, true] {
+                self.write_some(&Given {
+                    kind: 4,
+                    reason: o,
+                    block,
+                    ..Given::default()
+                });
+                self.write_some(&Given {
+                    kind: 3,
+                    qos: o,
+                    id: o as u16 % 3,
+                    block,
+                    ..Given::default()
+                });
+            }
+        }
+        self.say("every options byte, reason and QoS written");
+    }
+
+    /// The smallest records of docs/DIFFERENCES.md, and about the largest R.
+    fn large_writes(&mut self) {
+        let empty = Given {
+            kind: 3,
+            ..Given::default()
+        };
+        let topic = |n: usize| bytes::Bytes::from(vec![b'x'; n]);
+        for n in [65_535, 65_536, 65_537, 131_072] {
+            let g = Given {
+                topic: topic(n),
+                ..empty.clone()
+            };
+            for limit in [None, Some(5)] {
+                self.hold.write(&g, limit, n + 10);
+            }
+        }
+        let most = 268_435_455;
+        for (bytes, limits) in [
+            (most - 3, &[None, Some(5), Some(268_435_459), Some(268_435_460)][..]),
+            (most - 2, &[None, Some(5), Some(u32::MAX)]),
+            (most + 70_000, &[None, Some(0)]),
+        ] {
+            let g = Given {
+                payload: bytes::Bytes::from(vec![0; bytes]),
+                ..empty.clone()
+            };
+            for limit in limits {
+                self.hold.write(&g, *limit, 16);
+            }
+            self.hold.write(&Given { qos: 1, ..g.clone() }, None, 16);
+        }
+        let g = Given {
+            payload: bytes::Bytes::from(vec![0; most - 3]),
+            ..empty.clone()
+        };
+        if let Some(frame) = self.hold.write(&g, None, most + 5) {
+            self.hold.read(&frame, None);
+            self.hold.read(&frame[..frame.len() - 1], None);
+        }
+        for count in [4_095, 4_096, 4_097] {
+            // filters and pairs of 65,535 bytes, whose sum is about the largest R
+            let g = Given {
+                kind: 8,
+                filters: vec![b'x'; 65_535 * count],
+                filter_lengths: vec![65_535; count],
+                options: vec![0; count],
+                ..Given::default()
+            };
+            self.hold.write(&g, None, 16);
+            self.hold.write(&g, Some(7), 16);
+            let g = Given {
+                kind: 4,
+                block: true,
+                users: g.filters,
+                user_lengths: vec![65_535; count / 2 * 2],
+                ..Given::default()
+            };
+            self.hold.write(&g, None, 16);
+        }
+        self.say("records about the largest R");
+    }
+}
+
+/// The frames of 01's table, and the smallest ones of docs/DIFFERENCES.md.
+const LISTED: [&str; 37] = [
+    "",
+    "30",
+    "30 80",
+    "30 80 80 80 80",
+    "F0 00",
+    "30 00",
+    "C0 00",
+    "30 08 00 03 61 2F 62 00 68 69",
+    "32 06 00 01 61 00 00 00",
+    "30 0B 00 01 61 06 0B 01 0B 02 0B 03 07",
+    "30 06 00 01 61 01 01 00",
+    "30 03 00 01 61",
+    "82 07 00 01 00 00 01 61 01",
+    "82 07 00 01 00 00 01 61 33",
+    "82 03 00 01 00",
+    "40 02 00 0A",
+    "40 03 00 0A 10",
+    "30 06 00 00 03 0B 00 00",
+    "82 08 00 00 03 0B 00 00 00 00",
+    "30 05 00 00 01 01 00",
+    "30 03 00 00 01",
+    "30 08 00 00 04 0B 80 80 80 80",
+    "30 02 00 00",
+    "82 02 00 00",
+    "30 07 00 00 04 0B 80 80 80",
+    "30 05 00 00 03 0B 00",
+    "E0 01 00",
+    "E0 00",
+    "36 00",
+    "40 03 00 01 01",
+    "40 05 00 01 01 01 FF",
+    "40 05 00 01 00 00 FF",
+    "40 04 00 00 00 01",
+    "40 04 00 00 00 80",
+    "40 06 00 01 00 01 FF 00",
+    "D0 02 01 02",
+    "F0 05",
+];
+
+fn unhex(s: &str) -> Vec<u8> {
+    s.split_whitespace().map(|b| u8::from_str_radix(b, 16).unwrap()).collect()
+}
+
+/// The records of docs/DIFFERENCES.md, and whether each goes under a limit.
+fn listed_records() -> Vec<(Given, Option<u32>)> {
+    let publish = Given {
+        kind: 3,
+        ..Given::default()
+    };
+    let zero = Given { qos: 1, ..publish.clone() };
+    let identifier = Given {
+        block: true,
+        ids: vec![268_435_456],
+        ..publish.clone()
+    };
+    let long = Given {
+        topic: vec![b'x'; 65_536].into(),
+        ..publish.clone()
+    };
+    let most = Given {
+        payload: vec![0; 268_435_453].into(),
+        ..publish.clone()
+    };
+    let bare = Given {
+        kind: 8,
+        ..Given::default()
+    };
+    let plain = Given {
+        kind: 4,
+        id: 10,
+        ..Given::default()
+    };
+    let text = Given {
+        kind: 8,
+        filters: vec![0xFF],
+        filter_lengths: vec![1],
+        options: vec![0],
+        ..Given::default()
+    };
+    let extra = Given {
+        sid: Some(1),
+        ..bare.clone()
+    };
+    let words = [
+        (extra, None),
+        (zero, None),
+        (identifier, None),
+        (most.clone(), None),
+        (long.clone(), None),
+        (long, Some(5)),
+        (bare, None),
+        (most, Some(5)),
+        (plain, None),
+        (text, None),
+    ];
+    let pings = [12, 13]
+        .into_iter()
+        .flat_map(|kind| [None, Some(1)].map(|limit| (Given { kind, ..Given::default() }, limit)));
+    words.into_iter().chain(pings).collect()
+}
+
+fn listed(run: &mut Run) {
+    for (g, limit) in listed_records() {
+        run.hold.write(&g, limit, 16);
+        run.hold.write(&g, limit, 0);
+    }
+    for s in LISTED {
+        let s = unhex(s);
+        for limit in [None, Some(0), Some(3), Some(4), Some(7), Some(8), Some(u32::MAX)] {
+            run.hold.read(&s, limit);
+        }
+        run.items_of_read(&s);
+    }
+    run.say("the frames of 01 and of docs/DIFFERENCES.md");
+}
+
+/// Chooses rows for the gate: short inputs, every bucket filled up to a cap.
+fn corpus(run: &mut Run, file: &str, cap: u32) {
+    run.hold.corpus = Some(Corpus::new(cap));
+    listed(run);
+    run.every_option_and_reason();
+    run.every_property();
+    for first in 0..=255u8 {
+        for body in [&[0][..], &[0, 0], &[0, 0, 0], &[0x80, 1, 2]] {
+            run.read_body(first, body);
+        }
+    }
+    run.every_write();
+    run.random(60_000);
+    run.writes(120_000);
+    let x = vec![b'x'; 65_536];
+    let text = |bytes: &[u8]| Lent {
+        present: true,
+        bytes: bytes.to_vec(),
+    };
+    let long = [
+        Given {
+            kind: 3,
+            topic: x.clone().into(),
+            ..Given::default()
+        },
+        Given {
+            kind: 4,
+            block: true,
+            reason_string: text(&x),
+            ..Given::default()
+        },
+        Given {
+            kind: 8,
+            filters: x.clone(),
+            filter_lengths: vec![65_536],
+            options: vec![0],
+            ..Given::default()
+        },
+    ];
+    run.hold.corpus.as_mut().unwrap().long = true;
+    for g in &long {
+        run.hold.write(g, Some(5), 8);
+    }
+    let kept = run.hold.corpus.take().unwrap();
+    let bytes = kept.bytes();
+    if run.hold.failures > 0 {
+        return;
+    }
+    std::fs::write(file, &bytes).unwrap();
+    println!("{file}: {} rows, {} bytes", kept.len(), bytes.len());
+    let mut types: BTreeMap<u8, u64> = BTreeMap::new();
+    let mut refusals: BTreeMap<u8, u64> = BTreeMap::new();
+    let mut classes: BTreeMap<Entries, u64> = BTreeMap::new();
+    for ((kind, no, class), count) in &kept.tally {
+        *types.entry(*kind).or_default() += count;
+        *refusals.entry(*no).or_default() += count;
+        *classes.entry(*class).or_default() += count;
+    }
+    println!("rows by type {types:?}\nrows by refusal {refusals:?}");
+    for (class, count) in classes {
+        println!("{count:7} rows of class {}", entries(class));
+    }
+}
+
+fn report(run: &Run) {
+    let h = &run.hold;
+    let seconds = run.start.elapsed().as_secs();
+    println!(
+        "\n{} reads, {} items, {} writes with their sizes, {seconds} s",
+        h.reads, h.items, h.writes
+    );
+    println!("answers to reads, by refusal (0: accepted): {:?}", &h.read_answers[..22]);
+    println!("answers to writes, by refusal (0: accepted): {:?}", &h.write_answers[..22]);
+    println!("panics of the crate: {}", h.panics);
+    for (what, classes) in [("reads", &h.read_classes), ("writes", &h.write_classes)] {
+        for (class, seen) in classes {
+            println!("{:10} {what} of class {}", seen.count, entries(*class));
+            if *class != 0 {
+                println!("           {}", seen.what.chars().take(600).collect::<String>());
+            }
+        }
+    }
+}
+
+fn main() {
+    let mut args = std::env::args().skip(1);
+    let (mut seed, mut share, mut file, mut cap, mut only_listed) = (2026u64, 100, None, 14, false);
+    while let Some(a) = args.next() {
+        let mut value = || args.next().unwrap_or_else(|| panic!("{a} wants a value"));
+        match a.as_str() {
+            "--seed" => seed = value().parse().unwrap(),
+            "--share" => share = value().parse().unwrap(),
+            "--cap" => cap = value().parse().unwrap(),
+            "--fault" => port::seed(entry(value().trim_start_matches('D').parse().unwrap())),
+            "--corpus" => file = Some(value()),
+            "--listed" => only_listed = true,
+            _ => panic!("what is {a}?"),
+        }
+    }
+    std::panic::set_hook(Box::new(|_| {}));
+    println!("the port: {}; seed {seed}; {share} percent", port::name());
+    let mut run = Run {
+        hold: Hold::new(),
+        dice: Dice::new(seed),
+        start: Instant::now(),
+        share,
+    };
+    match file {
+        Some(file) => corpus(&mut run, &file, cap),
+        None if only_listed => {
+            run.hold.show = true;
+            listed(&mut run);
+        }
+        None => {
+            listed(&mut run);
+            run.every_option_and_reason();
+            run.every_property();
+            run.every_write();
+            run.writes(run.scaled(4_000_000));
+            run.random(run.scaled(4_000_000));
+            run.large_writes();
+            run.streams();
+            run.short_bodies();
+            run.bodies_of_three();
+        }
+    }
+    report(&run);
+    if run.hold.failures > 0 {
+        println!("FAILED: {} differences on no list", run.hold.failures);
+        std::process::exit(1);
+    }
+    println!("no unlisted difference");
+}

@@ -1,0 +1,149 @@
+//! The shapes in which all sides answer: refusals by 01's numbers, records as places in the stream.
+
+/// A refusal: its number in 01 and its values, 0 where it has none. Numbers from 101 are errors of the crate that 01 does not number.
+#[derive(Clone, Copy, Debug, PartialEq, Eq, Hash)]
+pub struct No {
+    pub no: u8,
+    pub a: u64,
+    pub b: u64,
+}
+
+/// `InvalidConnectReturnCode(k)`, which the crate's PubAck gives for 15.
+pub const RETURN_CODE: u8 = 101;
+/// `IncorrectPacketFormat`, what the trimmed text gives for a kind that is not carried.
+pub const TRIMMED: u8 = 102;
+/// A panic.
+pub const PANIC: u8 = 103;
+/// An error that no side is known to give.
+pub const UNKNOWN: u8 = 104;
+
+pub fn no(no: u8) -> No {
+    No { no, a: 0, b: 0 }
+}
+pub fn no1(no: u8, a: u64) -> No {
+    No { no, a, b: 0 }
+}
+pub fn no2(no: u8, a: u64, b: u64) -> No {
+    No { no, a, b }
+}
+
+/// The bytes from `start` on, `len` of them.
+#[derive(Clone, Copy, Debug, Default, PartialEq, Eq, Hash)]
+pub struct Span {
+    pub start: usize,
+    pub len: usize,
+}
+
+impl Span {
+    /// The bytes; none if the place lies outside of them.
+    pub fn of(self, s: &[u8]) -> &[u8] {
+        s.get(self.start..).and_then(|t| t.get(..self.len)).unwrap_or(&[])
+    }
+}
+
+/// Where a property block stands.
+#[derive(Clone, Copy, Debug, PartialEq, Eq)]
+pub enum Place {
+    Publish,
+    Subscribe,
+    PubAck,
+}
+
+pub const PLACES: [Place; 3] = [Place::Publish, Place::Subscribe, Place::PubAck];
+
+/// A record as read. What a kind does not have keeps its default.
+#[derive(Clone, Debug, Default, PartialEq, Eq)]
+pub struct Record {
+    /// 3, 4, 8, 12 or 13
+    pub kind: u8,
+    pub dup: bool,
+    pub qos: u8,
+    pub retain: bool,
+    pub id: u16,
+    pub topic: Span,
+    pub payload: Span,
+    /// the place of the properties, if they are present
+    pub block: Option<Span>,
+    pub format: Option<u8>,
+    pub expiry: Option<u32>,
+    pub alias: Option<u16>,
+    pub response: Option<Span>,
+    pub correlation: Option<Span>,
+    pub content: Option<Span>,
+    /// 11 in Subscribe
+    pub sid: Option<u32>,
+    pub filters: Span,
+    pub reason: u8,
+    pub reason_string: Option<Span>,
+}
+
+impl Record {
+    pub fn place(&self) -> Option<Place> {
+        match self.kind {
+            3 => Some(Place::Publish),
+            4 => Some(Place::PubAck),
+            8 => Some(Place::Subscribe),
+            _ => None,
+        }
+    }
+}
+
+/// The lists of a record, item by item. An option of a filter is its bits 0 to 5.
+#[derive(Clone, Debug, Default, PartialEq, Eq)]
+pub struct Lists {
+    pub users: Vec<(Span, Span)>,
+    pub ids: Vec<u32>,
+    pub filters: Vec<(Span, u8)>,
+}
+
+impl Lists {
+    pub fn clear(&mut self) {
+        self.users.clear();
+        self.ids.clear();
+        self.filters.clear();
+    }
+}
+
+/// Record or refusal, and the bytes taken.
+pub type Answer = (Result<Record, No>, usize);
+
+/// What a record is written from: numbers, runs of bytes, lists of lengths. What a kind does not have keeps its default.
+#[derive(Clone, Debug, Default, PartialEq, Eq)]
+pub struct Given {
+    pub kind: u8,
+    pub dup: bool,
+    pub qos: u8,
+    pub retain: bool,
+    pub id: u16,
+    /// whether a property set is present
+    pub block: bool,
+    pub format: Option<u8>,
+    pub expiry: Option<u32>,
+    pub alias: Option<u16>,
+    pub response: Lent,
+    pub correlation: Lent,
+    pub content: Lent,
+    pub reason_string: Lent,
+    pub users: Vec<u8>,
+    pub user_lengths: Vec<usize>,
+    pub ids: Vec<u32>,
+    pub sid: Option<u32>,
+    pub topic: bytes::Bytes,
+    pub payload: bytes::Bytes,
+    pub filters: Vec<u8>,
+    pub filter_lengths: Vec<usize>,
+    pub options: Vec<u8>,
+    pub reason: u8,
+}
+
+/// A string that may be absent; an absent one with bytes is refused (20).
+#[derive(Clone, Debug, Default, PartialEq, Eq)]
+pub struct Lent {
+    pub present: bool,
+    pub bytes: Vec<u8>,
+}
+
+pub fn hex(s: &[u8]) -> String {
+    let shown: Vec<String> = s.iter().take(200).map(|b| format!("{b:02X}")).collect();
+    shown.join(" ") + if s.len() > 200 { " .." } else { "" }
+}
