@@ -1,14 +1,16 @@
 -- How what is held moves to the front, byte by byte, and is still held there. Assumes nothing.
 use mathlib.Core.Path.{_≡_, refl, sym, ap, _∙_}
-use mathlib.Core.List.{List, [], _++_}
-use Prim.Native.Nat.{ℕ, suc, _+_, _≤_, _<_}
+use mathlib.Core.List.{List}
+use Prim.Native.Nat.{ℕ, zero, suc, _+_, _-_, _/_, _≤_, _<_}
 use native.Mathlib.Omega.{arith}
 use native.Mathlib.Numerals.{add-one}
 use lib.ListN.{length, take, drop, getD, set, length-append, length-drop}
-use lib.Seq.{paste, paste-suc, getD-drop, drop-at, length-take-le, take-at}
-use Rattle.reading.specs.Place.{Span, partOf, heldOf}
+use lib.Seq.{sets, length-sets, paste, paste-suc, getD-drop, drop-at, length-take-le, take-at}
+use Rattle.io.specs.Digits.{digits}
+use Rattle.reading.specs.Place.{Span}
 use Rattle.wire.proofs.Laws.Strings.{held-within}
 use Rattle.desk.specs.Held.{fronted, Kept}
+use Rattle.desk.specs.Put.{Put}
 
 module _ (s : List ℕ) (start : ℕ) where
   pub front-none : s ≡ fronted s start 0
@@ -64,3 +66,18 @@ kept-moved s o p f h =
     let n : length part ≡ p .len = length-take-le (p .len) (drop (p .start) s) (rw length-drop (omega arith)) in
     let g : p .len ≤ length o = rw (f h, length-append) (omega (arith, n)) in
     sym (held-within o (record { start = 0; len = p .len }) (omega (arith, g))) ∙ ap (take (p .len)) (f h) ∙ take-at part (drop (p .len) s) (p .len) n ∙ held-within s p h
+
+-- ---- what was put
+
+pub put-whole : (l w : List ℕ) (from : ℕ) {o : List ℕ} {next : ℕ} → o ≡ sets l from w → (next ≤ length o → next ≡ from + length w) → Put l w o next
+put-whole l w from {o} {next} e f h =
+    let n : next ≡ from + length w = f (rw (e, length-sets l from w) h) in
+    let m : from ≡ next - length w = omega arith in
+    (omega arith, e ∙ ap (λ (k : ℕ). sets l k w) m)
+
+pub length-digits : (b k n : ℕ) → length (digits b k n) ≡ k
+length-digits b zero n = refl
+length-digits b (suc k) n = length-append (digits b k (n / b)) _ ∙ rw (length-digits b k (n / b)) (omega arith)
+
+pub put-digits : (l : List ℕ) (n from k : ℕ) {o : List ℕ} {next : ℕ} → o ≡ sets l from (digits 10 k n) → (next ≤ length o → next ≡ from + k) → Put l (digits 10 k n) o next
+put-digits l n from k e f = put-whole l (digits 10 k n) from e (λ h. f h ∙ ap (λ (m : ℕ). from + m) (sym (length-digits 10 k n)))

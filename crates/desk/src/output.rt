@@ -2,6 +2,11 @@
 // A full output is written to standard output. A place past the end of the output says that something could not be written.
 use libc::STDOUT_FILENO;
 use wire::string;
+ghost use mathlib.Core.Path.{_≡_};
+ghost use Prim.Native.Nat.{_+_, _≤_};
+ghost use lib.ListN.{length};
+ghost use Rattle.render.specs.Shown.{hexOf};
+ghost use Rattle.desk.specs.Put.{Put, PutDecimal};
 
 // The place that no output has.
 const LOST: usize = 18446744073709551615;
@@ -36,7 +41,9 @@ fn room(out: &[u8], at: usize, n: usize) -> usize {
 }
 
 // The place after n bytes that were put; lost if they had no room.
-fn after(out: &[u8], at: usize, n: usize) -> usize {
+fn after(out: &[u8], at: usize, n: usize) -> usize
+    ensures { λ r. ⌜ (r ≤ length (now (out .entry)) → r ≡ at + n) ⌝ }
+{
     if out.len() < at {
         return at;
     }
@@ -46,20 +53,26 @@ fn after(out: &[u8], at: usize, n: usize) -> usize {
     LOST
 }
 
-pub fn word(out: &mut [u8], at: usize, w: &[u8]) -> usize {
+pub fn word(out: &mut [u8], at: usize, w: &[u8]) -> usize
+    ensures { λ r. ⌜ Put (now (out .entry)) (now (w .entry)) (now (out .exit)) r ⌝ }
+{
     let from = room(&*out, at, w.len());
     string::put_bytes(&mut *out, from, w);
     after(&*out, from, w.len())
 }
 
-pub fn decimal(out: &mut [u8], at: usize, n: u64) -> usize {
+pub fn decimal(out: &mut [u8], at: usize, n: u64) -> usize
+    ensures { λ r. ⌜ PutDecimal (now (out .entry)) n (now (out .exit)) r ⌝ }
+{
     let from = room(&*out, at, 20);
     let k = render::put_decimal(&mut *out, from, n);
     after(&*out, from, k)
 }
 
 // Two hexadecimal digits.
-pub fn hex(out: &mut [u8], at: usize, b: u8) -> usize {
+pub fn hex(out: &mut [u8], at: usize, b: u8) -> usize
+    ensures { λ r. ⌜ Put (now (out .entry)) (hexOf b) (now (out .exit)) r ⌝ }
+{
     let from = room(&*out, at, 2);
     render::put_hex(&mut *out, from, b);
     after(&*out, from, 2)

@@ -243,18 +243,23 @@ fn read_all(
     d
 }
 
-// The plain words for a frame that is too long.
-fn too_long(out: &mut [u8], d: Desk, most: usize) {
+// Where a frame is that is too long, put from the start of the output on.
+fn too_long_at(out: &mut [u8], d: Desk) -> usize {
     let a = output::word(&mut *out, 0, b"desk: the frame at offset ");
     let b = output::decimal(&mut *out, a, d.offset);
     let c = output::word(&mut *out, b, b" has ");
-    let e = output::decimal(&mut *out, c, d.size);
-    let f = output::word(&mut *out, e, b" bytes, and the buffer holds ");
-    let g = output::decimal(&mut *out, f, most as u64);
-    let h = output::word(&mut *out, g, b": stopped there\n");
+    output::decimal(&mut *out, c, d.size)
+}
+
+// The plain words for it, on standard error.
+fn too_long(out: &mut [u8], d: Desk, most: usize) {
+    let a = too_long_at(&mut *out, d);
+    let b = output::word(&mut *out, a, b" bytes, and the buffer holds ");
+    let c = output::decimal(&mut *out, b, most as u64);
+    let len = output::word(&mut *out, c, b": stopped there\n");
     io::write_all(
         libc::STDERR_FILENO,
-        string::part(&*out, Span { start: 0, len: h }),
+        string::part(&*out, Span { start: 0, len }),
     );
 }
 

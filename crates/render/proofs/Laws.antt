@@ -2,14 +2,13 @@
 use mathlib.Core.Path.{_≡_, refl, sym, ap, _∙_}
 use mathlib.Core.Bool.{Bool, true, false, cond}
 use mathlib.Core.List.{List, [], _∷_, _++_}
-use Prim.Native.Nat.{ℕ, zero, suc, _+_, _-_, _%_, _/_, _≤_, _<_}
+use Prim.Native.Nat.{ℕ, suc, _+_, _-_, _%_, _/_, _≤_, _<_}
 use native.Mathlib.Omega.{arith}
 use native.Mathlib.Numerals.{add-one}
-use lib.Dec.{leb}
-use lib.ListN.{length, take, drop, getD, set, length-append, length-set, drop-of-length-le}
-use lib.Seq.{sets, length-sets, drop-cons, set-out}
-use borrow.Author.Tests.{lt-ltb, le-ltb, le-leb, lt-leb, eq-eqb, ne-eqb}
-use Rattle.numbers.proofs.Laws.Put.{sets-append, sets-out}
+use lib.ListN.{length, take, drop, getD, set, length-append, drop-of-length-le}
+use lib.Seq.{sets, length-sets, drop-cons}
+use borrow.Author.Tests.{lt-ltb, le-ltb, le-leb, lt-leb, ne-eqb}
+use Rattle.numbers.proofs.Laws.Put.{sets-append}
 use Rattle.render.specs.Shown.{hexDigit, hexOf, isMarked, isPlain, shownOf, shownSize, shown, fitting, Shows}
 
 -- ---- digits
@@ -96,10 +95,6 @@ module _ (b : ℕ) where
   pub form-hex : (1 ≡ shownSize b → ⊥) → (2 ≡ shownSize b → ⊥) → shownOf b ≡ 92 ∷ 120 ∷ hexOf b
   unfolding shownSize shownOf choice
   form-hex f g = four (isMarked b) (isPlain b) f g
-
-  pub size-hex : (1 ≡ shownSize b → ⊥) → (2 ≡ shownSize b → ⊥) → 4 ≡ shownSize b
-  unfolding shownSize
-  size-hex f g = rw (form-hex f g)
 
 -- ---- its stores
 

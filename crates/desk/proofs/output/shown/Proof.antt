@@ -1,7 +1,6 @@
 -- `desk::output::shown` ends since each turn shows one byte at least. Assumes nothing.
-use mathlib.Core.Path.{_≡_, refl}
+use mathlib.Core.Path.{_≡_}
 use Prim.Native.Nat.{_-_, _≤_}
-use native.Mathlib.Omega.{arith}
 use borrow.Author.Needs.{needs}
 use lib.ListN.{length}
 use Rattle.desk.proofs.output.shown.Statement.{statement}
