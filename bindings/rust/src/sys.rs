@@ -1,0 +1,104 @@
+//! The proved library's functions and the layouts of the arrays that they fill, as bindings/c/ecchjulmina.h declares them.
+//! tests/header.rs holds every line of this file that matters against the header.
+#![allow(missing_docs)]
+
+macro_rules! layout {
+    ($($name:ident = $at:literal),* $(,)?) => {
+        $(pub const $name: usize = $at;)*
+        /// The names and numbers, for the test against the header.
+        pub const LAYOUT: &[(&str, usize)] = &[$((stringify!($name), $at)),*];
+    };
+}
+
+layout! {
+    ECCH_PUBLISH = 3, ECCH_PUBACK = 4, ECCH_SUBSCRIBE = 8, ECCH_PINGREQ = 12, ECCH_PINGRESP = 13,
+    ECCH_SIZE = 0, ECCH_VALUE_1 = 1, ECCH_VALUE_2 = 2, ECCH_ANSWER_LEN = 3,
+    ECCH_TAKEN = 0, ECCH_KIND = 3, ECCH_PKID = 4, ECCH_DUP = 5, ECCH_QOS = 6, ECCH_RETAIN = 7, ECCH_REASON = 8,
+    ECCH_TOPIC_START = 9, ECCH_TOPIC_LEN = 10, ECCH_PAYLOAD_START = 11, ECCH_PAYLOAD_LEN = 12, ECCH_FILTERS_START = 13,
+    ECCH_FILTERS_LEN = 14, ECCH_BLOCK = 15, ECCH_BLOCK_START = 16, ECCH_BLOCK_LEN = 17, ECCH_FORMAT = 18, ECCH_FORMAT_VALUE = 19,
+    ECCH_EXPIRY = 20, ECCH_EXPIRY_VALUE = 21, ECCH_ALIAS = 22, ECCH_ALIAS_VALUE = 23, ECCH_RESPONSE = 24, ECCH_RESPONSE_START = 25,
+    ECCH_RESPONSE_LEN = 26, ECCH_CORRELATION = 27, ECCH_CORRELATION_START = 28, ECCH_CORRELATION_LEN = 29, ECCH_CONTENT = 30,
+    ECCH_CONTENT_START = 31, ECCH_CONTENT_LEN = 32, ECCH_REASON_STRING = 33, ECCH_REASON_STRING_START = 34,
+    ECCH_REASON_STRING_LEN = 35, ECCH_SUBSCRIPTION = 36, ECCH_SUBSCRIPTION_VALUE = 37, ECCH_RECORD_LEN = 38,
+    ECCH_PROPERTY_NEXT = 0, ECCH_PROPERTY_IDENTIFIER = 1, ECCH_PROPERTY_NUMBER = 2, ECCH_PROPERTY_START = 3, ECCH_PROPERTY_LEN = 4,
+    ECCH_PROPERTY_SECOND_START = 5, ECCH_PROPERTY_SECOND_LEN = 6, ECCH_PROPERTY_NUMBERS = 7,
+    ECCH_NEXT_FILTER_NEXT = 0, ECCH_NEXT_FILTER_START = 1, ECCH_NEXT_FILTER_LEN = 2, ECCH_NEXT_FILTER_QOS = 3,
+    ECCH_NEXT_FILTER_NO_LOCAL = 4, ECCH_NEXT_FILTER_PRESERVE_RETAIN = 5, ECCH_NEXT_FILTER_RULE = 6, ECCH_NEXT_FILTER_NUMBERS = 7,
+}
+
+extern "C" {
+    pub fn ecch_read(stream: *const u8, stream_len: usize, limited: u8, limit: usize, record: *mut u64, record_len: usize) -> u32;
+    pub fn ecch_property(stream: *const u8, stream_len: usize, kind: u8, at: usize, item: *mut u64, item_len: usize) -> u32;
+    pub fn ecch_next_filter(stream: *const u8, stream_len: usize, at: usize, item: *mut u64, item_len: usize) -> u32;
+    pub fn ecch_publish_size(
+        dup: u8, qos: u8, retain: u8, pkid: u16,
+        topic: *const u8, topic_len: usize,
+        block: u8,
+        format_on: u8, format: u8,
+        expiry_on: u8, expiry: u32,
+        alias_on: u8, alias: u16,
+        response_on: u8, response: *const u8, response_len: usize,
+        correlation_on: u8, correlation: *const u8, correlation_len: usize,
+        user: *const u8, user_len: usize, user_lengths: *const usize, user_lengths_len: usize,
+        identifiers: *const u32, identifiers_len: usize,
+        content_on: u8, content: *const u8, content_len: usize,
+        payload: *const u8, payload_len: usize,
+        answer: *mut u64, answer_len: usize,
+    ) -> u32;
+    pub fn ecch_publish_write(
+        dup: u8, qos: u8, retain: u8, pkid: u16,
+        topic: *const u8, topic_len: usize,
+        block: u8,
+        format_on: u8, format: u8,
+        expiry_on: u8, expiry: u32,
+        alias_on: u8, alias: u16,
+        response_on: u8, response: *const u8, response_len: usize,
+        correlation_on: u8, correlation: *const u8, correlation_len: usize,
+        user: *const u8, user_len: usize, user_lengths: *const usize, user_lengths_len: usize,
+        identifiers: *const u32, identifiers_len: usize,
+        content_on: u8, content: *const u8, content_len: usize,
+        payload: *const u8, payload_len: usize,
+        limited: u8, limit: usize,
+        out: *mut u8, out_len: usize,
+        answer: *mut u64, answer_len: usize,
+    ) -> u32;
+    pub fn ecch_subscribe_size(
+        pkid: u16,
+        block: u8,
+        identifier_on: u8, identifier: u32,
+        user: *const u8, user_len: usize, user_lengths: *const usize, user_lengths_len: usize,
+        filters: *const u8, filters_len: usize, filter_lengths: *const usize, filter_lengths_len: usize,
+        options: *const u8, options_len: usize,
+        answer: *mut u64, answer_len: usize,
+    ) -> u32;
+    pub fn ecch_subscribe_write(
+        pkid: u16,
+        block: u8,
+        identifier_on: u8, identifier: u32,
+        user: *const u8, user_len: usize, user_lengths: *const usize, user_lengths_len: usize,
+        filters: *const u8, filters_len: usize, filter_lengths: *const usize, filter_lengths_len: usize,
+        options: *const u8, options_len: usize,
+        limited: u8, limit: usize,
+        out: *mut u8, out_len: usize,
+        answer: *mut u64, answer_len: usize,
+    ) -> u32;
+    pub fn ecch_puback_size(
+        pkid: u16, reason: u8,
+        block: u8,
+        reason_string_on: u8, reason_string: *const u8, reason_string_len: usize,
+        user: *const u8, user_len: usize, user_lengths: *const usize, user_lengths_len: usize,
+        answer: *mut u64, answer_len: usize,
+    ) -> u32;
+    pub fn ecch_puback_write(
+        pkid: u16, reason: u8,
+        block: u8,
+        reason_string_on: u8, reason_string: *const u8, reason_string_len: usize,
+        user: *const u8, user_len: usize, user_lengths: *const usize, user_lengths_len: usize,
+        limited: u8, limit: usize,
+        out: *mut u8, out_len: usize,
+        answer: *mut u64, answer_len: usize,
+    ) -> u32;
+    pub fn ecch_ping_size(answer: *mut u64, answer_len: usize) -> u32;
+    pub fn ecch_pingreq_write(limited: u8, limit: usize, out: *mut u8, out_len: usize, answer: *mut u64, answer_len: usize) -> u32;
+    pub fn ecch_pingresp_write(limited: u8, limit: usize, out: *mut u8, out_len: usize, answer: *mut u64, answer_len: usize) -> u32;
+}

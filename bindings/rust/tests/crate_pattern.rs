@@ -1,0 +1,169 @@
+//! rumqttc's own call pattern: bytes arrive in pieces, `Packet::read` is called until it lacks bytes.
+use bytes::{Bytes, BytesMut};
+use ecchjulmina::*;
+
+/// As the crate's framed network does it: read while packets come, ask for more on InsufficientBytes, give up on anything else.
+fn read_all(pieces: &[&[u8]], max: Option<u32>) -> (Vec<Packet>, Option<Error>) {
+    let mut stream = BytesMut::with_capacity(10 * 1024);
+    let mut packets = Vec::new();
+    for piece in pieces {
+        stream.extend_from_slice(piece);
+        loop {
+            match Packet::read(&mut stream, max) {
+                Ok(packet) => packets.push(packet),
+                Err(Error::InsufficientBytes(_)) => break,
+                Err(e) => return (packets, Some(e)),
+            }
+        }
+    }
+    (packets, None)
+}
+
+const THREE: &[u8] = &[0x30, 0x0B, 0x00, 0x01, 0x61, 0x06, 0x0B, 0x01, 0x0B, 0x02, 0x0B, 0x03, 0x07];
+
+#[test]
+fn three_identifiers_are_read_right() {
+    let mut stream = BytesMut::from(THREE);
+    let Packet::Publish(m) = Packet::read(&mut stream, None).unwrap() else { panic!() };
+    assert_eq!(m.properties.unwrap().subscription_identifiers, [1, 2, 3]);
+    assert_eq!(&m.payload[..], [7]);
+    assert_eq!(&m.topic[..], b"a");
+    assert!(stream.is_empty());
+}
+
+#[test]
+fn pieces_of_every_size_give_the_same_packets() {
+    let bytes: Vec<u8> = [THREE, &[0xC0, 0x00], &[0x40, 0x02, 0x00, 0x0A], THREE].concat();
+    let (whole, none) = read_all(&[&bytes], None);
+    assert_eq!((whole.len(), none), (4, None));
+    for n in 1..bytes.len() {
+        let pieces: Vec<&[u8]> = bytes.chunks(n).collect();
+        assert_eq!(read_all(&pieces, None), (whole.clone(), None));
+    }
+}
+
+#[test]
+fn topic_and_payload_share_the_streams_memory() {
+    let mut stream = BytesMut::from(THREE);
+    let from = stream.as_ptr() as usize;
+    let Packet::Publish(m) = Packet::read(&mut stream, None).unwrap() else { panic!() };
+    assert_eq!(m.topic.as_ptr() as usize, from + 4);
+    assert_eq!(m.payload.as_ptr() as usize, from + 12);
+}
+
+#[test]
+fn refusals_take_what_01_says() {
+    let rows: &[(&[u8], Option<u32>, Error, usize)] = &[
+        (&[], None, Error::InsufficientBytes(2), 0),
+        (&[0x30, 0x80], None, Error::InsufficientBytes(1), 0),
+        (&[0x30, 0x80, 0x80, 0x80, 0x80], None, Error::MalformedRemainingLength, 0),
+        (&[0xF0, 0x00, 9], None, Error::InvalidPacketType(15), 2),
+        (&[0x30, 0x00], None, Error::PayloadRequired, 2),
+        (&[0xE0, 0x01, 0x00], None, Error::KindNotCarried(14), 3),
+        (&[0x30, 0x08, 0, 3, 0x61, 0x2F, 0x62, 0, 0x68, 0x69], Some(7), Error::PayloadSizeLimitExceeded { pkt_size: 8, max: 7 }, 0),
+        (&[0x32, 0x06, 0, 1, 0x61, 0, 0, 0], None, Error::PacketIdZero, 8),
+        (&[0x82, 0x07, 0, 1, 0, 0, 1, 0x61, 0x33], None, Error::InvalidRetainForwardRule(3), 9),
+        (&[0x82, 0x03, 0, 1, 0], None, Error::EmptySubscription, 5),
+        (&[0x40, 0x03, 0, 1, 1], None, Error::InvalidReason(1), 5),
+    ];
+    for (bytes, max, error, taken) in rows {
+        let mut stream = BytesMut::from(*bytes);
+        assert_eq!(Packet::read(&mut stream, *max), Err(*error));
+        assert_eq!(bytes.len() - stream.len(), *taken, "{error}");
+    }
+}
+
+fn records() -> Vec<Packet> {
+    let users = vec![("reel".to_string(), "7".to_string()), ("".to_string(), "é".to_string())];
+    vec![
+        Packet::Publish(Publish::new("a/b", QoS::AtMostOnce, "hi", None)),
+        Packet::Publish(Publish {
+            dup: true,
+            retain: true,
+            pkid: 9,
+            ..Publish::new(
+                "line/3/length",
+                QoS::ExactlyOnce,
+                Bytes::from(vec![7; 300]),
+                Some(PublishProperties {
+                    payload_format_indicator: Some(1),
+                    message_expiry_interval: Some(3600),
+                    topic_alias: Some(2),
+                    response_topic: Some("desk".into()),
+                    correlation_data: Some(Bytes::from_static(&[0, 255])),
+                    user_properties: users.clone(),
+                    subscription_identifiers: vec![1, 128, 268_435_455],
+                    content_type: Some("text/plain".into()),
+                }),
+            )
+        }),
+        Packet::Subscribe(Subscribe {
+            pkid: 1,
+            filters: vec![
+                Filter::new("line/#", QoS::AtLeastOnce),
+                Filter { nolocal: true, preserve_retain: true, retain_forward_rule: RetainForwardRule::Never, ..Filter::new("+/x", QoS::ExactlyOnce) },
+            ],
+            properties: Some(SubscribeProperties { id: Some(5), user_properties: users.clone() }),
+        }),
+        Packet::PubAck(PubAck::new(10, None)),
+        Packet::PubAck(PubAck {
+            pkid: 11,
+            reason: PubAckReason::QuotaExceeded,
+            properties: Some(PubAckProperties { reason_string: Some("full".into()), user_properties: users }),
+        }),
+        Packet::PingReq(PingReq),
+        Packet::PingResp(PingResp),
+    ]
+}
+
+#[test]
+fn what_is_written_is_appended_and_reads_back() {
+    let mut buffer = BytesMut::from(&b"before"[..]);
+    for packet in records() {
+        let start = buffer.len();
+        let size = packet.write(&mut buffer, None).unwrap();
+        assert_eq!(size, packet.size());
+        assert_eq!(buffer.len(), start + size);
+    }
+    let mut stream = buffer.split_off(6);
+    assert_eq!(&buffer[..], b"before");
+    for packet in records() {
+        assert_eq!(Packet::read(&mut stream, None), Ok(packet));
+    }
+    assert!(stream.is_empty());
+}
+
+#[test]
+fn a_refused_write_leaves_the_buffer() {
+    let long = "x".repeat(65_536);
+    let big = Some(PublishProperties { subscription_identifiers: vec![1 << 40], ..Default::default() });
+    let rows: Vec<(Packet, Option<u32>, Error)> = vec![
+        (records()[0].clone(), Some(9), Error::OutgoingPacketTooLarge { pkt_size: 10, max: 9 }),
+        (Packet::Publish(Publish::new("a", QoS::AtLeastOnce, "", None)), None, Error::PacketIdZero),
+        (Packet::Publish(Publish::new(long.clone(), QoS::AtMostOnce, "", None)), Some(5), Error::StringTooLong(65_536)),
+        (Packet::Publish(Publish::new("a", QoS::AtMostOnce, "", big)), None, Error::PayloadTooLong),
+        (Packet::Subscribe(Subscribe::new_many([], None)), None, Error::EmptySubscription),
+    ];
+    for (packet, max, error) in rows {
+        let mut buffer = BytesMut::from(&b"as it stood"[..]);
+        assert_eq!(packet.write(&mut buffer, max), Err(error));
+        assert_eq!(&buffer[..], b"as it stood");
+    }
+}
+
+#[test]
+fn places_give_the_parts_and_the_lists() {
+    let mut buffer = BytesMut::new();
+    let packet = &records()[1];
+    packet.write(&mut buffer, None).unwrap();
+    let (answer, taken) = places::read(&buffer, None);
+    let r = answer.ok().unwrap();
+    assert_eq!(taken, buffer.len());
+    assert_eq!((r.kind(), r.pkid(), r.qos(), r.dup(), r.retain()), (places::Kind::Publish, 9, QoS::ExactlyOnce, true, true));
+    assert_eq!(r.topic(), b"line/3/length");
+    assert_eq!(r.content_type(), Some(&b"text/plain"[..]));
+    assert_eq!(r.correlation_data(), Some(&[0u8, 255][..]));
+    assert_eq!(r.user_properties().collect::<Vec<_>>(), [(&b"reel"[..], &b"7"[..]), (&b""[..], "é".as_bytes())]);
+    assert_eq!(r.subscription_identifiers().collect::<Vec<_>>(), [1, 128, 268_435_455]);
+    assert_eq!(r.payload().len(), 300);
+}
