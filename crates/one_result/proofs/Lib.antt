@@ -2,3 +2,4 @@ pub mod Laws
 pub mod Answers
 pub mod Leaves
 pub mod Packets
+pub mod Writers
