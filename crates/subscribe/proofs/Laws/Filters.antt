@@ -22,12 +22,12 @@ use Rattle.positions.proofs.Less.{filter-less}
 use Rattle.positions.proofs.Trails.{trails-byte, trails-text, trails-filter}
 use Rattle.positions.proofs.Position.{got-left, got-within, bad-left, left-at, left-bad}
 use Rattle.positions.proofs.Run.{Passed, none-passed, item-ahead, passed-end, passed-bad, passed-next, nth-behind}
-use Rattle.wire.specs.Qos.{qosOf}
 use Rattle.records.specs.Said.{toldFilter}
 use Rattle.records.specs.Answered.{toldFilterItem, ruleOf}
 use Rattle.records.specs.declared.answer.FilterItem.{FilterItem}
 use Rattle.records.specs.declared.answer.FilterItem.the-variants.{NoItem}
 use Rattle.records.specs.declared.subscribe.Filter as said
+use Rattle.wire.specs.Qos.{qosOf}
 use Rattle.subscribe.specs.Told.{optionsOf, placeFit, chosen, nthFit}
 
 -- ---- the options byte
