@@ -2,19 +2,21 @@
 use mathlib.Core.Bool.{Bool, true, false}
 use mathlib.Core.Option.{Option, none, some}
 use mathlib.Core.List.{List, [], _∷_}
-use Prim.Native.Nat.{ℕ, _+_}
+use Prim.Native.Nat.{ℕ, _+_, _-_}
+use lib.Dec.{leb}
 use lib.ListN.{length}
 use Rattle.grammar.specs.Choice.{isIn, lookup}
 use Rattle.grammar.specs.Tables.{reasons, Layout, aPublish, anAck, aSubscribe, aPing, kinds, reserved}
 use Rattle.grammar.specs.Record.{kindOf}
-use Rattle.reading.specs.Refusal.{nr}
-use Rattle.reading.specs.Reader.{Fit, got, bad, Reader, thenOf}
+use Rattle.reading.specs.Refusal.{nr, within, over}
+use Rattle.reading.specs.Reader.{Fit, got, bad, _>>_, guard, Reader, thenOf}
 use Rattle.reading.specs.Read.{byteOf, numOf, frameOf}
 use Rattle.reading.specs.Place.{partOf}
 use Rattle.positions.specs.Position.{fromAt}
 use Rattle.records.specs.Told.{toldError}
 use Rattle.framing.specs.declared.check.Checked.{Checked}
 use Rattle.framing.specs.declared.check.Checked.the-variants.{Header, Refused}
+use Rattle.framing.specs.declared.header.FixedHeader.{FixedHeader}
 use Rattle.framing.specs.declared.header.Kind.{Kind}
 use Rattle.framing.specs.declared.header.Kind.the-variants as kind
 
@@ -41,9 +43,24 @@ abbrev pub headerOf : Reader (ℕ × ℕ)
 headerOf = thenOf (byteOf (nr 1 (2 ∷ []))) (λ _. numOf (nr 1 (1 ∷ [])) 4)
 
 -- the first byte and R, and the index after them
+abbrev pub headerIn : FixedHeader → (ℕ × ℕ) × ℕ
+headerIn h = ((h .byte1, h .«remaining_len»), h .«fixed_header_len»)
+
 abbrev pub toldHeader : Checked → Fit ((ℕ × ℕ) × ℕ)
-toldHeader (Header h) = got ((h .byte1, h .«remaining_len»), h .«fixed_header_len»)
+toldHeader (Header h) = got (headerIn h)
 toldHeader (Refused e) = bad (toldError e)
+
+-- 01, row 3: a header under the limit
+abbrev pub limitedTo : Option ℕ → (ℕ × ℕ) × ℕ → Fit ((ℕ × ℕ) × ℕ)
+limitedTo limit z = guard (within limit (z .0 .1)) (over limit (z .0 .1)) >> got z
+
+-- 01, row 1: a header with n bytes held behind it
+abbrev pub wholeIn : ℕ → (ℕ × ℕ) × ℕ → Fit ((ℕ × ℕ) × ℕ)
+wholeIn n z = guard (leb (z .0 .1) n) (nr 1 ((z .0 .1 - n) ∷ [])) >> got z
+
+-- 01, reading order: the first refusal of two
+abbrev pub first : Fit ((ℕ × ℕ) × ℕ) → Fit ((ℕ × ℕ) × ℕ) → Fit ((ℕ × ℕ) × ℕ)
+first a b = a >> b
 
 -- a frame at the start of the stream s
 abbrev pub frameAt : Option ℕ → List ℕ → Fit ((ℕ × List ℕ) × ℕ)

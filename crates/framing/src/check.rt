@@ -7,7 +7,7 @@ use records::error::Error;
 ghost use mathlib.Core.Path.{_≡_};
 ghost use Rattle.positions.specs.Position.{fromAt};
 ghost use Rattle.records.specs.Told.{limitOf};
-ghost use Rattle.framing.specs.Told.{headerOf, toldHeader, frameAt, toldChecked};
+ghost use Rattle.framing.specs.Told.{headerIn, headerOf, toldHeader, limitedTo, wholeIn, first, frameAt, toldChecked};
 
 pub enum Checked {
     Header(FixedHeader),
@@ -36,6 +36,41 @@ pub fn parse_fixed_header(stream: &[u8]) -> Checked
     }
 }
 
+// 3: the header, if the limit lets R pass.
+fn limited(h: FixedHeader, limit: Limit) -> Checked
+    ensures { λ r. ⌜ toldHeader r ≡ limitedTo (limitOf limit) (headerIn h) ⌝ }
+{
+    let rest = h.remaining_len;
+    if let Limit::AtMost(most) = limit {
+        if most < rest {
+            return Checked::Refused(Error::PayloadSizeLimitExceeded(rest, most));
+        }
+    }
+    Checked::Header(h)
+}
+
+// 1: the header, if R bytes are among those held behind it.
+fn whole(h: FixedHeader, held: usize) -> Checked
+    ensures { λ r. ⌜ toldHeader r ≡ wholeIn held (headerIn h) ⌝ }
+{
+    let rest = h.remaining_len;
+    if held < rest {
+        let lacks = rest - held;
+        return Checked::Refused(Error::InsufficientBytes(lacks));
+    }
+    Checked::Header(h)
+}
+
+// The first refusal of two.
+fn then(a: Checked, b: Checked) -> Checked
+    ensures { λ r. ⌜ toldHeader r ≡ first (toldHeader a) (toldHeader b) ⌝ }
+{
+    match a {
+        Checked::Refused(e) => Checked::Refused(e),
+        Checked::Header(_) => b,
+    }
+}
+
 // The header, if the limit lets R pass and R bytes follow.
 pub fn check(stream: &[u8], limit: Limit) -> Checked
     ensures { λ r. ⌜ toldChecked (now (stream .entry)) r ≡ frameAt (limitOf limit) (now (stream .entry)) ⌝ }
@@ -43,18 +78,10 @@ pub fn check(stream: &[u8], limit: Limit) -> Checked
     match parse_fixed_header(stream) {
         Checked::Refused(e) => Checked::Refused(e),
         Checked::Header(h) => {
-            let rest = h.remaining_len;
             let held = stream.len() - h.fixed_header_len;
-            if let Limit::AtMost(most) = limit {
-                if most < rest {
-                    return Checked::Refused(Error::PayloadSizeLimitExceeded(rest, most));
-                }
-            }
-            if held < rest {
-                let lacks = rest - held;
-                return Checked::Refused(Error::InsufficientBytes(lacks));
-            }
-            Checked::Header(h)
+            let under = limited(h, limit);
+            let full = whole(h, held);
+            then(under, full)
         }
     }
 }

@@ -1,18 +1,18 @@
 -- A frame is its header, then the limit, then whether its bytes are there; and what a reader of the frame's fields goes on from.
 -- Assumes nothing.
 use mathlib.Core.Path.{_≡_, refl, sym, ap, _∙_}
-use mathlib.Core.Bool.{true, false}
+use mathlib.Core.Bool.{Bool, true, false}
 use mathlib.Core.Option.{Option}
 use mathlib.Core.List.{List, [], _∷_}
 use Prim.Native.Nat.{ℕ, _+_, _-_, _≤_, _<_}
 use native.Mathlib.Omega.{arith}
-use lib.Dec.{leb}
+use lib.Dec.{leb, leb→le}
 use lib.ListN.{length, take, drop, getD, length-drop}
 use lib.Seq.{drop-drop, length-take-le}
 use Rattle.reading.specs.Refusal.{Refusal, nr, lacking, within, over, refused}
 use Rattle.reading.specs.Reader.{Fit, got, bad, _>>=_, _>>_, guard, onlyOf, thenOf, sizedOf, isFit}
 use Rattle.reading.specs.Read.{byteOf, numOf, Shape, frameOf, wholeAnswer, frameAnswer, readAs}
-use Rattle.reading.proofs.Lists.{leb-yes, leb-no}
+use Rattle.reading.proofs.Lists.{leb-yes, leb-no, leb-false}
 use Rattle.reading.proofs.Reading.{reads-then}
 use Rattle.reading.proofs.Fields.{reads-byte, reads-num}
 use Rattle.reading.proofs.Demand.{reads-length, reads-frame}
@@ -20,10 +20,9 @@ use Rattle.positions.specs.Position.{fromAt}
 use Rattle.positions.proofs.At.{part-slice}
 use Rattle.positions.proofs.Trails.{Trails, trails-reads}
 use Rattle.positions.proofs.Position.{got-left, got-within, bad-left, left-at, left-bad}
-use Rattle.records.specs.Told.{limitOf}
-use Rattle.framing.specs.Told.{headerOf, frameAt}
-use Rattle.records.specs.declared.answer.Limit.{Limit}
-use Rattle.records.specs.declared.answer.Limit.the-variants.{Unlimited, AtMost}
+use Rattle.framing.specs.Told.{headerOf, toldHeader, limitedTo, wholeIn, first, frameAt, toldChecked}
+use Rattle.framing.specs.declared.check.Checked.{Checked}
+use Rattle.framing.specs.declared.check.Checked.the-variants.{Header, Refused}
 
 -- ---- the header
 
@@ -74,14 +73,13 @@ frame-framed limit end (x ∷ t) = go (numOf (nr 1 (1 ∷ [])) 4 t)
     go (got z) = refl
     go (bad k) = refl
 
--- what the limit lets pass
-pub at-most : {limit : Limit} {m l : ℕ} → limit ≡ AtMost m → l ≤ m → within (limitOf limit) l ≡ true
-unfolding within
-at-most {m = m} {l = l} e h = rw e (leb-yes l m h)
+-- the R bytes of a header
+abbrev cutOut : List ℕ → (ℕ × ℕ) × ℕ → Fit ((ℕ × List ℕ) × ℕ)
+cutOut s z = got ((z .0 .0, take (z .0 .1) (drop (z .1) s)), z .1 + z .0 .1)
 
-pub unlimited : {limit : Limit} (l : ℕ) → limit ≡ Unlimited → within (limitOf limit) l ≡ true
-unfolding within
-unlimited l e = rw e
+told-cut : (s : List ℕ) (c : Checked) → toldChecked s c ≡ (toldHeader c >>= cutOut s)
+told-cut s (Header h) = refl
+told-cut s (Refused k) = refl
 
 header-trails : Trails headerOf
 header-trails = trails-reads (reads-then (reads-byte (nr 1 (2 ∷ []))) (λ _. reads-num (nr 1 (1 ∷ [])) 4))
@@ -98,21 +96,39 @@ module _ (limit : Option ℕ) (s : List ℕ) where
     header-left : headerOf s ≡ got ((x, l), drop m s)
     header-left = got-left headerOf s 0 header-trails (x, l) m (sym e)
 
-    pub frame-over : within limit l ≡ false → bad (over limit l) ≡ frameAt limit s
+    frame-over : within limit l ≡ false → bad (over limit l) ≡ frameAt limit s
     frame-over w = sym (left-bad (frameOf limit (length s)) s 0 (over limit l) (frame-framed limit (length s) s ∙ rw (header-left, w)))
 
     module _ (w : within limit l ≡ true) where
-      pub frame-lacking : length s - m < l → bad (nr 1 ((l - (length s - m)) ∷ [])) ≡ frameAt limit s
+      frame-lacking : length s - m < l → bad (nr 1 ((l - (length s - m)) ∷ [])) ≡ frameAt limit s
       frame-lacking h =
           let b : leb l (length (drop m s)) ≡ false = leb-no l (length (drop m s)) (rw length-drop h) in
           sym (left-bad (frameOf limit (length s)) s 0 (nr 1 ((l - (length s - m)) ∷ [])) (frame-framed limit (length s) s ∙ rw (header-left, w, b, length-drop m s)))
 
-      pub frame-whole : l ≤ length s - m → got ((x, take l (drop m s)), m + l) ≡ frameAt limit s
+      frame-whole : l ≤ length s - m → got ((x, take l (drop m s)), m + l) ≡ frameAt limit s
       frame-whole h =
           let b : leb l (length (drop m s)) ≡ true = leb-yes l (length (drop m s)) (rw length-drop h) in
           sym (left-at (frameOf limit (length s)) s 0 (x, take l (drop m s)) (m + l)
           (frame-framed limit (length s) s ∙ rw (header-left, w, b, drop-drop l m s))
           (omega (arith, header-within s x l m e)))
+
+    frame-tests : (first (limitedTo limit ((x, l), m)) (wholeIn (length s - m) ((x, l), m)) >>= cutOut s) ≡ frameAt limit s
+    frame-tests = under (within limit l) refl
+      where
+        z : (ℕ × ℕ) × ℕ
+        z = ((x, l), m)
+
+        full : within limit l ≡ true → (b : Bool) → leb l (length s - m) ≡ b → ((guard b (nr 1 ((l - (length s - m)) ∷ [])) >> got z) >>= cutOut s) ≡ frameAt limit s
+        full w false b = frame-lacking w (leb-false l (length s - m) b)
+        full w true b = frame-whole w (leb→le l (length s - m) (rw b tt))
+
+        under : (w : Bool) → within limit l ≡ w → (first (guard w (over limit l) >> got z) (wholeIn (length s - m) z) >>= cutOut s) ≡ frameAt limit s
+        under false w = frame-over w
+        under true w = full w (leb l (length s - m)) refl
+
+    -- the limit, then whether R bytes are there
+    pub frame-checked : (c : Checked) → toldHeader c ≡ first (limitedTo limit ((x, l), m)) (wholeIn (length s - m) ((x, l), m)) → toldChecked s c ≡ frameAt limit s
+    frame-checked c t = told-cut s c ∙ ap (λ f. f >>= cutOut s) t ∙ frame-tests
 
   -- ---- the readers of fields go on from a checked frame
 
