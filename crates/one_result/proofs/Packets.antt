@@ -15,10 +15,11 @@ use Rattle.records.specs.declared.puback.MaybePubAckProperties.{MaybePubAckProp
 use Rattle.records.specs.declared.publish.MaybePublishProperties.{MaybePublishProperties}
 use Rattle.records.specs.declared.subscribe.Filter.{Filter}
 use Rattle.records.specs.declared.subscribe.MaybeSubscribeProperties.{MaybeSubscribeProperties}
-use Rattle.properties.specs.Block.{toldPublishBlockAt, toldSubscribeBlockAt, toldPubAckBlockAt}
-use Rattle.properties.specs.declared.publish.GotPublishBlock.{GotPublishBlock}
+use Rattle.properties.specs.Block.{toldSubscribeBlockAt, toldPubAckBlockAt}
 use Rattle.properties.specs.declared.puback.GotPubAckBlock.{GotPubAckBlock}
 use Rattle.properties.specs.declared.subscribe.GotSubscribeBlock.{GotSubscribeBlock}
+use Rattle.publish_properties.specs.Singles.{toldPublishBlockAt}
+use Rattle.publish_properties.specs.declared.GotPublishBlock.{GotPublishBlock}
 use Rattle.puback.specs.Told.{toldGotPubAck}
 use Rattle.puback.specs.declared.GotPubAck.{GotPubAck}
 use Rattle.subscribe.specs.Told.{toldGotFilter, toldGotFilters, toldGotSubscribe}

@@ -1,20 +1,17 @@
 -- The block of each row of 01's table, property by property, and what the answers tell. Assumes nothing.
-use mathlib.Core.Bool.{Bool, true, false}
-use mathlib.Core.Option.{Option, none, some}
+use mathlib.Core.Option.{Option, some}
 use mathlib.Core.List.{List, [], _∷_}
 use Prim.Native.Nat.{ℕ}
 use lib.ListN.{length, drop}
 use Rattle.grammar.specs.Gram.{forget}
 use Rattle.grammar.specs.Tables.{Place, publishPlace, subscribePlace, ackPlace}
-use Rattle.grammar.specs.Record.{Val, num, str, PropOf, lastFrom, PublishProps, publishProps, SubscribeProps, subscribeProps, AckProps, ackProps}
+use Rattle.grammar.specs.Record.{PropOf, lastFrom, PublishProps, publishProps, SubscribeProps, subscribeProps, AckProps, ackProps}
 use Rattle.reading.specs.Refusal.{cut, crossed}
 use Rattle.reading.specs.Reader.{Fit, got, bad, Reader, sizedOf, foldFit}
 use Rattle.reading.specs.Read.{numOf, anyBytes, stringFit, propertyOf}
 use Rattle.reading.specs.Place.{Span, asPlaces, onGot}
-use Rattle.records.specs.Told.{toldError, toldSpan}
-use Rattle.records.specs.Said.{toldPublishBlock, toldSubscribeBlock, toldPubAckBlock}
-use Rattle.properties.specs.declared.publish.GotPublishBlock.{GotPublishBlock}
-use Rattle.properties.specs.declared.publish.Singles.{Singles}
+use Rattle.records.specs.Told.{toldError}
+use Rattle.records.specs.Said.{toldSubscribeBlock, toldPubAckBlock}
 use Rattle.properties.specs.declared.puback.GotPubAckBlock.{GotPubAckBlock}
 use Rattle.properties.specs.declared.subscribe.GotSubscribeBlock.{GotSubscribeBlock}
 
@@ -83,30 +80,7 @@ module _ (w : Row) where
   unfoldable pub filledAt : List ℕ → Span → Fit (Option (w .Props) × ℕ)
   filledAt s p = onGot (λ o. (some o, length s)) (loopFrom (w .made p []) s (p .start))
 
--- ---- the single values of a Publish while its block is read
-
--- 01, table of properties: a value, if it is given
-abbrev pub given : Bool → Val Span → Option (Val Span)
-given true v = some v
-given false v = none
-
-abbrev pub toldSingles : Singles → PublishProps Span (λ A. Span)
-toldSingles p = record {
-  format = given (p .«has_format») (num (p .format));
-  expiry = given (p .«has_expiry») (num (p .expiry));
-  alias = given (p .«has_alias») (num (p .alias));
-  response = given (p .«has_response») (str (toldSpan (p .response)));
-  correlation = given (p .«has_correlation») (str (toldSpan (p .correlation)));
-  user = toldSpan (p .block);
-  subscriptions = toldSpan (p .block);
-  content = given (p .«has_content») (str (toldSpan (p .content)));
-}
-
 -- ---- answers: the properties, if there are any, and the index after the block; or the refusal
-
-abbrev pub toldPublishBlockAt : GotPublishBlock → Fit (Option (PublishProps Span (λ A. Span)) × ℕ)
-toldPublishBlockAt (GotPublishBlock.Value p n) = got (toldPublishBlock p, n)
-toldPublishBlockAt (GotPublishBlock.Refused e) = bad (toldError e)
 
 abbrev pub toldSubscribeBlockAt : GotSubscribeBlock → Fit (Option (SubscribeProps Span (λ A. Span)) × ℕ)
 toldSubscribeBlockAt (GotSubscribeBlock.Value p n) = got (toldSubscribeBlock p, n)

@@ -1,5 +1,4 @@
-// The properties of a packet, after the loops of `read` in publish.rs, subscribe.rs and puback.rs: their blocks.
-mod block;
+// The properties of a packet, after the loops of `read` in subscribe.rs and puback.rs: their blocks; that of a Publish is in `publish_properties`.
+pub mod block;
 pub mod puback;
-pub mod publish;
 pub mod subscribe;

@@ -1,8 +1,7 @@
 // A Publish, after publish.rs: the read of its fields, and its strings as parts of the stream.
 use numbers::fixed;
 use numbers::got::GotU16;
-use properties::publish;
-use properties::publish::GotPublishBlock;
+use publish_properties::GotPublishBlock;
 use records::error::Error;
 use records::publish::MaybePublishProperties;
 use records::publish::Publish;
@@ -80,7 +79,7 @@ pub fn read(s: &[u8], at: usize, byte1: u8) -> GotPublish
         GotSpan::Refused(e) => GotPublish::Refused(e),
         GotSpan::Value(topic, a) => match read_pkid(s, a, qos) {
             GotU16::Refused(e) => GotPublish::Refused(e),
-            GotU16::Value(pkid, b) => match publish::read_publish_block(s, b) {
+            GotU16::Value(pkid, b) => match publish_properties::read_publish_block(s, b) {
                 GotPublishBlock::Refused(e) => GotPublish::Refused(e),
                 GotPublishBlock::Value(properties, start) => {
                     let payload = Span {

@@ -8,7 +8,7 @@ use Rattle.positions.specs.Position.{fromAt}
 use Rattle.numbers.specs.Told.{toldGotU16}
 use Rattle.wire.specs.Qos.{toldGotQos}
 use Rattle.wire.specs.Told.{toldPart}
-use Rattle.properties.specs.Block.{toldPublishBlockAt}
+use Rattle.publish_properties.specs.Singles.{toldPublishBlockAt}
 use Rattle.publish.proofs.Laws.{qos-fine, qos-refused, topic-within, topic-bad, pkid-bad, block-within, block-bad, fields-got}
 use Rattle.publish.proofs.read.Statement.{statement}
 use Rattle.publish.proofs.read.Tie as tie

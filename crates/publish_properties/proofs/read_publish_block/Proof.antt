@@ -1,4 +1,4 @@
--- `properties::publish::read_publish_block` meets its contract: the room of the block is what `read_room` found; with no byte in it the block is absent,
+-- `publish_properties::read_publish_block` meets its contract: the room of the block is what `read_room` found; with no byte in it the block is absent,
 -- else it is what `fill` makes of the slice that ends with it. Assumes nothing.
 use mathlib.Core.Path.{sym, ap, _∙_}
 use native.Mathlib.Omega.{arith}
@@ -6,11 +6,11 @@ use lib.Seq.{length-take-le}
 use borrow.Author.Needs.{needs}
 use denote.Ref.{now}
 use Rattle.wire.specs.Told.{toldPart}
 use Rattle.properties.specs.Block.{publishRow}
 use Rattle.properties.proofs.Laws.Fold.{publish-lawful}
 use Rattle.properties.proofs.Laws.Block.{room-stands, block-bad, block-absent, block-present}
-use Rattle.properties.proofs.publish.read_publish_block.Statement.{statement}
-use Rattle.properties.proofs.publish.read_publish_block.Tie as tie
+use Rattle.publish_properties.proofs.read_publish_block.Statement.{statement}
+use Rattle.publish_properties.proofs.read_publish_block.Tie as tie
 
 read-room-requires : tie.Need-read-room-requires
 read-room-requires c κs = search needs

@@ -1,6 +1,6 @@
 // The properties of a Publish, after `PublishProperties::read` of publish.rs. Of a property given twice the last counts; the lists are
 // left in the block, whose place the record keeps.
-use crate::block;
+use properties::block;
 use property_value::GotProperty;
 use property_value::Value;
 use records::error::Error;
@@ -26,7 +26,8 @@ ghost use Rattle.positions.specs.Position.{fromAt};
 ghost use Rattle.records.specs.Told.{toldSpan, toldU8, toldU16, toldU32, toldString};
 ghost use Rattle.records.specs.Said.{toldPublishProperties};
 ghost use Rattle.property_value.specs.Told.{toldValue, formOf};
-ghost use Rattle.properties.specs.Block.{given, toldSingles, publishRow, applied, filledAt, toldPublishBlockAt};
+ghost use Rattle.properties.specs.Block.{publishRow, applied, filledAt};
+ghost use Rattle.publish_properties.specs.Singles.{given, toldSingles, toldPublishBlockAt};
 
 // The properties, if there are any, and the index after the block; or the refusal.
 pub enum GotPublishBlock {

@@ -1,4 +1,4 @@
--- `properties::publish::fill` meets its contract. The loop's invariant: the rest of the loop decides the whole. Each property takes a byte at
+-- `publish_properties::fill` meets its contract. The loop's invariant: the rest of the loop decides the whole. Each property takes a byte at
 -- least, and what is left of the slice is the measure. Assumes nothing.
 use mathlib.Core.Path.{sym, ap, _∙_}
 use mathlib.Core.Option.{some}
@@ -9,10 +9,11 @@ use borrow.Author.Needs.{needs}
 use Rattle.reading.specs.Reader.{got}
 use Rattle.records.specs.Told.{toldSpan}
 use Rattle.property_value.specs.Told.{toldProperty}
-use Rattle.properties.specs.Block.{toldSingles, publishRow, loopFrom}
+use Rattle.properties.specs.Block.{publishRow, loopFrom}
+use Rattle.publish_properties.specs.Singles.{toldSingles}
 use Rattle.properties.proofs.Laws.Fold.{Filling, filling-start, filling-next, filling-ahead, over-ahead, filling-over, filled-bad, filled-end}
-use Rattle.properties.proofs.publish.fill.Statement.{statement}
-use Rattle.properties.proofs.publish.fill.Tie as tie
+use Rattle.publish_properties.proofs.fill.Statement.{statement}
+use Rattle.publish_properties.proofs.fill.Tie as tie
 
 abbrev Inv-loop : tie.InvT-loop
 Inv-loop s p₀ at₀ p at = Filling publishRow s (loopFrom publishRow (toldSingles p₀) s at₀) (toldSingles p) at

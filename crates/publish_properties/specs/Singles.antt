@@ -1,0 +1,33 @@
+-- What the values that a Publish keeps while its block is read tell, and the answer. Assumes nothing.
+use mathlib.Core.Bool.{Bool, true, false}
+use mathlib.Core.Option.{Option, none, some}
+use Prim.Native.Nat.{ℕ}
+use Rattle.grammar.specs.Record.{Val, num, str, PublishProps}
+use Rattle.reading.specs.Reader.{Fit, got, bad}
+use Rattle.reading.specs.Place.{Span}
+use Rattle.records.specs.Told.{toldError, toldSpan}
+use Rattle.records.specs.Said.{toldPublishBlock}
+use Rattle.publish_properties.specs.declared.GotPublishBlock.{GotPublishBlock}
+use Rattle.publish_properties.specs.declared.Singles.{Singles}
+
+-- 01, table of properties: a value, if it is given
+abbrev pub given : Bool → Val Span → Option (Val Span)
+given true v = some v
+given false v = none
+
+abbrev pub toldSingles : Singles → PublishProps Span (λ A. Span)
+toldSingles p = record {
+  format = given (p .«has_format») (num (p .format));
+  expiry = given (p .«has_expiry») (num (p .expiry));
+  alias = given (p .«has_alias») (num (p .alias));
+  response = given (p .«has_response») (str (toldSpan (p .response)));
+  correlation = given (p .«has_correlation») (str (toldSpan (p .correlation)));
+  user = toldSpan (p .block);
+  subscriptions = toldSpan (p .block);
+  content = given (p .«has_content») (str (toldSpan (p .content)));
+}
+
+-- the properties, if there are any, and the index after the block; or the refusal
+abbrev pub toldPublishBlockAt : GotPublishBlock → Fit (Option (PublishProps Span (λ A. Span)) × ℕ)
+toldPublishBlockAt (GotPublishBlock.Value p n) = got (toldPublishBlock p, n)
+toldPublishBlockAt (GotPublishBlock.Refused e) = bad (toldError e)
