@@ -23,6 +23,7 @@ use Rattle.writing.specs.Refuse.{Faulty, long-raw, long-word, long-filter, bad-
 use Rattle.writing.specs.Refuse as refuse
 use Rattle.writing.specs.Meant.{said, Typed}
 use Rattle.writing.proofs.Verdict.{accepted-when, refused-when, answered-when, unanswered-when, sized-when, unsized-when}
+use Rattle.writing.proofs.Verdict as verdict
 use Rattle.writing.proofs.Demand.{writes, written-size, out-refused, out-written, out-length}
 use Rattle.records.specs.Told.{toldError, rowOf, limitOf}
 use Rattle.records.specs.Answered.{toldSized, toldWritten}
@@ -181,3 +182,12 @@ module _ (h : Handed) (z : Sized) where
       let u = unsized-when h (toldError e) in
       (λ i. refusing.own (u .0 (sym c ∙ ap toldSized i)), λ r. sized-injective (c ∙ u .1 (as-own r)))
   uncounted false c e = (λ i. is-foreign (sym c ∙ ap toldSized i), λ r. sized-injective (c ∙ ap bad (as-foreign r)))
+
+  -- 01: "size leaves out a Publish identifier that is 0, and counts four bytes for a subscription identifier too large to write": the size is
+  -- given, and is this number, exactly when nothing else is lent, what is handed over belongs together and R can be written
+  pub counted : (alone : Bool) → Counts alone h z → (n : ℕ) → (z ≡ Sized.Size n) ↔ ((alone ≡ true) × verdict.Sized h × (sizeIs h ≡ n))
+  unfolding sizeOfUnion
+  counted true c n =
+      let u = sized-when h n in
+      (λ i. let (a, l) = u .0 (sym c ∙ ap toldSized i) in (refl, a, l), λ (t, a, l). sized-injective (c ∙ u .1 (a, l)))
+  counted false c n = (λ i. absurd (bad-got (sym c ∙ ap toldSized i)), λ (t, a, l). absurd (no-way t))
