@@ -209,7 +209,7 @@ fn wanted(rec: Rec) -> Packet {
         }),
         Rec::PubAck(m) => Packet::PubAck(PubAck {
             pkid: m.id,
-            reason: *REASONS.iter().find(|r| **r as u8 == m.reason).unwrap(),
+            reason: *REASONS.iter().find(|r| r.code() == m.reason).unwrap(),
             properties: (!m.block.is_empty()).then(|| PubAckProperties { reason_string: owned(m.rstr), user_properties: lists(m.block).0 }),
         }),
     }
