@@ -1,7 +1,7 @@
 /* Ecchjulmina for C: MQTT 5 packets read and written by proved code (crates/capi). x86-64; link with libcapi.a (`rt staticlib capi`).
  *
- * Every function ends, allocates nothing, keeps nothing, and calls nothing but its own code. What each gives for every input is proved
- * (docs/PROMISES.md); that a C caller hands over what the declarations below say is assumed:
+ * Every function ends, allocates nothing, keeps nothing, and calls nothing but its own code and C's memcpy. What each gives for every
+ * input is proved (docs/PROMISES.md); that a C caller hands over what the declarations below say is assumed:
  * - a pointer with a length stands for that many elements that can be read, and for `out`, `record`, `item`, `answer` and `name` also be
  *   written; it is aligned and never NULL, not even with length 0 (ECCH_NOTHING serves there);
  * - what is written overlaps nothing else that is handed over, and no other thread writes what is handed over while the call lasts.
