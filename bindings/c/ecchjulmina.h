@@ -1,7 +1,7 @@
 /* Ecchjulmina for C: MQTT 5 packets read and written by proved code (crates/capi). x86-64; link with libcapi.a (`rt staticlib capi`).
  *
- * Every function ends, allocates nothing, keeps nothing, and calls nothing but its own code. What each gives for every input is proved
- * (docs/PROMISES.md); that a C caller hands over what the declarations below say is assumed:
+ * Every function ends, allocates nothing, keeps nothing, and calls nothing but its own code and C's memcpy. What each gives for every
+ * input is proved (docs/PROMISES.md); that a C caller hands over what the declarations below say is assumed:
  * - a pointer with a length stands for that many elements that can be read, and for `out`, `record`, `item`, `answer` and `name` also be
  *   written; it is aligned and never NULL, not even with length 0 (ECCH_NOTHING serves there);
  * - what is written overlaps nothing else that is handed over, and no other thread writes what is handed over while the call lasts.
@@ -74,9 +74,9 @@ enum ecch_record_layout {
     ECCH_TOPIC_LEN = 10,
     ECCH_PAYLOAD_START = 11,
     ECCH_PAYLOAD_LEN = 12,
-    ECCH_FILTERS_START = 13, /* Subscribe: where the filters stand (ecch_filter) */
+    ECCH_FILTERS_START = 13, /* Subscribe: where the filters stand (ecch_filter, ecch_next_filter) */
     ECCH_FILTERS_LEN = 14,
-    ECCH_BLOCK = 15, /* 1 if there are properties, and where they stand (ecch_user_property, ecch_subscription_identifier) */
+    ECCH_BLOCK = 15, /* 1 if there are properties, and where they stand (ecch_user_property, ecch_subscription_identifier, ecch_property) */
     ECCH_BLOCK_START = 16,
     ECCH_BLOCK_LEN = 17,
     ECCH_FORMAT = 18, /* Publish: payload format indicator */
@@ -119,6 +119,30 @@ enum ecch_filter_layout {
     ECCH_FILTER_LEN = 6
 };
 
+/* `item` of ecch_property. */
+enum ecch_property_layout {
+    ECCH_PROPERTY_NEXT = 0, /* the index after it, where the next one begins; or the refusal's value */
+    ECCH_PROPERTY_IDENTIFIER = 1,
+    ECCH_PROPERTY_NUMBER = 2, /* 0 if the value is no number */
+    ECCH_PROPERTY_START = 3, /* the place of a text, of bytes, or of a user property's key */
+    ECCH_PROPERTY_LEN = 4,
+    ECCH_PROPERTY_SECOND_START = 5, /* the place of a user property's value */
+    ECCH_PROPERTY_SECOND_LEN = 6,
+    ECCH_PROPERTY_NUMBERS = 7
+};
+
+/* `item` of ecch_next_filter: the index after it, or the refusal's value; the place of the text; the options. */
+enum ecch_next_filter_layout {
+    ECCH_NEXT_FILTER_NEXT = 0,
+    ECCH_NEXT_FILTER_START = 1,
+    ECCH_NEXT_FILTER_LEN = 2,
+    ECCH_NEXT_FILTER_QOS = 3,
+    ECCH_NEXT_FILTER_NO_LOCAL = 4,
+    ECCH_NEXT_FILTER_PRESERVE_RETAIN = 5,
+    ECCH_NEXT_FILTER_RULE = 6,
+    ECCH_NEXT_FILTER_NUMBERS = 7
+};
+
 /* ---- reading. A stream is only read. */
 
 /* The packet at the start of the stream: 0, or the refusal's number (1 to 15). If `limited` is not 0, R may be `limit` at most, and 0 is
@@ -129,10 +153,17 @@ uint32_t ecch_read(const uint8_t *stream, size_t stream_len, uint8_t limited, si
 size_t ecch_part(const uint8_t *stream, size_t stream_len, size_t start, size_t len);
 
 /* The n-th item, n from 0, of the list at a place of the stream: 0, or 21 if there is none, or if the place is no well-formed block of
- * the kind (run of filters). `kind` is 3, 4 or 8; any other is 21. */
+ * the kind (run of filters). `kind` is 3, 4 or 8; any other is 21. Each call goes over the list from its start: to have every item, walk
+ * it with ecch_property or ecch_next_filter. */
 uint32_t ecch_user_property(const uint8_t *stream, size_t stream_len, uint8_t kind, size_t start, size_t len, size_t n, uint64_t *item, size_t item_len);
 uint32_t ecch_subscription_identifier(const uint8_t *stream, size_t stream_len, size_t start, size_t len, size_t n, uint64_t *item, size_t item_len);
 uint32_t ecch_filter(const uint8_t *stream, size_t stream_len, size_t start, size_t len, size_t n, uint64_t *item, size_t item_len);
+
+/* The property, or the filter, at index `at` of the stream, whose end is the end of its room: 0, or the refusal's number (property: 2, 7,
+ * 8, 9, 10; filter: 7, 8, 9, 11, 14). `kind` is 3, 4 or 8; any other is 21. To walk what ecch_read found, hand over the stream up to the
+ * end of the block (of the filters) and begin at its start; the item begins where the last one ended, and the last one ends at that end. */
+uint32_t ecch_property(const uint8_t *stream, size_t stream_len, uint8_t kind, size_t at, uint64_t *item, size_t item_len);
+uint32_t ecch_next_filter(const uint8_t *stream, size_t stream_len, size_t at, uint64_t *item, size_t item_len);
 
 /* The name of a refusal, as in 01's table: how many bytes it has (24 at most), 0 for a number that is none of 1 to 21. Its bytes are set
  * from index 0 on, what fits of them; no 0 follows them. */

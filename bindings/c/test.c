@@ -150,6 +150,58 @@ static void items(void) {
     CHECK(ecch_part(three, sizeof three, 13, 0) == 0 && ecch_part(three, sizeof three, SIZE_MAX, 2) == 0);
 }
 
+static uint64_t walk[ECCH_PROPERTY_NUMBERS + 1];
+
+/* What is stored of an item at an index: the index after it (or the refusal's value), then six numbers; the array's rest stays. */
+static void walked(uint32_t given, uint32_t number, uint64_t next, uint64_t a, uint64_t b, uint64_t c, uint64_t d, uint64_t e, uint64_t f) {
+    CHECK(given == number);
+    CHECK(walk[0] == next && walk[1] == a && walk[2] == b && walk[3] == c && walk[4] == d && walk[5] == e && walk[6] == f);
+    CHECK(walk[ECCH_PROPERTY_NUMBERS] == 0xEEEEEEEEEEEEEEEEu);
+    memset(walk, 0xEE, sizeof walk);
+}
+
+static void walks(void) {
+    /* The block of a Publish, every form of value; then that of a Subscribe and of a PubAck. */
+    static const uint8_t block[] = {1,   1,    2,    0x01, 0x02, 0x03, 0x04, 35, 0x05, 0x06, 8,   0x00, 0x01, 'r',  9,    0x00, 0x02, 0xFE,
+                                    0xFF, 38,   0x00, 0x01, 'k',  0x00, 0x02, 'v', 'w',  11,   0x80, 0x01, 3,    0x00, 0x00};
+    static const uint8_t filters[] = {0x99, 0x00, 0x01, 'a', 0x01, 0x00, 0x00, 0x2E};
+    memset(walk, 0xEE, sizeof walk);
+#define PROPERTY(stream, len, kind, at) ecch_property(stream, len, kind, at, walk, ECCH_PROPERTY_NUMBERS)
+    walked(PROPERTY(block, sizeof block, 3, 0), 0, 2, 1, 1, 0, 0, 0, 0);
+    walked(PROPERTY(block, sizeof block, 3, 2), 0, 7, 2, 0x01020304, 0, 0, 0, 0);
+    walked(PROPERTY(block, sizeof block, 3, 7), 0, 10, 35, 0x0506, 0, 0, 0, 0);
+    walked(PROPERTY(block, sizeof block, 3, 10), 0, 14, 8, 0, 13, 1, 0, 0);
+    walked(PROPERTY(block, sizeof block, 3, 14), 0, 19, 9, 0, 17, 2, 0, 0);
+    walked(PROPERTY(block, sizeof block, 3, 19), 0, 27, 38, 0, 22, 1, 25, 2);
+    walked(PROPERTY(block, sizeof block, 3, 27), 0, 30, 11, 128, 0, 0, 0, 0);
+    walked(PROPERTY(block, sizeof block, 3, 30), 0, 33, 3, 0, 33, 0, 0, 0);
+    walked(PROPERTY(block, sizeof block, 8, 27), 0, 30, 11, 128, 0, 0, 0, 0);
+    walked(PROPERTY(block, sizeof block, 4, 19), 0, 27, 38, 0, 22, 1, 25, 2);
+    /* Refusals: past the end, another row, another kind, cut, crossed, not UTF-8, a length too long. */
+    walked(PROPERTY(block, sizeof block, 3, 33), ECCH_MALFORMED_PACKET, 0, 0, 0, 0, 0, 0, 0);
+    walked(PROPERTY(block, sizeof block, 3, SIZE_MAX), ECCH_MALFORMED_PACKET, 0, 0, 0, 0, 0, 0, 0);
+    walked(PROPERTY((const uint8_t *)ECCH_NOTHING, 0, 3, 0), ECCH_MALFORMED_PACKET, 0, 0, 0, 0, 0, 0, 0);
+    walked(PROPERTY(block, sizeof block, 4, 27), ECCH_INVALID_PROPERTY_TYPE, 11, 0, 0, 0, 0, 0, 0);
+    walked(PROPERTY(block, sizeof block, 8, 0), ECCH_INVALID_PROPERTY_TYPE, 1, 0, 0, 0, 0, 0, 0);
+    walked(PROPERTY(block, sizeof block, 12, 0), ECCH_NO_ITEM, 0, 0, 0, 0, 0, 0, 0);
+    walked(PROPERTY(block, sizeof block, 255, SIZE_MAX), ECCH_NO_ITEM, 0, 0, 0, 0, 0, 0, 0);
+    walked(PROPERTY(block, 26, 3, 19), ECCH_BOUNDARY_CROSSED, 2, 0, 0, 0, 0, 0, 0);
+    walked(PROPERTY(block, 24, 3, 19), ECCH_MALFORMED_PACKET, 0, 0, 0, 0, 0, 0, 0);
+    walked(ecch_property(BYTES(8, 0x00, 0x01, 0xFF), 3, 0, walk, ECCH_PROPERTY_NUMBERS), ECCH_TOPIC_NOT_UTF8, 0, 0, 0, 0, 0, 0, 0);
+    walked(ecch_property(BYTES(11, 0xFF, 0xFF, 0xFF, 0xFF), 3, 0, walk, ECCH_PROPERTY_NUMBERS), ECCH_MALFORMED_REMAINING_LENGTH, 0, 0, 0, 0, 0, 0, 0);
+#define FILTER(stream, len, at) ecch_next_filter(stream, len, at, walk, ECCH_NEXT_FILTER_NUMBERS)
+    walked(FILTER(filters, sizeof filters, 1), 0, 5, 3, 1, 1, 0, 0, 0);
+    walked(FILTER(filters, sizeof filters, 5), 0, 8, 7, 0, 2, 1, 1, 2);
+    walked(FILTER(filters, sizeof filters, 8), ECCH_MALFORMED_PACKET, 0, 0, 0, 0, 0, 0, 0);
+    walked(FILTER(filters, sizeof filters, SIZE_MAX), ECCH_MALFORMED_PACKET, 0, 0, 0, 0, 0, 0, 0);
+    walked(FILTER(filters, 3, 1), ECCH_BOUNDARY_CROSSED, 1, 0, 0, 0, 0, 0, 0);
+    walked(ecch_next_filter(BYTES(0x00, 0x00, 0x33), 0, walk, ECCH_NEXT_FILTER_NUMBERS), ECCH_INVALID_RETAIN_FORWARD_RULE, 3, 0, 0, 0, 0, 0, 0);
+    walked(ecch_next_filter(BYTES(0x00, 0x00, 0x03), 0, walk, ECCH_NEXT_FILTER_NUMBERS), ECCH_INVALID_QOS, 3, 0, 0, 0, 0, 0, 0);
+    /* A shorter array takes what fits. */
+    CHECK(ecch_property(block, sizeof block, 3, 2, walk, 1) == 0 && walk[0] == 7 && walk[1] == 0xEEEEEEEEEEEEEEEEu);
+    CHECK(ecch_next_filter(filters, sizeof filters, 1, walk, 2) == 0 && walk[0] == 5 && walk[1] == 3 && walk[2] == 0xEEEEEEEEEEEEEEEEu);
+}
+
 static void names(void) {
     uint8_t name[25];
     memset(name, 0, sizeof name);
@@ -252,6 +304,7 @@ int main(void) {
     refusals();
     packets();
     items();
+    walks();
     names();
     writes();
     printf("%u checks, %u failed\n", cases, failures);

@@ -1,28 +1,41 @@
-/* Reads a stream of MQTT 5 frames from the file named first, and prints topic and payload length of each Publish. */
+/* Reads a stream of MQTT 5 frames from the file named first, and prints topic and payload length of each Publish, and each refusal. */
 #include <inttypes.h>
 #include <stdio.h>
-#include <stdlib.h>
 
 #include "ecchjulmina.h"
 
-int main(int argc, char **argv) {
-    static uint8_t stream[1 << 24];
+static uint8_t stream[1 << 24];
+
+/* The frames one after the other; a refusal that takes its frame is passed over, one that takes nothing ends the stream. */
+static void topics(size_t len) {
     uint64_t r[ECCH_RECORD_LEN];
-    FILE *file = argc > 1 ? fopen(argv[1], "rb") : NULL;
+    size_t at;
+    for (at = 0; at < len; at += r[ECCH_TAKEN]) {
+        uint32_t refused = ecch_read(stream + at, len - at, 0, 0, r, ECCH_RECORD_LEN);
+        if (refused) {
+            printf("%zu: refusal %" PRIu32 "\n", at, refused);
+            if (r[ECCH_TAKEN] == 0) return;
+        } else if (r[ECCH_KIND] == ECCH_PUBLISH) {
+            printf("%zu: ", at);
+            fwrite(stream + at + r[ECCH_TOPIC_START], 1, r[ECCH_TOPIC_LEN], stdout);
+            printf(" %" PRIu64 "\n", r[ECCH_PAYLOAD_LEN]);
+        }
+    }
+}
+
+int main(int argc, char **argv) {
+    FILE *file = argc == 2 ? fopen(argv[1], "rb") : NULL;
+    size_t len;
     if (!file) {
-        fprintf(stderr, "topics: a file with MQTT 5 frames is to be named\n");
+        fprintf(stderr, "topics: name one file with MQTT 5 frames\n");
         return 2;
     }
-    size_t len = fread(stream, 1, sizeof stream, file);
-    fclose(file);
-    for (size_t at = 0; at < len; at += r[ECCH_TAKEN]) {
-        uint32_t refused = ecch_read(stream + at, len - at, 0, 0, r, ECCH_RECORD_LEN);
-        if (refused)
-            printf("%zu: refusal %" PRIu32 "\n", at, refused);
-        else if (r[ECCH_KIND] == ECCH_PUBLISH)
-            printf("%zu: %.*s %" PRIu64 "\n", at, (int)r[ECCH_TOPIC_LEN], (const char *)stream + at + r[ECCH_TOPIC_START], r[ECCH_PAYLOAD_LEN]);
-        if (r[ECCH_TAKEN] == 0)
-            break;
+    len = fread(stream, 1, sizeof stream, file);
+    if (ferror(file) || len == sizeof stream) {
+        fprintf(stderr, "topics: the file cannot be read, or has 16 MiB or more\n");
+        return 1;
     }
+    fclose(file);
+    topics(len);
     return 0;
 }

@@ -1,4 +1,4 @@
-//! Reads a stream of MQTT 5 frames from the file named first, and prints topic and payload length of each Publish.
+//! Reads a stream of MQTT 5 frames from the file named first, and prints topic and payload length of each Publish, and each refusal.
 use ecchjulmina::places::{read, Kind};
 
 fn main() {

@@ -49,9 +49,11 @@ pub enum Error {
 }
 
 impl Error {
-    /// The case of a number of 01, with its values; None for a number that is none of 1 to 21.
+    /// The case of a number that the library gave, with its values; None for 0, success. No value is cut: a limit that is exceeded is below
+    /// R, and a size that is too large is at most 268,435,460.
     pub(crate) fn of(number: u32, one: u64, two: u64) -> Option<Error> {
         Some(match number {
+            0 => return None,
             1 => Error::InsufficientBytes(one as usize),
             2 => Error::MalformedRemainingLength,
             3 => Error::PayloadSizeLimitExceeded { pkt_size: one as usize, max: two as u32 },
@@ -72,8 +74,8 @@ impl Error {
             18 => Error::StringTooLong(one as usize),
             19 => Error::NoRoom(one as usize),
             20 => Error::ListMismatch,
-            21 => Error::NoItem,
-            _ => return None,
+            // 21; there is no other, and a number that nobody knows must not pass for success
+            _ => Error::NoItem,
         })
     }
 

@@ -63,11 +63,15 @@ impl RetainForwardRule {
 macro_rules! reasons {
     ($($name:ident = $n:literal),* $(,)?) => {
         /// Return code in puback
-        #[repr(u8)]
         #[derive(Debug, Clone, Copy, PartialEq, Eq)]
-        pub enum PubAckReason { $($name = $n),* }
+        pub enum PubAckReason { $($name),* }
 
         impl PubAckReason {
+            /// The reason's byte in a packet.
+            pub fn code(self) -> u8 {
+                match self { $(PubAckReason::$name => $n),* }
+            }
+
             /// Of a number that the library gave, which is one of the nine.
             pub(crate) fn of(n: u64) -> PubAckReason {
                 $(if n == $n { return PubAckReason::$name; })*

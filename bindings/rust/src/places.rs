@@ -1,7 +1,8 @@
 //! The records as they are read: no copy, no allocation; strings are parts of the caller's stream, lists are walked in place.
 use crate::{sys::*, Error, PubAckReason, QoS, RetainForwardRule};
 
-/// What the stream begins with, or why it is refused; and how many bytes of the stream that takes.
+/// What the stream begins with, or why it is refused; and how many bytes of the stream that takes. No slice below can panic: the number
+/// taken and every place lie within the stream, which is proved of `ecch_read`.
 pub fn read(stream: &[u8], limit: Option<usize>) -> (Result<Record<'_>, Error>, usize) {
     let mut numbers = [0u64; ECCH_RECORD_LEN];
     // Sound: both pointers stand for whole Rust slices, which do not overlap since one is lent for writing.
@@ -169,10 +170,11 @@ impl<'a> Record<'a> {
         })
     }
 
-    /// The subscription identifiers of a Publish, in order.
+    /// The subscription identifiers of a Publish, in order; that of a Subscribe is `subscription_identifier`.
     pub fn subscription_identifiers(&self) -> impl Iterator<Item = u32> + 'a {
-        self.properties().filter_map(|p| match p {
-            Property::SubscriptionIdentifier(n) => Some(n),
+        let publish = self.kind() == Kind::Publish;
+        self.properties().filter_map(move |p| match p {
+            Property::SubscriptionIdentifier(n) if publish => Some(n),
             _ => None,
         })
     }
@@ -201,6 +203,7 @@ impl<'a> Iterator for Properties<'a> {
         let mut n = [0u64; ECCH_PROPERTY_NUMBERS];
         // Sound: both pointers stand for whole Rust slices, which do not overlap since one is lent for writing.
         let refused = unsafe { ecch_property(self.block.as_ptr(), self.block.len(), self.kind, self.at, n.as_mut_ptr(), n.len()) };
+        // Never so: `read` takes a block only if its properties fill it.
         if refused != 0 {
             self.at = self.block.len();
             return None;
@@ -231,6 +234,7 @@ impl<'a> Iterator for Filters<'a> {
         let mut n = [0u64; ECCH_NEXT_FILTER_NUMBERS];
         // Sound: both pointers stand for whole Rust slices, which do not overlap since one is lent for writing.
         let refused = unsafe { ecch_next_filter(self.run.as_ptr(), self.run.len(), self.at, n.as_mut_ptr(), n.len()) };
+        // Never so: `read` takes a run only if its filters fill it.
         if refused != 0 {
             self.at = self.run.len();
             return None;

@@ -2,6 +2,9 @@
 //! tests/header.rs holds every line of this file that matters against the header.
 #![allow(missing_docs)]
 
+#[cfg(not(all(target_arch = "x86_64", target_os = "linux")))]
+compile_error!("the proved library is built for x86-64 Linux");
+
 macro_rules! layout {
     ($($name:ident = $at:literal),* $(,)?) => {
         $(pub const $name: usize = $at;)*

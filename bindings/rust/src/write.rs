@@ -214,7 +214,7 @@ impl<'a> PubAckParts<'a> {
                 // Sound: every pointer and length is of one Rust slice, none is null, and what is written is borrowed by nobody else.
                 unsafe {
                     $f(
-                        self.m.pkid, self.m.reason as u8,
+                        self.m.pkid, self.m.reason.code(),
                         p.is_some() as u8,
                         text.is_some() as u8, t.as_ptr(), t.len(),
                         self.user.bytes.as_ptr(), self.user.bytes.len(), self.user.lengths.as_ptr(), self.user.lengths.len(),

@@ -19,6 +19,30 @@ fn read_all(pieces: &[&[u8]], max: Option<u32>) -> (Vec<Packet>, Option<Error>) 
     (packets, None)
 }
 
+/// The crate's signatures; a difference does not compile.
+#[test]
+fn signatures_are_the_crates() {
+    let _: fn(&mut BytesMut, Option<u32>) -> Result<Packet, Error> = Packet::read;
+    let _: fn(&Packet, &mut BytesMut, Option<u32>) -> Result<usize, Error> = Packet::write;
+    let _: fn(&Packet) -> usize = Packet::size;
+    let _: fn(&Publish, &mut BytesMut) -> Result<usize, Error> = Publish::write;
+    let _: fn(&Subscribe, &mut BytesMut) -> Result<usize, Error> = Subscribe::write;
+    let _: fn(&PubAck, &mut BytesMut) -> Result<usize, Error> = PubAck::write;
+    let _: fn(&mut BytesMut) -> Result<usize, Error> = PingReq::write;
+    let _: fn(&mut BytesMut) -> Result<usize, Error> = PingResp::write;
+    let _: fn(&Publish) -> usize = Publish::size;
+    let _: fn(&Subscribe) -> usize = Subscribe::size;
+    let _: fn(&PubAck) -> usize = PubAck::size;
+    let _: fn(&PingReq) -> usize = PingReq::size;
+    let _: fn(&PingResp) -> usize = PingResp::size;
+    let _: fn(String, QoS, Vec<u8>, Option<PublishProperties>) -> Publish = Publish::new;
+    let _: fn(Filter, Option<SubscribeProperties>) -> Subscribe = Subscribe::new;
+    let _: fn(Vec<Filter>, Option<SubscribeProperties>) -> Subscribe = Subscribe::new_many;
+    let _: fn(u16, Option<PubAckProperties>) -> PubAck = PubAck::new;
+    let _: fn(String, QoS) -> Filter = Filter::new;
+    let _: fn(u8) -> Option<QoS> = qos;
+}
+
 const THREE: &[u8] = &[0x30, 0x0B, 0x00, 0x01, 0x61, 0x06, 0x0B, 0x01, 0x0B, 0x02, 0x0B, 0x03, 0x07];
 
 #[test]

@@ -3,6 +3,7 @@
 mod given;
 pub mod item;
 pub mod name;
+pub mod next;
 pub mod put_ping;
 pub mod put_puback;
 pub mod put_publish;

@@ -14,6 +14,7 @@ use Rattle.names.specs.declared.shown.Name.{Name}
 use Rattle.wire.proofs.Laws.Strings.{Putting, putting-next, held-within}
 use Rattle.layout.specs.Item.{fitNumber}
 use Rattle.layout.specs.Answer.{answerNumbers}
+use Rattle.layout.specs.Next.{badNumbers}
 use Rattle.layout.specs.Layout.{numbersOf}
 use Rattle.layout.specs.Record.{noBlock, refusedHead, valueAt, numberOf, encoded}
 
@@ -43,10 +44,13 @@ name-put out {m} {b} {n} e f p q = (
   q ∙ ap (λ (l : List ℕ). sets out 0 l) (p ∙ ap (λ (a : Name). heldOf (a .bytes) (record { start = 0; len = a .len })) e ∙ front-held b (replicate (24 - length b) 0) ∙ f),
 )
 
--- ---- a size or a write
+-- ---- a refusal
 
-pub bad-number : (k : Refusal) → rowOf k ≡ fitNumber {A = ℕ} (bad k)
-bad-number (nr k vs) = refl
+pub bad-number : (A : Type 0) (k : Refusal) → rowOf k ≡ fitNumber {A = A} (bad k)
+bad-number A (nr k vs) = refl
 
 pub bad-numbers : (k : Refusal) → 0 ∷ valueAt (valuesOf k) 0 ∷ valueAt (valuesOf k) 1 ∷ [] ≡ answerNumbers (bad k)
 bad-numbers (nr k vs) = refl
+
+pub bad-next : (k : Refusal) → valueAt (valuesOf k) 0 ∷ 0 ∷ 0 ∷ 0 ∷ 0 ∷ 0 ∷ 0 ∷ [] ≡ badNumbers k
+bad-next (nr k vs) = refl

@@ -3,3 +3,4 @@ pub mod Record
 pub mod Item
 pub mod Name
 pub mod Answer
+pub mod Next

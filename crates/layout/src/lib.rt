@@ -2,6 +2,7 @@
 pub mod answer;
 pub mod item;
 pub mod name;
+pub mod next;
 pub mod place;
 pub mod record;
 pub mod store;

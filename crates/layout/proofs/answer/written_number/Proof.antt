@@ -22,7 +22,7 @@ returns : tie.Need-returns
 returns c = search needs
 
 returns-2 : tie.Need-returns-2
-returns-2 c = c .number .ensures ∙ rw (c .before .before .written .given .1) (bad-number (toldError (c .before .before .written .given .0 .0)))
+returns-2 c = c .number .ensures ∙ rw (c .before .before .written .given .1) (bad-number _ (toldError (c .before .before .written .given .0 .0)))
 
 pub written-number-spec : {M : Type 1} → statement M
 written-number-spec =
