@@ -1,17 +1,18 @@
-// Big-endian numbers of one, two and four bytes, after `read_u8`, `read_u16` and `read_u32` of v5/mod.rs.
+// A bit, and big-endian numbers of one, two and four bytes, after `read_u8`, `read_u16` and `read_u32` of v5/mod.rs.
 // A read refuses where a byte is lacking; of a put, what would lie past the end is not stored.
 use crate::got::GotU8;
 use crate::got::GotU16;
 use crate::got::GotU32;
 use records::error::Error;
 ghost use mathlib.Core.Path.{_≡_};
-ghost use Prim.Native.Nat.{_+_, _-_, _*_, _<_};
+ghost use Prim.Native.Nat.{_+_, _-_, _*_, _%_, _<_};
 ghost use lib.ListN.{length};
 ghost use lib.Seq.{sets};
 ghost use Rattle.reading.specs.Refusal.{cut};
 ghost use Rattle.reading.specs.Read.{byteOf, bigOf};
 ghost use Rattle.positions.specs.Position.{fromAt};
 ghost use Rattle.writing.specs.Spell.{wide};
+ghost use Rattle.records.specs.Told.{toldBool};
 ghost use Rattle.numbers.specs.Told.{toldGotU8, toldGotU16, toldGotU32};
 
 // How many bytes stand from `at` on.
@@ -29,6 +30,14 @@ fn digit(high: u32, low: u8) -> u32
     high * 256 + low as u32
 }
 
+// A flag, which is the lowest bit.
+pub fn flag(n: u8) -> bool
+    ensures { λ r. ⌜ toldBool r ≡ n % 2 ⌝ }
+{
+    n % 2 == 1
+}
+
+// The byte at index `at`.
 pub fn read_u8(s: &[u8], at: usize) -> GotU8
     ensures { λ r. ⌜ toldGotU8 r ≡ fromAt (byteOf cut) (now (s .entry)) at ⌝ }
 {
@@ -38,6 +47,7 @@ pub fn read_u8(s: &[u8], at: usize) -> GotU8
     GotU8::Value(s[at], at + 1)
 }
 
+// The number of the two bytes from index `at` on.
 pub fn read_u16(s: &[u8], at: usize) -> GotU16
     ensures { λ r. ⌜ toldGotU16 r ≡ fromAt (bigOf cut 2) (now (s .entry)) at ⌝ }
 {
@@ -49,6 +59,7 @@ pub fn read_u16(s: &[u8], at: usize) -> GotU16
     GotU16::Value(digit(digit(0, high), low) as u16, at + 2)
 }
 
+// The number of the four bytes from index `at` on.
 pub fn read_u32(s: &[u8], at: usize) -> GotU32
     ensures { λ r. ⌜ toldGotU32 r ≡ fromAt (bigOf cut 4) (now (s .entry)) at ⌝ }
 {
@@ -64,6 +75,7 @@ pub fn read_u32(s: &[u8], at: usize) -> GotU32
     )
 }
 
+// The byte n at index `at`.
 pub fn put_u8(out: &mut [u8], at: usize, n: u8)
     ensures { λ r. ⌜ now (out .exit) ≡ sets (now (out .entry)) at (wide 1 n) ⌝ }
 {
@@ -72,6 +84,7 @@ pub fn put_u8(out: &mut [u8], at: usize, n: u8)
     }
 }
 
+// The two bytes of n from index `at` on.
 pub fn put_u16(out: &mut [u8], at: usize, n: u16)
     ensures { λ r. ⌜ now (out .exit) ≡ sets (now (out .entry)) at (wide 2 n) ⌝ }
 {
@@ -81,6 +94,7 @@ pub fn put_u16(out: &mut [u8], at: usize, n: u16)
     }
 }
 
+// The four bytes of n from index `at` on.
 pub fn put_u32(out: &mut [u8], at: usize, n: u32)
     ensures { λ r. ⌜ now (out .exit) ≡ sets (now (out .entry)) at (wide 4 n) ⌝ }
 {

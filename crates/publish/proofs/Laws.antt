@@ -6,7 +6,6 @@ use mathlib.Core.List.{List, [], _∷_}
 use Prim.Native.Nat.{ℕ, zero, suc, _-_, _/_, _%_, _≤_, _<_}
 use native.Mathlib.Omega.{arith}
 use lib.ListN.{length, drop, length-drop}
-use lib.Dec.{eqb}
 use borrow.Author.Tests.{ne-eqb}
 use Rattle.grammar.specs.Tables.{publishPlace, aPublish}
 use Rattle.grammar.specs.Record.{PublishProps, publish, flagQos}
@@ -22,7 +21,6 @@ use Rattle.positions.specs.Position.{fromAt}
 use Rattle.positions.proofs.Trails.{Trails, trails-reads, trails-big, trails-bytes, trails-block}
 use Rattle.positions.proofs.Position.{got-left, got-within, bad-left, left-at, left-bad}
 use Rattle.positions.proofs.Fill.{fill-bad, fill-got}
-use Rattle.records.specs.Told.{toldBool}
 use Rattle.wire.specs.Qos.{qosOf}
 
 -- ---- a reader whose value is tested
@@ -80,12 +78,6 @@ below (suc (suc (suc (suc n)))) q h e = absurd (omega arith)
 
 pub qos-fine : (x q : ℕ) → got q ≡ qosOf (x / 2 % 4) → (notThree (flagQos x) ≡ true) × (q ≡ flagQos x)
 qos-fine x q e = below (x / 2 % 4) q (omega arith) e
-
--- a flag is a bit
-pub flag-told : (n : ℕ) → n < 2 → toldBool (eqb n 1) ≡ n
-flag-told zero h = refl
-flag-told (suc zero) h = refl
-flag-told (suc (suc n)) h = absurd (omega arith)
 
 -- ---- the fields
 

@@ -18,13 +18,13 @@ use wire::qos;
 use wire::qos::GotQos;
 use wire::string;
 ghost use mathlib.Core.Path.{_≡_};
-ghost use Prim.Native.Nat.{_%_, _≤_};
+ghost use Prim.Native.Nat.{_≤_};
 ghost use lib.ListN.{length, drop};
 ghost use Rattle.grammar.specs.Tables.{aPublish};
 ghost use Rattle.reading.specs.Read.{identOf, bytesOf, fieldsFit};
 ghost use Rattle.reading.specs.Place.{asPlaces};
 ghost use Rattle.positions.specs.Position.{fromAt};
-ghost use Rattle.records.specs.Told.{toldBool, toldQoS};
+ghost use Rattle.records.specs.Told.{toldQoS};
 ghost use Rattle.numbers.specs.Told.{toldGotU16};
 ghost use Rattle.wire.specs.Told.{toldPart};
 ghost use Rattle.publish.specs.Told.{toldGotPublish, topicIn, payloadIn, Strings, responseIn, correlationIn, contentIn};
@@ -68,13 +68,6 @@ fn read_pkid(s: &[u8], at: usize, qos: QoS) -> GotU16
     }
 }
 
-// A flag, which is the lowest bit.
-fn flag(n: u8) -> bool
-    ensures { λ r. ⌜ toldBool r ≡ n % 2 ⌝ }
-{
-    n % 2 == 1
-}
-
 // The fields from index `at` to the end of the frame, whose first byte is given: QoS, then left to right.
 pub fn read(s: &[u8], at: usize, byte1: u8) -> GotPublish
     ensures { λ r. ⌜ toldGotPublish r ≡ fieldsFit asPlaces aPublish byte1 (length (now (s .entry))) (drop at (now (s .entry))) ⌝ }
@@ -95,9 +88,9 @@ pub fn read(s: &[u8], at: usize, byte1: u8) -> GotPublish
                         len: s.len() - start,
                     };
                     GotPublish::Value(Publish {
-                        dup: flag(byte1 / 8),
+                        dup: fixed::flag(byte1 / 8),
                         qos,
-                        retain: flag(byte1),
+                        retain: fixed::flag(byte1),
                         topic,
                         pkid,
                         payload,
@@ -116,6 +109,7 @@ pub fn topic<'a>(s: &'a [u8], m: Publish) -> &'a [u8]
     string::part(s, m.topic)
 }
 
+// The payload of `m`.
 pub fn payload<'a>(s: &'a [u8], m: Publish) -> &'a [u8]
     ensures { λ r. ⌜ now r ≡ payloadIn (now (s .entry)) m ⌝ }
 {
@@ -150,6 +144,7 @@ pub fn response_topic<'a>(s: &'a [u8], m: Publish) -> &'a [u8]
     string::part_if(s, place)
 }
 
+// The correlation data of `m`.
 pub fn correlation_data<'a>(s: &'a [u8], m: Publish) -> &'a [u8]
     ensures { λ r. ⌜ now r ≡ correlationIn (now (s .entry)) m ⌝ }
 {
@@ -158,6 +153,7 @@ pub fn correlation_data<'a>(s: &'a [u8], m: Publish) -> &'a [u8]
     string::part_if(s, place)
 }
 
+// The content type of `m`.
 pub fn content_type<'a>(s: &'a [u8], m: Publish) -> &'a [u8]
     ensures { λ r. ⌜ now r ≡ contentIn (now (s .entry)) m ⌝ }
 {

@@ -13,12 +13,11 @@ use wire::qos;
 use wire::qos::GotQos;
 use wire::string;
 ghost use mathlib.Core.Path.{_≡_};
-ghost use Prim.Native.Nat.{_%_};
 ghost use lib.ListN.{length, drop};
 ghost use Rattle.reading.specs.Read.{filterOf};
 ghost use Rattle.reading.specs.Place.{asPlaces};
 ghost use Rattle.positions.specs.Position.{fromAt};
-ghost use Rattle.records.specs.Told.{toldBool, toldSpan};
+ghost use Rattle.records.specs.Told.{toldSpan};
 ghost use Rattle.records.specs.Answered.{toldFilterItem};
 ghost use Rattle.subscribe.specs.Told.{toldGotFilter, optionsOf, toldGotFilters, placeFit, chosen, nthFit, NthFilter};
 
@@ -34,13 +33,6 @@ pub enum GotFilters {
     Refused(Error),
 }
 
-// The lowest bit.
-fn odd(n: u8) -> bool
-    ensures { λ r. ⌜ toldBool r ≡ n % 2 ⌝ }
-{
-    n % 2 == 1
-}
-
 // The filter of a text and its options byte, which ends at `next`: the forward rule before QoS; bits 6 and 7 are ignored.
 fn with_options(path: Span, options: u8, next: usize) -> GotFilter
     ensures { λ r. ⌜ toldGotFilter r ≡ optionsOf (toldSpan path) options next ⌝ }
@@ -53,8 +45,8 @@ fn with_options(path: Span, options: u8, next: usize) -> GotFilter
                 Filter {
                     path,
                     qos,
-                    nolocal: odd(options / 4),
-                    preserve_retain: odd(options / 8),
+                    nolocal: fixed::flag(options / 4),
+                    preserve_retain: fixed::flag(options / 8),
                     retain_forward_rule,
                 },
                 next,

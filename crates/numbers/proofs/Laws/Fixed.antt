@@ -3,6 +3,7 @@ use mathlib.Core.Path.{_≡_, refl, sym, ap, _∙_}
 use mathlib.Core.List.{List, [], _∷_}
 use Prim.Native.Nat.{ℕ, zero, suc, _+_, _-_, _*_, _≤_, _<_}
 use native.Mathlib.Omega.{arith}
+use lib.Dec.{eqb}
 use lib.ListN.{length, drop, getD, length-drop}
 use Rattle.grammar.specs.Number.{bigFrom}
 use Rattle.reading.specs.Refusal.{Refusal}
@@ -12,6 +13,13 @@ use Rattle.reading.proofs.Lists.{leb-yes, leb-no}
 use Rattle.positions.specs.Position.{fromAt}
 use Rattle.positions.proofs.At.{listAt, big-at}
 use Rattle.positions.proofs.Position.{left-at}
+use Rattle.records.specs.Told.{toldBool}
+
+-- a flag is a bit
+pub flag-told : (n : ℕ) → n < 2 → toldBool (eqb n 1) ≡ n
+flag-told zero h = refl
+flag-told (suc zero) h = refl
+flag-told (suc (suc n)) h = absurd (omega arith)
 
 -- the index k further on, as code says it
 abbrev pub further : ℕ → ℕ → ℕ

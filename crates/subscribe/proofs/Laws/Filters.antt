@@ -6,7 +6,7 @@ use mathlib.Core.List.{List, [], _∷_, _++_}
 use Prim.Native.Nat.{ℕ, zero, suc, _+_, _-_, _/_, _%_, _≤_, _<_}
 use native.Mathlib.Nat.{mod-lt}
 use native.Mathlib.Omega.{arith}
-use lib.Dec.{eqb, ltb}
+use lib.Dec.{ltb}
 use lib.ListN.{length, take, drop, length-append, length-drop, drop-of-length-le}
 use lib.Seq.{length-take-le}
 use Rattle.grammar.specs.Record.{Filter, mkFilter}
@@ -22,22 +22,15 @@ use Rattle.positions.proofs.Less.{filter-less}
 use Rattle.positions.proofs.Trails.{trails-byte, trails-text, trails-filter}
 use Rattle.positions.proofs.Position.{got-left, got-within, bad-left, left-at, left-bad}
 use Rattle.positions.proofs.Run.{Passed, none-passed, item-ahead, passed-end, passed-bad, passed-next, nth-behind}
-use Rattle.wire.specs.Qos.{qosOf}
-use Rattle.records.specs.Told.{toldBool}
 use Rattle.records.specs.Said.{toldFilter}
 use Rattle.records.specs.Answered.{toldFilterItem, ruleOf}
 use Rattle.records.specs.declared.answer.FilterItem.{FilterItem}
 use Rattle.records.specs.declared.answer.FilterItem.the-variants.{NoItem}
 use Rattle.records.specs.declared.subscribe.Filter as said
+use Rattle.wire.specs.Qos.{qosOf}
 use Rattle.subscribe.specs.Told.{optionsOf, placeFit, chosen, nthFit}
 
 -- ---- the options byte
-
--- a number below 2 is told by whether it is 1
-pub told-bit : (n : ℕ) → n < 2 → toldBool (eqb n 1) ≡ n
-told-bit zero h = refl
-told-bit (suc zero) h = refl
-told-bit (suc (suc n)) h = absurd (omega arith)
 
 -- of two bits only 3 is refused
 two-bits : (row n : ℕ) → n < 4 → (guard (ltb n 3) (nr row (n ∷ [])) >> got n) ≡ (guard (notThree n) (nr row (3 ∷ [])) >> got n)

@@ -23,11 +23,11 @@ enum-known-e-2 c = search needs
 enum-known-qos : tie.Need-enum-known-qos
 enum-known-qos c = search needs
 
-odd-requires : tie.Need-odd-requires
-odd-requires c κs = search needs
+flag-requires : tie.Need-flag-requires
+flag-requires c κs = search needs
 
-odd-requires-2 : tie.Need-odd-requires-2
-odd-requires-2 c κs = search needs
+flag-requires-2 : tie.Need-flag-requires-2
+flag-requires-2 c κs = search needs
 
 returns : tie.Need-returns
 returns c =
@@ -44,7 +44,7 @@ returns-2 c =
 returns-3 : tie.Need-returns-3
 returns-3 c =
     let a = c .before .before .before .before .before .before .before .before .before .before .args in
-    rw (c .before .odd .ensures, c .odd2 .ensures)
+    rw (c .before .flag .ensures, c .flag2 .ensures)
     (options-fine (toldSpan (a .path)) (a .options) (a .next)
     (rw (c .before .before .before .before .before .before .before .retain-forward-rule2 .given .1) at (c .before .before .before .before .before .before .before .before .before .retain-forward-rule .ensures))
     (rw (c .before .before .before .qos2 .given .1) at (c .before .before .before .before .before .qos .ensures)))
@@ -59,8 +59,8 @@ with-options-spec =
     qos-requires
     enum-known-e-2
     enum-known-qos
-    odd-requires
-    odd-requires-2
+    flag-requires
+    flag-requires-2
     returns
     returns-2
     returns-3)
