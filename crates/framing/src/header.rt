@@ -25,6 +25,7 @@ pub enum Kind {
 }
 
 impl FixedHeader {
+    // The kind that the high four bits name.
     pub fn packet_type(self) -> Kind
         ensures { λ r. ⌜ toldKind r ≡ kindAt (self .byte1) ⌝ }
     {

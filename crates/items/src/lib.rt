@@ -70,6 +70,7 @@ fn nth_value(place: PropertyPlace, id: u8, s: &[u8], p: Span, n: usize) -> Seek
     seek_in(place, id, &s[..end], start, n)
 }
 
+// The n-th user property of the block at a place.
 pub fn user_property(place: PropertyPlace, s: &[u8], p: Span, n: usize) -> UserItem
     ensures { λ r. ⌜ NthUser (placeOf place) (now (s .entry)) p n r ⌝ }
 {

@@ -29,6 +29,7 @@ fn widen(b: u8) -> u32
     b as u32
 }
 
+// The variable length number at index `at`, and how many bytes spell it.
 pub fn length(s: &[u8], at: usize) -> GotLength
     ensures { λ r. ⌜ ((c : Refusal) → toldLength c at r ≡ fromAt (numOf c 4) (now (s .entry)) at) ⌝ }
 {

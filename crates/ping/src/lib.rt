@@ -29,12 +29,14 @@ fn write_ping(out: &mut [u8], first: u8, limit: Limit) -> Written
     }
 }
 
+// A PingReq, and its size; a refused write leaves the output as it stood.
 pub fn write_ping_req(out: &mut [u8], limit: Limit) -> Written
     ensures { λ r. ⌜ WrittenOf (limitOf limit) (ping 12) (now (out .entry)) (now (out .exit)) (toldWritten r) ⌝ }
 {
     write_ping(&mut *out, 0xC0, limit)
 }
 
+// A PingResp, likewise.
 pub fn write_ping_resp(out: &mut [u8], limit: Limit) -> Written
     ensures { λ r. ⌜ WrittenOf (limitOf limit) (ping 13) (now (out .entry)) (now (out .exit)) (toldWritten r) ⌝ }
 {

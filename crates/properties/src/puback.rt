@@ -71,6 +71,7 @@ fn fill(s: &[u8], block: Span) -> GotPubAckBlock
     GotPubAckBlock::Value(MaybePubAckProperties::Present(p), s.len())
 }
 
+// The block of a PubAck at index `at`: its L, and its properties; absent where L is 0.
 pub fn read_puback_block(s: &[u8], at: usize) -> GotPubAckBlock
     ensures { λ r. ⌜ toldPubAckBlockAt r ≡ fromAt (blockOf asPlaces ackPlace (ackAs asPlaces) (length (now (s .entry)))) (now (s .entry)) at ⌝ }
 {

@@ -203,6 +203,7 @@ fn fill(s: &[u8], block: Span) -> GotPublishBlock
     GotPublishBlock::Value(MaybePublishProperties::Present(q), s.len())
 }
 
+// The block of a Publish at index `at`: its L, and its properties; absent where L is 0.
 pub fn read_publish_block(s: &[u8], at: usize) -> GotPublishBlock
     ensures { λ r. ⌜ toldPublishBlockAt r ≡ fromAt (blockOf asPlaces publishPlace (publishAs asPlaces) (length (now (s .entry)))) (now (s .entry)) at ⌝ }
 {

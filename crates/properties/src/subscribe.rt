@@ -71,6 +71,7 @@ fn fill(s: &[u8], block: Span) -> GotSubscribeBlock
     GotSubscribeBlock::Value(MaybeSubscribeProperties::Present(p), s.len())
 }
 
+// The block of a Subscribe at index `at`: its L, and its properties; absent where L is 0.
 pub fn read_subscribe_block(s: &[u8], at: usize) -> GotSubscribeBlock
     ensures { λ r. ⌜ toldSubscribeBlockAt r ≡ fromAt (blockOf asPlaces subscribePlace (subscribeAs asPlaces) (length (now (s .entry)))) (now (s .entry)) at ⌝ }
 {

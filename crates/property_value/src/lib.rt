@@ -81,6 +81,7 @@ fn read_value(form: PropertyForm, k: u8, s: &[u8], at: usize) -> GotProperty
     }
 }
 
+// The property at index `at` of a block: its identifier and its value.
 pub fn read_property(place: PropertyPlace, s: &[u8], at: usize) -> GotProperty
     ensures { λ r. ⌜ PropertyRead (placeOf place) (now (s .entry)) at r ⌝ }
 {

@@ -82,6 +82,7 @@ fn rest(m: PubAckHead, reason_string: &[u8], user: &[u8], user_lengths: &[usize]
     )
 }
 
+// How many bytes the frame is: refused with 20, then 17 for R.
 pub fn size(m: PubAckHead, reason_string: &[u8], user: &[u8], user_lengths: &[usize]) -> Sized
     ensures { λ r. ⌜ toldSized r ≡ sizeOf (ack 4 (handed m (now («reason_string» .entry)) (now (user .entry)) (now («user_lengths» .entry)))) ⌝ }
 {
@@ -140,6 +141,7 @@ fn put(out: &mut [u8], m: PubAckHead, reason_string: &[u8], user: &[u8], user_le
     }
 }
 
+// The frame from place 0 on, and its size; a refused write leaves the output as it stood.
 pub fn write(
     m: PubAckHead,
     reason_string: &[u8],

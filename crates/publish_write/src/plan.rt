@@ -200,6 +200,7 @@ pub struct Lengths {
     pub properties: usize,
 }
 
+// R and L of a record.
 pub fn sizes(
     head: PublishHead,
     topic: &[u8],

@@ -27,6 +27,7 @@ fn put_id(out: &mut [u8], at: usize, id: u8) -> usize
     run::after(out.len(), at, 1)
 }
 
+// A u8 that may be absent, its identifier byte before it.
 pub fn put_u8_if(out: &mut [u8], at: usize, id: u8, v: MaybeU8) -> usize
     ensures { λ r. ⌜ Put (now (out .entry)) at (rowBytes (id, u8) (givenU8 v)) (now (out .exit)) r ⌝ }
 {
@@ -40,6 +41,7 @@ pub fn put_u8_if(out: &mut [u8], at: usize, id: u8, v: MaybeU8) -> usize
     }
 }
 
+// The same of a u16.
 pub fn put_u16_if(out: &mut [u8], at: usize, id: u8, v: MaybeU16) -> usize
     ensures { λ r. ⌜ Put (now (out .entry)) at (rowBytes (id, u16) (givenU16 v)) (now (out .exit)) r ⌝ }
 {
@@ -53,6 +55,7 @@ pub fn put_u16_if(out: &mut [u8], at: usize, id: u8, v: MaybeU16) -> usize
     }
 }
 
+// The same of a u32.
 pub fn put_u32_if(out: &mut [u8], at: usize, id: u8, v: MaybeU32) -> usize
     ensures { λ r. ⌜ Put (now (out .entry)) at (rowBytes (id, u32) (givenU32 v)) (now (out .exit)) r ⌝ }
 {
@@ -74,6 +77,7 @@ fn put_number(out: &mut [u8], at: usize, id: u8, n: u32) -> usize
     1 + write_remaining_length(&mut *out, next, n as usize)
 }
 
+// The same of a variable length number.
 pub fn put_number_if(out: &mut [u8], at: usize, id: u8, v: MaybeU32) -> usize
     ensures { λ r. ⌜ Put (now (out .entry)) at (rowBytes (id, number) (givenU32 v)) (now (out .exit)) r ⌝ }
 {

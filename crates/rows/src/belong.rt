@@ -8,6 +8,7 @@ ghost use mathlib.Core.Bool.{_&&_};
 ghost use Rattle.writing.specs.Handed.{several, addsUp, rowBelongs};
 ghost use Rattle.rows.specs.Given.{givenU8, givenU16, givenU32, givenLent, run, givenPairs};
 
+// Whether both hold.
 pub fn both(a: bool, b: bool) -> bool
     ensures { λ r. ⌜ r ≡ (a && b) ⌝ }
 {
@@ -34,6 +35,7 @@ pub fn adds_up(bytes: &[u8], lengths: &[usize]) -> bool
     left == 0
 }
 
+// 20 of a u8: none where there is no block.
 pub fn u8_belongs(block: bool, v: MaybeU8) -> bool
     ensures { λ r. ⌜ r ≡ rowBelongs block (givenU8 v) ⌝ }
 {
@@ -43,6 +45,7 @@ pub fn u8_belongs(block: bool, v: MaybeU8) -> bool
     }
 }
 
+// 20 of a u16, likewise.
 pub fn u16_belongs(block: bool, v: MaybeU16) -> bool
     ensures { λ r. ⌜ r ≡ rowBelongs block (givenU16 v) ⌝ }
 {
@@ -52,6 +55,7 @@ pub fn u16_belongs(block: bool, v: MaybeU16) -> bool
     }
 }
 
+// 20 of a u32 or a variable length number, likewise.
 pub fn u32_belongs(block: bool, v: MaybeU32) -> bool
     ensures { λ r. ⌜ r ≡ rowBelongs block (givenU32 v) ⌝ }
 {
@@ -61,6 +65,7 @@ pub fn u32_belongs(block: bool, v: MaybeU32) -> bool
     }
 }
 
+// 20 of text or bytes: none where there is no block, and no bytes where there is none.
 pub fn lent_belongs(block: bool, on: bool, s: &[u8]) -> bool
     ensures { λ r. ⌜ r ≡ rowBelongs block (givenLent on (now (s .entry))) ⌝ }
 {
@@ -70,6 +75,7 @@ pub fn lent_belongs(block: bool, on: bool, s: &[u8]) -> bool
     s.len() == 0
 }
 
+// 20 of user properties: lengths that add up, in pairs, and none where there is no block.
 pub fn pairs_belong(block: bool, bytes: &[u8], lengths: &[usize]) -> bool
     ensures { λ r. ⌜ r ≡ rowBelongs block (givenPairs (now (bytes .entry)) (now (lengths .entry))) ⌝ }
 {
@@ -85,6 +91,7 @@ pub fn pairs_belong(block: bool, bytes: &[u8], lengths: &[usize]) -> bool
     lengths.len() == 0
 }
 
+// 20 of subscription identifiers: none where there is no block.
 pub fn ids_belong(block: bool, ids: &[u32]) -> bool
     ensures { λ r. ⌜ r ≡ rowBelongs block (several (now (ids .entry))) ⌝ }
 {

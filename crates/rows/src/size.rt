@@ -13,6 +13,7 @@ ghost use Rattle.rows.specs.Given.{givenU8, givenU16, givenU32, givenLen
 
 const MOST: usize = 268435455;
 
+// The sum, cut off.
 pub fn add(a: usize, b: usize) -> usize
     ensures { λ r. ⌜ r ≡ cap (a + b) ⌝ }
 {
@@ -39,6 +40,7 @@ fn number_size(n: u32) -> usize
     1 + len_len(n as usize)
 }
 
+// The bytes of a u8 that may be absent, its identifier byte among them.
 pub fn one_size_u8(v: MaybeU8) -> usize
     ensures { λ r. ⌜ r ≡ cap (givenSize u8 (givenU8 v)) ⌝ }
 {
@@ -48,6 +50,7 @@ pub fn one_size_u8(v: MaybeU8) -> usize
     }
 }
 
+// The same of a u16.
 pub fn one_size_u16(v: MaybeU16) -> usize
     ensures { λ r. ⌜ r ≡ cap (givenSize u16 (givenU16 v)) ⌝ }
 {
@@ -57,6 +60,7 @@ pub fn one_size_u16(v: MaybeU16) -> usize
     }
 }
 
+// The same of a u32.
 pub fn one_size_u32(v: MaybeU32) -> usize
     ensures { λ r. ⌜ r ≡ cap (givenSize u32 (givenU32 v)) ⌝ }
 {
@@ -66,6 +70,7 @@ pub fn one_size_u32(v: MaybeU32) -> usize
     }
 }
 
+// The same of a variable length number.
 pub fn one_size_number(v: MaybeU32) -> usize
     ensures { λ r. ⌜ r ≡ cap (givenSize number (givenU32 v)) ⌝ }
 {
@@ -85,12 +90,14 @@ pub fn lent_size(on: bool, s: &[u8]) -> usize
     0
 }
 
+// Of user properties.
 pub fn pairs_size(bytes: &[u8], lengths: &[usize]) -> usize
     ensures { λ r. ⌜ r ≡ cap (givenSize pair (givenPairs (now (bytes .entry)) (now (lengths .entry)))) ⌝ }
 {
     add(bytes.len(), 5 * (lengths.len() / 2))
 }
 
+// Of subscription identifiers.
 pub fn ids_size(ids: &[u32]) -> usize
     ensures { λ r. ⌜ r ≡ cap (givenSize number (several (now (ids .entry)))) ⌝ }
 {

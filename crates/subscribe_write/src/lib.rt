@@ -103,6 +103,7 @@ fn rest(
     size::add(size::add(block, filters_size(filters, options)), 2)
 }
 
+// How many bytes the frame is: refused with 20, then 17 for R.
 pub fn size(
     m: SubscribeHead,
     user: &[u8],
@@ -216,6 +217,7 @@ fn put(
     row_puts::put_filters(&mut *out, third, filters, filter_lengths, options);
 }
 
+// The frame from place 0 on, and its size; a refused write leaves the output as it stood.
 pub fn write(
     m: SubscribeHead,
     user: &[u8],

@@ -24,6 +24,7 @@ pub enum PropertyForm {
     NotHere,
 }
 
+// The form of a property of a Publish.
 pub fn publish_property(num: u8) -> PropertyForm
     ensures { λ r. ⌜ toldForm r ≡ lookup publishPlace num ⌝ }
 {
@@ -40,6 +41,7 @@ pub fn publish_property(num: u8) -> PropertyForm
     }
 }
 
+// The form of a property of a Subscribe.
 pub fn subscribe_property(num: u8) -> PropertyForm
     ensures { λ r. ⌜ toldForm r ≡ lookup subscribePlace num ⌝ }
 {
@@ -50,6 +52,7 @@ pub fn subscribe_property(num: u8) -> PropertyForm
     }
 }
 
+// The form of a property of a PubAck.
 pub fn puback_property(num: u8) -> PropertyForm
     ensures { λ r. ⌜ toldForm r ≡ lookup ackPlace num ⌝ }
 {
@@ -60,6 +63,7 @@ pub fn puback_property(num: u8) -> PropertyForm
     }
 }
 
+// The form of a property at a place.
 pub fn property(place: PropertyPlace, num: u8) -> PropertyForm
     ensures { λ r. ⌜ toldForm r ≡ lookup (placeOf place) num ⌝ }
 {
