@@ -6,17 +6,17 @@ use Prim.Native.Nat.{ℕ}
 use lib.ListN.{length, drop}
 use Rattle.grammar.specs.Choice.{lookup}
 use Rattle.grammar.specs.Record.{Val, PropOf, allOf}
+use Rattle.grammar.specs.Tables as tables
 use Rattle.reading.specs.Reader.{Fit, got, _>>=_}
 use Rattle.reading.specs.Read.{propertiesFit}
 use Rattle.reading.specs.Place.{asPlaces, orNoItem, nthOf, valuesAt, userAt, subscriptionAt}
+use Rattle.reading.specs.Place as place
 use Rattle.records.specs.Told.{toldSpan}
 use Rattle.records.specs.Answered.{toldUser, toldIdentifier}
-use Rattle.property_value.specs.Told.{toldValue, formOf}
-use Rattle.grammar.specs.Tables as tables
-use Rattle.reading.specs.Place as place
 use Rattle.records.specs.declared.answer.UserItem.{UserItem}
 use Rattle.records.specs.declared.answer.IdentifierItem.{IdentifierItem}
 use Rattle.records.specs.declared.span.Span.{Span}
+use Rattle.property_value.specs.Told.{toldValue, formOf}
 use Rattle.property_value.specs.declared.Value.{Value}
 use Rattle.items.specs.declared.Seek.{Seek}
 use Rattle.items.specs.declared.Seek.the-variants.{Left, At}

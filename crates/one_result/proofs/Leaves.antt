@@ -9,13 +9,12 @@ use lib.Dec.{eqb}
 use Rattle.grammar.specs.Choice.{pick, lookup}
 use Rattle.grammar.specs.Tables.{Form, u8, u16, u32, number, text, bytes, pair, Place, Layout, aPublish, anAck, aSubscribe, aPing}
 use Rattle.grammar.specs.Record.{Val, num, str, duo}
-use Rattle.reading.specs.Refusal.{Refusal, nr, cut}
+use Rattle.reading.specs.Refusal.{nr, cut}
 use Rattle.reading.specs.Reader.{Fit, got, bad}
 use Rattle.reading.specs.Place as place
 use Rattle.reading.proofs.Reading.{bad-got, got-inj}
 use Rattle.records.specs.Told.{toldError}
 use Rattle.records.proofs.Told.{back-error, error-injective, backQoS, back-qos, backSpan, back-span}
-use Rattle.records.specs.declared.error.Error.{Error}
 use Rattle.records.specs.declared.span.Span.{Span}
 use Rattle.numbers.specs.Told.{toldGotU8, toldGotU16, toldGotU32}
 use Rattle.numbers.specs.Length.{toldLength}
@@ -34,7 +33,6 @@ use Rattle.wire.specs.declared.property.PropertyForm.{PropertyForm}
 use Rattle.framing.specs.Told.{toldKind, toldHeader, toldChecked, frameAt}
 use Rattle.framing.proofs.Laws.Frame as frame
 use Rattle.framing.specs.declared.check.Checked.{Checked}
-use Rattle.framing.specs.declared.header.FixedHeader.{FixedHeader}
 use Rattle.framing.specs.declared.header.Kind.{Kind}
 use Rattle.property_value.specs.Told.{toldValue, formOf, PropertyRead}
 use Rattle.property_value.specs.declared.Value.{Value}

@@ -4,10 +4,9 @@ use mathlib.Core.Option.{Option}
 use Prim.Native.Nat.{ℕ}
 use Rattle.grammar.specs.Record.{PublishProps, SubscribeProps, AckProps}
 use Rattle.grammar.specs.Record as record-of
-use Rattle.reading.specs.Reader.{Fit, got, bad}
+use Rattle.reading.specs.Reader.{Fit}
 use Rattle.reading.specs.Place.{Placed}
 use Rattle.reading.specs.Place as place
-use Rattle.records.specs.Said.{toldPacket}
 use Rattle.records.proofs.Told.{back-error, backSpan, back-span}
 use Rattle.records.proofs.Said.{backPublishBlock, back-publish-block, backSubscribeBlock, back-subscribe-block, backPubAckBlock, back-puback-block, backFilter, back-filter, backPacket, back-packet}
 use Rattle.records.specs.declared.error.Error.{Error}

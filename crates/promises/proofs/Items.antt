@@ -1,12 +1,12 @@
 -- The n-th items of a record that was read: the answers of the item functions, each by its contract, are the lists of the sentence in
 -- order, and then 21. Assumes nothing.
 use mathlib.Core.Path.{_≡_, refl, ap, _∙_, subst}
-use mathlib.Core.Option.{Option, none, some}
+use mathlib.Core.Option.{Option, some}
 use mathlib.Core.List.{List}
 use Prim.Native.Nat.{ℕ}
 use native.Mathlib.Omega.{arith}
 use Rattle.grammar.specs.Tables.{publishPlace, subscribePlace, ackPlace}
-use Rattle.grammar.specs.Record.{PublishProps, SubscribeProps, AckProps, publish, ack, subscribe, ping}
+use Rattle.grammar.specs.Record.{PublishProps, SubscribeProps, AckProps, publish, ack, subscribe}
 use Rattle.grammar.specs.Record as record-of
 use Rattle.grammar.specs.Sentence.{Packet}
 use Rattle.reading.specs.Refusal.{accepted}

@@ -6,13 +6,13 @@ use Prim.Native.Nat.{ℕ}
 use lib.ListN.{length}
 use Rattle.grammar.specs.Choice.{lookup}
 use Rattle.grammar.specs.Record.{Val, num, str, duo, PropOf}
+use Rattle.grammar.specs.Tables as tables
 use Rattle.reading.specs.Reader.{Fit, got, bad}
 use Rattle.reading.specs.Read.{valueAt, propertyOf}
 use Rattle.reading.specs.Place.{asPlaces}
+use Rattle.reading.specs.Place as place
 use Rattle.positions.specs.Position.{fromAt}
 use Rattle.records.specs.Told.{toldError, toldSpan}
-use Rattle.grammar.specs.Tables as tables
-use Rattle.reading.specs.Place as place
 use Rattle.property_value.specs.declared.Value.{Value}
 use Rattle.property_value.specs.declared.Value.the-variants.{U8, U16, U32, Number, Text, Bytes, Pair}
 use Rattle.property_value.specs.declared.GotProperty.{GotProperty}

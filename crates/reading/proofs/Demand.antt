@@ -12,7 +12,7 @@ use Rattle.grammar.specs.Number.{Spells}
 use Rattle.grammar.specs.Sentence.{Any, Packet, Frame, Framed, framed, Sentence, ShortSentence}
 use Rattle.reading.specs.Refusal.{nr, accepted, refused, cut, lacking, within, over}
 use Rattle.reading.specs.Reader.{Fit, got, bad}
-use Rattle.reading.specs.Read.{numOf, anyBytes, Shape, asBytes, lengthOf, frameOf, bodyAnswer, bodyFit, wholeAnswer, frameAnswer, readAs, readOf}
+use Rattle.reading.specs.Read.{anyBytes, Shape, asBytes, lengthOf, frameOf, bodyAnswer, bodyFit, wholeAnswer, frameAnswer, readAs, readOf}
 use Rattle.reading.specs.Demand.{Begins}
 use Rattle.reading.proofs.Reading.{Cut, Reads, reads-only, reads-then, reads-sized, fills-is, reads-iff}
 use Rattle.reading.proofs.Fields.{reads-byte, reads-num, any-fine}

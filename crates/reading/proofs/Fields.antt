@@ -8,6 +8,7 @@ use native.Mathlib.Omega.{arith}
 use lib.ListN.{length, take, drop, length-append, take-append-drop}
 use lib.Seq.{take-at, drop-at, length-take-le}
 use lib.Dec.{leb, ltb, leb→le, ltb→lt}
+use mathlib.Core.Logic.{_↔_}
 use Rattle.grammar.specs.Choice.{lookup}
 use Rattle.grammar.specs.Gram.{Many, Is, Solid}
 use Rattle.grammar.specs.Number.{Byte, byte, bigFrom, Big, big, Groups, last, next}
@@ -20,7 +21,6 @@ use Rattle.reading.specs.Reader.{Fit, got, bad, manyFit, isGot}
 use Rattle.reading.specs.Read.{bigOf, byteOf, groupOf, numOf, followOf, restOf, charOf, isText, anyBytes, asBytes, stringFit, bytesOf, textOf, valueOf, valueAt, propertyOf, propertiesFit, blockOf}
 use Rattle.reading.proofs.Lists.{no-way, T-of, leb-yes, ltb-yes, ltb-false, ltb-no}
 use Rattle.reading.proofs.Reading.{bad-got, from-got, from-bind, from-guard, Cut, Reads, Fills, reads-none, reads-map, reads-only, reads-then, reads-sized, fills-hand, fills-as, fills-many, fills-is, reads-never, solid-map, solid-then, solid-sized}
-use mathlib.Core.Logic.{_↔_}
 
 -- ---- numbers
 

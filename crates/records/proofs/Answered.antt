@@ -2,16 +2,16 @@
 use mathlib.Core.Path.{_≡_, refl, ap, _∙_}
 use Prim.Native.Nat.{ℕ}
 use Rattle.grammar.specs.Record.{Val, num, str, duo}
+use Rattle.grammar.specs.Record as record-of
 use Rattle.reading.specs.Refusal.{Refusal, nr, Answer, accepted, refused, refusedAs}
 use Rattle.reading.specs.Reader.{Fit, got, bad}
 use Rattle.reading.specs.Place.{Placed}
+use Rattle.reading.specs.Place as place
 use Rattle.records.specs.Told.{toldError}
 use Rattle.records.specs.Answered.{told, toldSized, toldWritten, toldUser, toldIdentifier, toldFilterItem, toldGotReason, toldGotRule}
 use Rattle.records.proofs.Laws.{injective-by}
 use Rattle.records.proofs.Told.{backError, back-error, backReason, back-reason, backRule, back-rule, backSpan, back-span}
 use Rattle.records.proofs.Said.{backFilter, back-filter, backPacket, back-packet}
-use Rattle.grammar.specs.Record as record-of
-use Rattle.reading.specs.Place as place
 use Rattle.records.specs.declared.answer.Read.{Read}
 use Rattle.records.specs.declared.answer.Sized.{Sized}
 use Rattle.records.specs.declared.answer.Written.{Written}

@@ -5,13 +5,13 @@ use lib.Dec.{ltb}
 use Rattle.grammar.specs.Choice.{isIn}
 use Rattle.grammar.specs.Tables.{reasons}
 use Rattle.grammar.specs.Record.{Val, num, duo}
+use Rattle.grammar.specs.Record as record-of
 use Rattle.reading.specs.Refusal.{nr, Answer, accepted, refusedAs}
 use Rattle.reading.specs.Reader.{Fit, got, bad, _>>_, guard}
 use Rattle.reading.specs.Place.{Placed, noItem}
+use Rattle.reading.specs.Place as place
 use Rattle.records.specs.Told.{toldError, toldReason, toldRule, toldSpan}
 use Rattle.records.specs.Said.{toldFilter, toldPacket}
-use Rattle.grammar.specs.Record as record-of
-use Rattle.reading.specs.Place as place
 use Rattle.records.specs.declared.answer.Read.{Read}
 use Rattle.records.specs.declared.answer.Sized.{Sized}
 use Rattle.records.specs.declared.answer.Written.{Written}

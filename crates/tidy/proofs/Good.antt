@@ -10,6 +10,7 @@ use Rattle.grammar.specs.Choice.{pick, isEmpty}
 use Rattle.grammar.specs.Tables.{Form, u8, u16, u32, number, text, bytes, pair, publishPlace, subscribePlace, ackPlace}
 use Rattle.grammar.specs.Record.{num, str, lastOf, allOf, PublishProps, publishProps, SubscribeProps, subscribeProps, AckProps, ackProps, Publish, Filter, Subscribe, Ack, mkFilter}
 use Rattle.grammar.specs.Sentence.{Value, Prop, asList, qosFine, ruleFine, someOf, Packet}
+use Rattle.grammar.specs.Record as g
 use Rattle.reading.proofs.Lists.{no-way}
 use Rattle.writing.specs.Lists.{Each, nil, _&_, Octets, flat, total, beside}
 use Rattle.writing.specs.Handed.{PublishHanded, SubscribeHanded, AckHanded, Handed, publish, ack, subscribe, ping, publishGiven, subscribeGiven, ackGiven, filters}
@@ -24,7 +25,6 @@ use Rattle.tidy.proofs.Has.{SuitsIn}
 use Rattle.tidy.proofs.Said.{PublishSaid, AckSaid, FilterSaid, filterSize, SubscribeSaid, Said}
 use Rattle.tidy.proofs.Rows.{Perhaps, last-suits, all-suits, num-back, str-back, numbers-back, run-back, run-octets, run-adds, users-octets, users-back, Row, row-one, row-lent, row-pairs, row-several}
 use Rattle.tidy.proofs.Blocks.{Distinct, rows-belong, rows-sound, rows-light, rows-filled, with-list, set-list}
-use Rattle.grammar.specs.Record as g
 
 -- ---- values of a form
 

@@ -14,6 +14,7 @@ use Rattle.grammar.specs.Text.{Utf8}
 use Rattle.grammar.specs.Tables.{publishPlace, subscribePlace, ackPlace, reasons, Layout, aPublish, anAck, aSubscribe, aPing, kinds}
 use Rattle.grammar.specs.Record.{AckProps, Publish, Filter, Subscribe, Ack, kindOf, flagQos, mkFilter}
 use Rattle.grammar.specs.Sentence.{Any, publishOf, subscribeOf, ackOf, notThree, notZero, Ident, qosFine, ruleFine, FilterOf, someOf, AckRest, plain, coded, full, Packet, Fields, body, framed, Sentence}
+use Rattle.grammar.specs.Record as g
 use Rattle.reading.proofs.Lists.{no-way}
 use Rattle.writing.specs.Lists.{Each, nil, Octets, total}
 use Rattle.writing.specs.Size.{most, identSize}
@@ -21,7 +22,6 @@ use Rattle.writing.specs.Refuse.{Short}
 use Rattle.writing.proofs.Each.{each-tail, each-left, each-right, lookup-each}
 use Rattle.writing.proofs.Tests.{eq-not, all-when}
 use Rattle.tidy.proofs.Has.{has-many, has-big, has-number, has-string, FromList, has-block}
-use Rattle.grammar.specs.Record as g
 
 -- ---- each kind; n is what the block may take
 

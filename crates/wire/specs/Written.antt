@@ -3,8 +3,8 @@ use mathlib.Core.List.{List}
 use Prim.Native.Nat.{ℕ}
 use lib.ListN.{length}
 use Rattle.reading.specs.Reader.{Fit, got, bad, _>>_}
-use Rattle.records.specs.Told.{toldError}
 use Rattle.writing.specs.Order.{judge, raw, fieldTests}
+use Rattle.records.specs.Told.{toldError}
 use Rattle.wire.specs.declared.string.GotStringLength.{GotStringLength}
 use Rattle.wire.specs.declared.string.GotStringLength.the-variants.{Value, Refused}
 

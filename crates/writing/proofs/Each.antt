@@ -4,12 +4,12 @@ use mathlib.Core.Bool.{Bool, true, false}
 use mathlib.Core.Option.{some}
 use native.Mathlib.Omega.{arith}
 use lib.Dec.{eqb}
-use Rattle.grammar.specs.Choice.{pick, lookup}
-use Rattle.reading.proofs.Lists.{eq-of}
-use Rattle.writing.specs.Lists.{Each, nil, _&_, Octets, flat, pieces}
 use mathlib.Core.List.{List, [], _∷_, _++_, map, append-assoc}
 use Prim.Native.Nat.{ℕ, zero, suc}
 use lib.ListN.{take, drop}
+use Rattle.grammar.specs.Choice.{pick, lookup}
+use Rattle.reading.proofs.Lists.{eq-of}
+use Rattle.writing.specs.Lists.{Each, nil, _&_, Octets, flat, pieces}
 
 module _ {A : Type 0} {P : A → Type 0} where
   pub each-head : {a : A} {l : List A} → Each P (a ∷ l) → P a

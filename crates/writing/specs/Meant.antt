@@ -9,9 +9,9 @@ use Rattle.grammar.specs.Choice.{pick, isIn, lookup, isEmpty}
 use Rattle.grammar.specs.Tables.{publishPlace, subscribePlace, ackPlace, anAck, aPing, kinds}
 use Rattle.grammar.specs.Record.{num, str, PublishProps, SubscribeProps, AckProps, mkFilter}
 use Rattle.grammar.specs.Sentence.{Value, Packet}
+use Rattle.grammar.specs.Record as g
 use Rattle.writing.specs.Lists.{Octets}
 use Rattle.writing.specs.Handed.{Lent, PublishHanded, SubscribeHanded, AckHanded, Handed, publish, ack, subscribe, ping, publishGiven, subscribeGiven, ackGiven, strings, duos, entries, filters}
-use Rattle.grammar.specs.Record as g
 
 -- ---- properties
 

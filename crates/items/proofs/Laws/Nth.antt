@@ -25,17 +25,17 @@ use Rattle.positions.proofs.Walk.{Less, chain-nil, chain-bad, chain-next}
 use Rattle.positions.proofs.Less.{property-less}
 use Rattle.positions.proofs.Position.{bad-left}
 use Rattle.records.specs.Told.{toldError}
+use Rattle.records.specs.declared.error.Error.{Error}
 use Rattle.wire.specs.Property.{placeOf}
-use Rattle.property_value.specs.Told.{toldValue, formOf, PropertyRead}
-use Rattle.items.specs.Nth.{sought, Formed, SeekOn, soughtIn, SeekIn, NthRead}
-use Rattle.property_value.proofs.Laws.Value.{property-left, property-ahead}
 use Rattle.wire.specs.declared.property.PropertyPlace.{PropertyPlace}
 use Rattle.wire.specs.declared.property.PropertyPlace.the-variants.{Publish, Subscribe, PubAck}
-use Rattle.records.specs.declared.error.Error.{Error}
+use Rattle.property_value.specs.Told.{toldValue, formOf, PropertyRead}
+use Rattle.property_value.proofs.Laws.Value.{property-left, property-ahead}
 use Rattle.property_value.specs.declared.Value.{Value}
 use Rattle.property_value.specs.declared.Value.the-variants.{U8, U16, U32, Number, Text, Bytes, Pair}
 use Rattle.property_value.specs.declared.GotProperty.the-variants.{Found, Refused}
 use Rattle.property_value.proofs.Value.{the-type}
+use Rattle.items.specs.Nth.{sought, Formed, SeekOn, soughtIn, SeekIn, NthRead}
 use Rattle.items.specs.declared.Seek.{Seek}
 use Rattle.items.specs.declared.Seek.the-variants.{Left, At}
 

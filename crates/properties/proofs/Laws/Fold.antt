@@ -24,9 +24,9 @@ use Rattle.positions.proofs.Walk.{fold-nil, fold-bad, fold-next}
 use Rattle.positions.proofs.Less.{property-less}
 use Rattle.positions.proofs.Position.{bad-left}
 use Rattle.property_value.specs.Told.{formOf, publishLists, nextOr, PropertyPassed}
-use Rattle.properties.specs.Block.{Row, publishRow, subscribeRow, ackRow, applied, loopFrom, filledAt}
 use Rattle.property_value.proofs.Laws.Value.{value-tag, property-left, property-ahead}
 use Rattle.property_value.specs.declared.Value.{Value}
+use Rattle.properties.specs.Block.{Row, publishRow, subscribeRow, ackRow, applied, loopFrom, filledAt}
 
 -- ---- a rule of every entry of a place's row holds of what is looked up there
 

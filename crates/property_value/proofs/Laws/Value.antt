@@ -21,9 +21,9 @@ use Rattle.positions.proofs.Trails.{Trails, trails-map, trails-then, trails-byt
 use Rattle.positions.proofs.Position.{got-left, bad-left, left-bad}
 use Rattle.positions.proofs.Fill.{then-bad, map-bad, then-got, map-got}
 use Rattle.records.specs.Told.{toldError, toldSpan}
-use Rattle.property_value.specs.Told.{toldValue, formOf, toldProperty, Typed, ValueRead, PropertyRead, nextOr, ValuePassed, PropertyPassed}
 use Rattle.records.specs.declared.error.Error.{Error}
 use Rattle.records.specs.declared.span.Span as records
+use Rattle.property_value.specs.Told.{toldValue, formOf, toldProperty, Typed, ValueRead, PropertyRead, nextOr, ValuePassed, PropertyPassed}
 use Rattle.property_value.specs.declared.Value.{Value}
 use Rattle.property_value.specs.declared.Value.the-variants.{Pair}
 use Rattle.property_value.specs.declared.GotProperty.{GotProperty}

@@ -1,6 +1,6 @@
 -- `write_bench::write_bench_publish` is right since it gives what the write answers. Assumes nothing.
-use Rattle.write_bench.proofs.Laws.{counts}
 use borrow.Author.Needs.{needs}
+use Rattle.write_bench.proofs.Laws.{counts}
 use Rattle.write_bench.proofs.write_bench_publish.Statement.{statement}
 use Rattle.write_bench.proofs.write_bench_publish.Tie as tie
 

@@ -1,6 +1,6 @@
 -- `layout::name::of_number` is right since each row has its own arm; a number that is left over is none of theirs. Assumes nothing.
-use Rattle.wire.proofs.Laws.Property.{lookup-absent}
 use Rattle.names.specs.Names.{names}
+use Rattle.wire.proofs.Laws.Property.{lookup-absent}
 use Rattle.layout.specs.Name.{countedFrom, nameAt}
 use Rattle.layout.proofs.name.of_number.Statement.{statement}
 use Rattle.layout.proofs.name.of_number.Tie as tie

@@ -1,7 +1,7 @@
 -- `numbers::fixed::put_u32` is right since a number is its high half, then its low one; past the end nothing is stored. Assumes nothing.
 use borrow.Author.Needs.{needs}
-use Rattle.writing.specs.Spell.{wide}
 use native.Mathlib.Omega.{arith}
+use Rattle.writing.specs.Spell.{wide}
 use Rattle.numbers.proofs.Laws.Put.{sets-out, put-halves}
 use Rattle.numbers.proofs.fixed.put_u32.Statement.{statement}
 use Rattle.numbers.proofs.fixed.put_u32.Tie as tie

@@ -1,9 +1,9 @@
 -- `numbers::fixed::put_u8` is right since a byte is its own one digit; past the end nothing is stored. Assumes nothing.
 use borrow.Author.Needs.{needs}
-use Rattle.writing.specs.Spell.{wide}
 use native.Mathlib.Omega.{arith}
 use mathlib.Core.Path.{ap}
 use lib.Seq.{sets}
+use Rattle.writing.specs.Spell.{wide}
 use Rattle.numbers.proofs.Laws.Put.{sets-out, wide-one}
 use Rattle.numbers.proofs.fixed.put_u8.Statement.{statement}
 use Rattle.numbers.proofs.fixed.put_u8.Tie as tie

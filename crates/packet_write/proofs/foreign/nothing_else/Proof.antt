@@ -1,7 +1,7 @@
 -- `packet_write::foreign::nothing_else` is right since it asks of each kind's parts whether they are empty. Assumes nothing.
 use denote.Ref.{now}
-use Rattle.packet_write.proofs.Laws.{last-lent}
 use borrow.Author.Needs.{needs}
+use Rattle.packet_write.proofs.Laws.{last-lent}
 use Rattle.packet_write.proofs.foreign.nothing_else.Statement.{statement}
 use Rattle.packet_write.proofs.foreign.nothing_else.Tie as tie
 

@@ -1,9 +1,9 @@
 -- `packet_write::foreign::nothing_of_others` is right since the parts of other kinds are joined. Assumes nothing.
 use mathlib.Core.Path.{_∙_}
 use mathlib.Core.List.{_++_}
+use borrow.Author.Needs.{needs}
 use Rattle.packet_write.specs.Union.{publishParts, ackParts, subscribeParts, userParts}
 use Rattle.packet_write.proofs.Laws.{joined}
-use borrow.Author.Needs.{needs}
 use Rattle.packet_write.proofs.foreign.nothing_of_others.Statement.{statement}
 use Rattle.packet_write.proofs.foreign.nothing_of_others.Tie as tie
 

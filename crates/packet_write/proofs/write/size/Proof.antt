@@ -1,8 +1,8 @@
 -- `packet_write::write::size` is right since 20 is given for what does not belong to the record, and else the kind's size. Assumes nothing.
 use mathlib.Core.Path.{sym, _∙_}
 use borrow.Author.Tests.{not-true, not-false}
-use Rattle.packet_write.proofs.Laws.{sized-alone, sized-mixed}
 use borrow.Author.Needs.{needs}
+use Rattle.packet_write.proofs.Laws.{sized-alone, sized-mixed}
 use Rattle.packet_write.proofs.write.size.Statement.{statement}
 use Rattle.packet_write.proofs.write.size.Tie as tie
 

@@ -1,8 +1,8 @@
 -- `packet_write::write::write` is right since 20 is given for what does not belong to the record, and else the kind is written. Assumes nothing.
 use mathlib.Core.Path.{sym, _∙_}
 use borrow.Author.Tests.{not-true, not-false}
-use Rattle.packet_write.proofs.Laws.{wrote-alone, wrote-mixed}
 use borrow.Author.Needs.{needs}
+use Rattle.packet_write.proofs.Laws.{wrote-alone, wrote-mixed}
 use Rattle.packet_write.proofs.write.write.Statement.{statement}
 use Rattle.packet_write.proofs.write.write.Tie as tie
 

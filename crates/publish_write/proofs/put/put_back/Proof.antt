@@ -1,11 +1,10 @@
 -- `publish_write::put::put_back` is right since L, the properties and the payload are put one behind the other. Assumes nothing.
-use mathlib.Core.List.{List, _++_}
-use Prim.Native.Nat.{ℕ}
+use mathlib.Core.List.{_++_}
 use borrow.Author.Needs.{needs}
 use denote.Ref.{now}
 use Rattle.grammar.specs.Tables.{publishPlace}
 use Rattle.writing.specs.Spell.{short, propsBytes}
-use Rattle.writing.specs.Handed.{PublishHanded, publishGiven}
+use Rattle.writing.specs.Handed.{publishGiven}
 use Rattle.row_puts.proofs.Laws.{store-next, next-last}
 use Rattle.publish_write.specs.Handed.{handed}
 use Rattle.publish_write.proofs.put.put_back.Statement.{statement}
