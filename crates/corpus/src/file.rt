@@ -129,6 +129,11 @@ pub fn place(places: &[usize], k: usize) -> usize {
     LOST
 }
 
+// The run at the k-th place.
+pub fn run_at<'a>(f: &'a [u8], places: &[usize], k: usize) -> &'a [u8] {
+    run(f, place(places, k))
+}
+
 // The numbers of a list.
 pub fn lengths(f: &[u8], at: usize) -> [usize; 8] {
     let mut list = [0; 8];

@@ -35,22 +35,19 @@ fn replay(f: &[u8], at: usize) -> Outcome {
 
 fn fault(fault: u8) {
     match fault {
-        1 => io::write_all(1, b"answer"),
-        2 => io::write_all(1, b"size"),
-        _ => io::write_all(1, b"output"),
+        1 => io::write_all(1, b"answer\n"),
+        2 => io::write_all(1, b"size\n"),
+        _ => io::write_all(1, b"output\n"),
     }
     ;
 }
 
 // A row that is not as stored; the first is row 1.
 fn otherwise(f: &[u8], at: usize, k: u32, o: Outcome) {
-    io::write_all(1, b"row ");
-    io::print_decimal(1, std::num::wrapping_add_u64(k as u64, 1));
-    io::write_all(1, b", type ");
-    io::print_decimal(1, file::byte(f, at) as u64);
+    tally::say(b"row ", std::num::wrapping_add_u64(k as u64, 1));
+    tally::say(b", type ", file::byte(f, at) as u64);
     io::write_all(1, b": not the stored ");
     fault(o.fault);
-    io::write_all(1, b"\n");
 }
 
 fn tell(tally: &mut [u64], f: &[u8], at: usize, k: u32, o: Outcome) {
@@ -64,8 +61,7 @@ fn tell(tally: &mut [u64], f: &[u8], at: usize, k: u32, o: Outcome) {
 
 // The row that is not whole.
 fn damaged(k: u32) {
-    io::write_all(1, b"DAMAGED: row ");
-    io::print_decimal(1, std::num::wrapping_add_u64(k as u64, 1));
+    tally::say(b"DAMAGED: row ", std::num::wrapping_add_u64(k as u64, 1));
     io::write_all(1, b" cannot be read\n");
 }
 

@@ -48,10 +48,6 @@ fn number(f: &[u8], p: &[usize], k: usize) -> u8 {
     file::byte(f, file::place(p, k))
 }
 
-fn text<'a>(f: &'a [u8], p: &[usize], k: usize) -> &'a [u8] {
-    file::run(f, file::place(p, k))
-}
-
 fn size_with(f: &[u8], p: &[usize], lengths: &[usize], ids: &[u32], answer: &mut [u64]) -> u32 {
     let m = flags_at(f, file::place(p, 0));
     let s = set_at(f, file::place(p, 2));
@@ -60,7 +56,7 @@ fn size_with(f: &[u8], p: &[usize], lengths: &[usize], ids: &[u32], answer: &mut
         m.qos,
         m.retain,
         m.pkid,
-        text(f, p, 1),
+        file::run_at(f, p, 1),
         s.block,
         s.format_on,
         s.format,
@@ -69,15 +65,15 @@ fn size_with(f: &[u8], p: &[usize], lengths: &[usize], ids: &[u32], answer: &mut
         s.alias_on,
         s.alias,
         s.response_on,
-        text(f, p, 3),
+        file::run_at(f, p, 3),
         number(f, p, 4),
-        text(f, p, 5),
-        text(f, p, 6),
+        file::run_at(f, p, 5),
+        file::run_at(f, p, 6),
         lengths,
         ids,
         number(f, p, 9),
-        text(f, p, 10),
-        text(f, p, 11),
+        file::run_at(f, p, 10),
+        file::run_at(f, p, 11),
         &mut *answer,
     )
 }
@@ -113,7 +109,7 @@ fn write_with(
         m.qos,
         m.retain,
         m.pkid,
-        text(f, p, 1),
+        file::run_at(f, p, 1),
         s.block,
         s.format_on,
         s.format,
@@ -122,15 +118,15 @@ fn write_with(
         s.alias_on,
         s.alias,
         s.response_on,
-        text(f, p, 3),
+        file::run_at(f, p, 3),
         number(f, p, 4),
-        text(f, p, 5),
-        text(f, p, 6),
+        file::run_at(f, p, 5),
+        file::run_at(f, p, 6),
         lengths,
         ids,
         number(f, p, 9),
-        text(f, p, 10),
-        text(f, p, 11),
+        file::run_at(f, p, 10),
+        file::run_at(f, p, 11),
         limited,
         limit,
         &mut *out,

@@ -23,7 +23,7 @@ pub fn read(f: &[u8], at: usize) -> Outcome {
         return row::lost();
     }
     let mut record = [UNSET; 38];
-    let number = read_numbers(f, at, file::run(f, file::place(&p, 1)), &mut record);
+    let number = read_numbers(f, at, file::run_at(f, &p, 1), &mut record);
     let answer = file::place(&p, 2);
     row::answered(next, answer, is_answer(f, answer, number, &record))
 }
@@ -81,7 +81,7 @@ pub fn item(f: &[u8], at: usize) -> Outcome {
     if next == LOST {
         return row::lost();
     }
-    let stream = file::run(f, file::place(&p, 1));
+    let stream = file::run_at(f, &p, 1);
     let answer = file::place(&p, 2);
     row::answered(next, answer, of_list(f, at, stream, answer))
 }

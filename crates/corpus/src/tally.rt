@@ -135,15 +135,19 @@ pub fn otherwise(tally: &mut [u64]) {
 
 // ---- the lines
 
+// Words and a number.
+pub fn say(words: &[u8], n: u64) {
+    io::write_all(1, words);
+    io::print_decimal(1, n);
+}
+
 fn refusal(tally: &[u64], group: usize, k: usize) {
     let n = count(tally, std::num::wrapping_add_usize(group, k));
     if n == 0 {
         return;
     }
-    io::write_all(1, b", ");
-    io::print_decimal(1, n);
-    io::write_all(1, b" refused ");
-    io::print_decimal(1, k as u64);
+    say(b"; refused ", k as u64);
+    say(b": ", n);
 }
 
 fn refusals(tally: &[u64], group: usize) {
@@ -155,36 +159,33 @@ fn refusals(tally: &[u64], group: usize) {
 }
 
 fn line(tally: &[u64], name: &[u8], group: usize) {
-    io::write_all(1, name);
-    io::print_decimal(1, count(tally, std::num::wrapping_add_usize(group, ALL)));
-    io::write_all(1, b": ");
-    io::print_decimal(1, count(tally, group));
-    io::write_all(1, b" accepted");
+    say(name, count(tally, std::num::wrapping_add_usize(group, ALL)));
+    say(b"; accepted: ", count(tally, group));
     refusals(tally, group);
     io::write_all(1, b"\n");
 }
 
 fn reads(tally: &[u64]) {
-    line(tally, b"reads ", READ);
-    line(tally, b"user properties ", USER);
-    line(tally, b"subscription identifiers ", IDENTIFIER);
-    line(tally, b"filters ", FILTER);
+    line(tally, b"reads: ", READ);
+    line(tally, b"user properties: ", USER);
+    line(tally, b"subscription identifiers: ", IDENTIFIER);
+    line(tally, b"filters: ", FILTER);
 }
 
 fn writes(tally: &[u64]) {
-    line(tally, b"writes of Publish ", PUBLISH);
-    line(tally, b"writes of PubAck ", PUBACK);
-    line(tally, b"writes of Subscribe ", SUBSCRIBE);
-    line(tally, b"writes of PingReq ", PINGREQ);
-    line(tally, b"writes of PingResp ", PINGRESP);
+    line(tally, b"writes of Publish: ", PUBLISH);
+    line(tally, b"writes of PubAck: ", PUBACK);
+    line(tally, b"writes of Subscribe: ", SUBSCRIBE);
+    line(tally, b"writes of PingReq: ", PINGREQ);
+    line(tally, b"writes of PingResp: ", PINGRESP);
 }
 
 fn sizes(tally: &[u64]) {
-    line(tally, b"sizes of Publish ", 288);
-    line(tally, b"sizes of PubAck ", 320);
-    line(tally, b"sizes of Subscribe ", 352);
-    line(tally, b"sizes of PingReq ", 384);
-    line(tally, b"sizes of PingResp ", 416);
+    line(tally, b"sizes of Publish: ", 288);
+    line(tally, b"sizes of PubAck: ", 320);
+    line(tally, b"sizes of Subscribe: ", 352);
+    line(tally, b"sizes of PingReq: ", 384);
+    line(tally, b"sizes of PingResp: ", 416);
 }
 
 fn entry(tally: &[u64], k: usize) {
@@ -192,17 +193,12 @@ fn entry(tally: &[u64], k: usize) {
     if n == 0 {
         return;
     }
-    io::write_all(1, b"difference ");
-    io::print_decimal(1, std::num::wrapping_add_u64(k as u64, 1));
-    io::write_all(1, b": ");
-    io::print_decimal(1, n);
-    io::write_all(1, b"\n");
+    say(b"\ndifference ", std::num::wrapping_add_u64(k as u64, 1));
+    say(b": ", n);
 }
 
 fn differences(tally: &[u64]) {
-    io::write_all(1, b"no difference: ");
-    io::print_decimal(1, count(tally, NO_ENTRY));
-    io::write_all(1, b"\n");
+    say(b"no difference: ", count(tally, NO_ENTRY));
     let mut k: usize = 0;
     while k < GROUP {
         entry(tally, k);
@@ -215,12 +211,12 @@ pub fn lines(tally: &[u64]) {
     writes(tally);
     sizes(tally);
     differences(tally);
+    io::write_all(1, b"\n");
 }
 
 // The last line, of a file that was read to its end.
 pub fn total(tally: &[u64]) {
-    io::print_decimal(1, count(tally, ROWS));
-    io::write_all(1, b" rows as stored, ");
-    io::print_decimal(1, count(tally, OTHERWISE));
-    io::write_all(1, b" otherwise\n");
+    say(b"rows as stored: ", count(tally, ROWS));
+    say(b"; otherwise: ", count(tally, OTHERWISE));
+    io::write_all(1, b"\n");
 }

@@ -95,7 +95,7 @@ fn written(f: &[u8], kind: u8, p: &[usize], w: &[usize]) -> u8 {
     if !is_answer(f, kind, p, w, &mut out) {
         return row::ANSWER;
     }
-    if expect::is_output(&out, file::run(f, file::place(w, 3)), fill) {
+    if expect::is_output(&out, file::run_at(f, w, 3), fill) {
         return row::AS_STORED;
     }
     row::OUTPUT
