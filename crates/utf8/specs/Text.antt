@@ -1,9 +1,10 @@
 -- What the steps of the validator tell of the text that is left. Assumes nothing.
 use mathlib.Core.Path.{_≡_}
-use mathlib.Core.Bool.{Bool, true, false}
+use mathlib.Core.Bool.{Bool, true, false, _&&_}
 use mathlib.Core.Option.{Option, none, some}
 use mathlib.Core.List.{List, [], _∷_}
 use Prim.Native.Nat.{ℕ, zero, suc, _+_, _≤_, _<_}
+use lib.Dec.{ltb}
 use lib.ListN.{length, drop, replicate}
 use Rattle.grammar.specs.Text.{Range}
 use Rattle.reading.specs.Reader.{thenFit, manyFit, isGot}
@@ -37,3 +38,8 @@ pub record Passed (s : List ℕ) (at r : ℕ) : Type 0 where
   pub within : r ≤ length s
   pub yes : at < r → isText (drop at s) ≡ isText (drop r s)
   pub no : r ≡ at → isText (drop at s) ≡ false
+
+-- whether every byte is ASCII
+abbrev pub allAscii : List ℕ → Bool
+allAscii [] = true
+allAscii (b ∷ s) = ltb b 128 && allAscii s

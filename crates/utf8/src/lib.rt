@@ -2,11 +2,11 @@
 // chunks: one whose bytes are all ASCII is passed at once, any other character by character.
 ghost use mathlib.Core.Path.{_≡_};
 ghost use mathlib.Core.Bool.{true, false};
-ghost use Prim.Native.Nat.{_+_, _≤_, _<_};
-ghost use lib.ListN.{length, drop};
+ghost use Prim.Native.Nat.{_+_, _-_, _≤_, _<_};
+ghost use lib.ListN.{length, take, drop};
 ghost use Rattle.grammar.specs.Text.{rows, rowAt};
 ghost use Rattle.reading.specs.Read.{isText};
-ghost use Rattle.utf8.specs.Text.{toldLead, Followed, Passed};
+ghost use Rattle.utf8.specs.Text.{toldLead, Followed, Passed, allAscii};
 
 // What is to follow a byte that begins a character.
 enum Lead {
@@ -95,7 +95,7 @@ fn pass_chars(s: &[u8], at: usize, end: usize) -> usize
 // Is each byte from index `at` to `end` ASCII?
 fn is_ascii(s: &[u8], at: usize, end: usize) -> bool
     requires { ⌜ (at ≤ end) × (end ≤ length (now s)) ⌝ }
-    ensures { λ r. ⌜ (r ≡ true → isText (drop at (now (s .entry))) ≡ isText (drop end (now (s .entry)))) ⌝ }
+    ensures { λ r. ⌜ (r ≡ true → isText (drop at (now (s .entry))) ≡ isText (drop end (now (s .entry)))) × (r ≡ allAscii (take (end - at) (drop at (now (s .entry))))) ⌝ }
 {
     let mut all: u8 = 0;
     let mut i = at;
@@ -164,4 +164,18 @@ pub fn is_utf8(s: &[u8]) -> bool
         return is_short(s);
     }
     by_chunks(s)
+}
+
+// Is every byte of `s` ASCII? Then any part of it is text.
+pub fn is_all_ascii(s: &[u8]) -> bool
+    ensures { λ r. ⌜ r ≡ allAscii (now (s .entry)) ⌝ }
+{
+    let mut i: usize = 0;
+    while 16 <= s.len() - i {
+        if !is_ascii(s, i, i + 16) {
+            return false;
+        }
+        i = i + 16;
+    }
+    is_ascii(s, i, s.len())
 }

@@ -1,4 +1,5 @@
 pub mod Told
 pub mod Written
+pub mod Further
 pub mod Property
 pub mod Qos

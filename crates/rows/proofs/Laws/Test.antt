@@ -3,8 +3,9 @@ use mathlib.Core.Path.{_≡_, refl, sym, ap, _∙_}
 use mathlib.Core.Bool.{true, false}
 use mathlib.Core.List.{List, [], _∷_, map, append-nil}
 use Prim.Native.Nat.{ℕ, _+_, _/_, _%_, _≤_, _<_}
+use native.Mathlib.Omega.{arith}
 use native.Mathlib.Numerals.{add-one}
-use lib.ListN.{length, drop, getD, drop-of-length-le}
+use lib.ListN.{length, take, drop, getD, length-take, length-drop, drop-of-length-le}
 use lib.Seq.{drop-cons}
 use Rattle.grammar.specs.Sentence.{qosFine, ruleFine}
 use Rattle.reading.specs.Refusal.{Refusal, nr}
@@ -12,11 +13,13 @@ use Rattle.reading.specs.Reader.{Fit, got, bad, _>>_}
 use Rattle.reading.specs.Read.{isText}
 use Rattle.reading.proofs.Lists.{leb-yes, leb-no}
 use Rattle.reading.proofs.Reading.{bad-got}
-use Rattle.writing.specs.Lists.{flat}
+use Rattle.writing.specs.Lists.{flat, pieces}
 use Rattle.writing.specs.Size.{most}
 use Rattle.writing.specs.Order.{Test, judge, Field, raw, word, filter, reads, fieldTests, small}
 use Rattle.writing.proofs.Tests.{eq-when, eq-not}
 use Rattle.writing.proofs.Judge.{judge-append, fields-more}
+use Rattle.utf8.specs.Text.{allAscii}
+use Rattle.utf8.proofs.Laws.Text.{and-both, ascii-split, ascii-text}
 
 -- ---- one field
 
@@ -112,3 +115,14 @@ module _ (ns : List ℕ) (i : ℕ) (d : Left ns i) where
   pub numbers-done : length ns ≤ i → got tt ≡ judge (map small ns)
   unfolding judge
   numbers-done h = sym (d ∙ rw (drop-of-length-le ns h))
+
+-- ---- a run of ASCII bytes: every part of it is text, and no longer than the run
+
+pub run-fine : (lengths bytes : List ℕ) → length bytes ≤ 65535 → allAscii bytes ≡ true → judge (flat fieldTests (map word (pieces lengths bytes))) ≡ got tt
+unfolding judge
+run-fine [] bytes h a = refl
+run-fine (n ∷ ns) bytes h a =
+    let (t, d) = and-both (allAscii (take n bytes)) (allAscii (drop n bytes)) (sym (ascii-split n bytes) ∙ a) in
+    let l : length (take n bytes) ≤ 65535 = omega (arith, length-take n bytes) in
+    let m : length (drop n bytes) ≤ 65535 = omega (arith, length-drop n bytes) in
+    rw (fields-more (word (take n bytes)) (map word (pieces ns (drop n bytes))), leb-yes (length (take n bytes)) 65535 l, ascii-text (take n bytes) t) (run-fine ns (drop n bytes) m d)

@@ -1,17 +1,17 @@
 -- UTF-8: how a byte finds its row of the Unicode table, and how a text goes on after bytes that fit a row. Assumes nothing.
 use mathlib.Core.Path.{_≡_, refl, ap, sym, _∙_}
-use mathlib.Core.Bool.{Bool, true, false, true≢false, false≢true}
+use mathlib.Core.Bool.{Bool, true, false, _&&_, true≢false, false≢true}
 use mathlib.Core.Option.{Option, none, some}
-use mathlib.Core.List.{List, [], _∷_}
+use mathlib.Core.List.{List, [], _∷_, _++_}
 use Prim.Native.Nat.{ℕ, zero, suc, _+_, _-_, _≤_, _<_}
 use native.Mathlib.Omega.{arith}
 use native.Mathlib.Numerals.{add-one}
 use native.Mathlib.Nat.{add-zero, sub-zero}
-use lib.Bits.{bitOr, or-add-and, and-le-l, and-le-r}
-use lib.Dec.{leb}
-use lib.ListN.{length, drop, getD, replicate, length-drop, length-replicate, drop-of-length-le}
-use lib.Seq.{drop-cons}
-use borrow.Author.Tests.{le-leb, lt-leb}
+use lib.Bits.{bitOr, or-lt, or-add-and, and-le-l, and-le-r}
+use lib.Dec.{leb, ltb}
+use lib.ListN.{length, take, drop, getD, replicate, length-drop, length-replicate, take-append-drop, drop-of-length-le}
+use lib.Seq.{drop-cons, drop-drop, take-all, take-add}
+use borrow.Author.Tests.{leb-true, leb-false, le-leb, lt-leb}
 use Rattle.grammar.specs.Choice.{pick}
 use Rattle.grammar.specs.Gram.{forget}
 use Rattle.grammar.specs.Text.{Range, inRange, Row, rows, rowAt, cons}
@@ -21,7 +21,7 @@ use Rattle.reading.specs.Read.{byteOf, followOf, restOf, charOf, isText}
 use Rattle.reading.proofs.Reading.{less, solid-map, solid-then}
 use Rattle.reading.proofs.Fields.{byte-solid, reads-char}
 use Rattle.positions.proofs.Walk.{Less, chain-nil, chain-bad, chain-next}
-use Rattle.utf8.specs.Text.{dueOf, textAfter, Followed, Passed}
+use Rattle.utf8.specs.Text.{dueOf, textAfter, Followed, Passed, allAscii}
 
 -- ---- a row of the table
 
@@ -271,3 +271,62 @@ going-end {s} {i = i} g h = g .rest ∙ text-over s i h
 -- the top bits of two bytes
 pub both-low : (a b : ℕ) → bitOr a b < 128 → (a < 128) × (b < 128)
 both-low a b h = (omega (arith, or-add-and a b, and-le-r a b), omega (arith, or-add-and a b, and-le-l a b))
+
+-- ---- bytes that are all ASCII
+
+and-assoc : (a b c : Bool) → ((a && b) && c) ≡ (a && (b && c))
+and-assoc true b c = refl
+and-assoc false b c = refl
+
+and-true : (a : Bool) → (a && true) ≡ a
+and-true true = refl
+and-true false = refl
+
+pub and-both : (a b : Bool) → (a && b) ≡ true → (a ≡ true) × (b ≡ true)
+and-both true b e = (refl, e)
+and-both false b e = absurd (false≢true e)
+
+ascii-append : (xs ys : List ℕ) → allAscii (xs ++ ys) ≡ (allAscii xs && allAscii ys)
+ascii-append [] ys = refl
+ascii-append (x ∷ xs) ys = rw (ascii-append xs ys) (sym (and-assoc (ltb x 128) (allAscii xs) (allAscii ys)))
+
+-- the first n, and the others
+pub ascii-split : (n : ℕ) (s : List ℕ) → allAscii s ≡ (allAscii (take n s) && allAscii (drop n s))
+ascii-split n s = ap allAscii (sym (take-append-drop n s)) ∙ ascii-append (take n s) (drop n s)
+
+pub or-low : (a b : ℕ) → ltb (bitOr a b) 128 ≡ (ltb a 128 && ltb b 128)
+or-low a b = go (ltb a 128) refl (ltb b 128) refl
+  where
+    go : (p : Bool) → ltb a 128 ≡ p → (q : Bool) → ltb b 128 ≡ q → ltb (bitOr a b) 128 ≡ (ltb a 128 && ltb b 128)
+    go true e true f = rw (e, f) (le-leb (suc (bitOr a b)) 128 (or-lt 7 a b (leb-true (suc a) 128 e) (leb-true (suc b) 128 f)))
+    go true e false f = rw (e, f) (lt-leb (suc (bitOr a b)) 128 (omega (arith, leb-false (suc b) 128 f, or-add-and a b, and-le-l a b)))
+    go false e q f = rw e (lt-leb (suc (bitOr a b)) 128 (omega (arith, leb-false (suc a) 128 e, or-add-and a b, and-le-r a b)))
+
+module _ (s : List ℕ) (at i : ℕ) (h : at ≤ i) (l : i < length s) where
+  -- one byte more
+  pub ascii-more : allAscii (take (i + 1 - at) (drop at s)) ≡ (allAscii (take (i - at) (drop at s)) && ltb (getD s i 0) 128)
+  ascii-more =
+      let e : i + 1 - at ≡ i - at + 1 = omega arith in
+      let f : at + (i - at) ≡ i = omega arith in
+      rw (e, take-add (i - at) 1 (drop at s), ascii-append (take (i - at) (drop at s)) (take 1 (drop (i - at) (drop at s))), drop-drop (i - at) at s, f, drop-cons s i 0 l, and-true (ltb (getD s i 0) 128))
+
+-- text, whatever part of it
+pub ascii-text : (s : List ℕ) → allAscii s ≡ true → isText s ≡ true
+ascii-text [] e = text-end
+ascii-text (x ∷ s) e =
+    let (b, t) = and-both (ltb x 128) (allAscii s) e in
+    ascii (x ∷ s) 0 (omega arith) (leb-true (suc x) 128 b) ∙ ascii-text s t
+
+-- those from the i-th on decide: n of them at once
+module _ (s : List ℕ) (i n : ℕ) (d : allAscii s ≡ allAscii (drop i s)) where
+  chunk-split : allAscii s ≡ (allAscii (take n (drop i s)) && allAscii (drop (i + n) s))
+  chunk-split = d ∙ ascii-split n (drop i s) ∙ rw (drop-drop n i s)
+
+  pub chunk-broken : allAscii (take n (drop i s)) ≡ false → false ≡ allAscii s
+  chunk-broken e = sym (chunk-split ∙ rw e)
+
+  pub chunk-passed : allAscii (take n (drop i s)) ≡ true → allAscii s ≡ allAscii (drop (i + n) s)
+  chunk-passed e = chunk-split ∙ rw e
+
+  pub chunk-last : length s ≤ i + n → allAscii (take n (drop i s)) ≡ allAscii s
+  chunk-last h = ap allAscii (take-all n (drop i s) (omega (arith, length-drop i s))) ∙ sym d

@@ -12,7 +12,7 @@ is-ascii-requires : tie.Need-is-ascii-requires
 is-ascii-requires c κs = search needs
 
 returns : tie.Need-returns
-returns c = let s = now (c .before .before .before .args .s) in sym (c .before .is-ascii .ensures (c .if1 .taken) ∙ text-over s (length s) (omega arith))
+returns c = let s = now (c .before .before .before .args .s) in sym (c .before .is-ascii .ensures .0 (c .if1 .taken) ∙ text-over s (length s) (omega arith))
 
 by-chunks-requires : tie.Need-by-chunks-requires
 by-chunks-requires c κs = search needs

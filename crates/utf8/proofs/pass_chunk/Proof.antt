@@ -18,7 +18,7 @@ add-result : tie.Need-add-result
 add-result c = search needs
 
 returns : tie.Need-returns
-returns c = went _ _ _ (omega arith) (omega arith) (c .before .is-ascii .ensures (c .if2 .taken))
+returns c = went _ _ _ (omega arith) (omega arith) (c .before .is-ascii .ensures .0 (c .if2 .taken))
 
 add-is-ascii-2 : tie.Need-add-is-ascii-2
 add-is-ascii-2 c = search needs
@@ -30,7 +30,7 @@ add-result-2 : tie.Need-add-result-2
 add-result-2 c = search needs
 
 returns-2 : tie.Need-returns-2
-returns-2 c = went _ _ _ (omega arith) (omega arith) (c .before .is-ascii2 .ensures (c .if4 .taken))
+returns-2 c = went _ _ _ (omega arith) (omega arith) (c .before .is-ascii2 .ensures .0 (c .if4 .taken))
 
 add-pass-chars : tie.Need-add-pass-chars
 add-pass-chars c = search needs
@@ -45,7 +45,7 @@ is-ascii-requires-3 : tie.Need-is-ascii-requires-3
 is-ascii-requires-3 c κs = search needs
 
 returns-4 : tie.Need-returns-4
-returns-4 c = went _ _ _ (omega arith) (omega arith) (c .before .is-ascii3 .ensures (c .if5 .taken))
+returns-4 c = went _ _ _ (omega arith) (omega arith) (c .before .is-ascii3 .ensures .0 (c .if5 .taken))
 
 pass-chars-requires-2 : tie.Need-pass-chars-requires-2
 pass-chars-requires-2 c κs = search needs
