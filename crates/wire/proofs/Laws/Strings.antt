@@ -7,7 +7,7 @@ use Prim.Native.Nat.{ℕ, suc, _+_, _-_, _/_, _%_, _≤_, _<_, min}
 use native.Mathlib.Omega.{arith}
 use native.Mathlib.Numerals.{add-one}
 use lib.Dec.{leb}
-use lib.ListN.{length, take, drop, getD, take-append-drop}
+use lib.ListN.{length, take, drop, getD, set, length-set, take-append-drop, drop-of-length-le}
 use lib.Seq.{sets, length-sets, drop-cons, length-take-le, take-all, take-add}
 use borrow.Author.Tests.{leb-true, leb-false, le-leb, lt-leb}
 use Rattle.reading.specs.Refusal.{Refusal, nr, cut, crossed}
@@ -188,6 +188,32 @@ module _ (o o₁ xs : List ℕ) (at i n w : ℕ) where
 
   pub further-none : i ≤ n → n < i + w → Further o at xs i n w o i
   further-none h l = record { stores = λ o₀ e. e; within = h; left = λ m. l }
+
+-- the same one by one, for the stores of other crates
+
+-- of the bytes xs, which are to stand from `at` on, those from the i-th on are left to put
+pub record Putting (o₀ : List ℕ) (at : ℕ) (xs o : List ℕ) (i : ℕ) : Type 0 where
+  pub same : length o ≡ length o₀
+  pub rest : sets o (at + i) (drop i xs) ≡ sets o₀ at xs
+
+pub putting-start : (o : List ℕ) (at : ℕ) (xs : List ℕ) → Putting o at xs o 0
+putting-start o at xs = let e : at + 0 ≡ at = omega arith in record { same = refl; rest = rw e }
+
+module _ {o₀ xs o : List ℕ} {at i : ℕ} (p : Putting o₀ at xs o i) where
+  pub putting-next : i < length xs → Putting o₀ at xs (set o (at + i) (getD xs i 0)) (i + 1)
+  putting-next h =
+      let e : at + (i + 1) ≡ suc (at + i) = omega arith in
+      record { same = length-set o (at + i) (getD xs i 0) ∙ p .same; rest = rw (e, add-one i) (rw (drop-cons xs i 0 h) at (p .rest)) }
+
+  -- all are put, or there is no room
+  pub putting-end : min (length xs) (length o₀ - at) ≤ i → o ≡ sets o₀ at xs
+  putting-end h = go (leb (length xs) i) refl
+    where
+      go : (b : Bool) → leb (length xs) i ≡ b → o ≡ sets o₀ at xs
+      go true e = rw (drop-of-length-le xs (leb-true (length xs) i e)) at (p .rest)
+      go false e =
+          let l : i < length xs = leb-false (length xs) i e in
+          sets-out (drop i xs) o (at + i) (omega (arith, p .same)) ∙ p .rest
 
 -- the length of a string, cut to 16 bits
 pub wide-cut : (n : ℕ) → wide 2 (n % 65536) ≡ wide 2 n
