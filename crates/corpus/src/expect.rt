@@ -26,7 +26,7 @@ fn number(numbers: &[u64], k: usize) -> u64 {
     0
 }
 
-// The same numbers, and 0 for all that a has no more?
+// Are they the stored numbers, and is every stored number past their end 0?
 fn same_numbers(a: &[u64], stored: &[u64]) -> bool {
     let mut k: usize = 0;
     while k < stored.len() {

@@ -164,7 +164,7 @@ pub fn count(f: &[u8], at: usize) -> usize {
     two(f, at) as usize
 }
 
-// The first n.
+// The first n; none if there are fewer.
 pub fn of_lengths<'a>(list: &'a [usize], n: usize) -> &'a [usize] {
     if list.len() < n {
         return &list[..0];

@@ -108,7 +108,7 @@ fn read(fd: i32) {
 fn main() {
     let fd = os::open_read(b"answers.bin");
     if fd < 0 {
-        io::write_all(1, b"DAMAGED: ");
+        io::write_all(1, b"DAMAGED: the file cannot be opened\n");
         os::fail(b"answers.bin");
         return;
     }

@@ -53,7 +53,7 @@ fn write_under(
     }
 }
 
-// Into the first bytes of the output, as many as there is room for; none has more room than the output.
+// Into the first bytes of the output, as many as the row has room for. A row with more room than the output is not as stored.
 fn write_in(
     f: &[u8],
     kind: u8,
