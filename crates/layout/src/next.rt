@@ -10,7 +10,6 @@ use records::qos::qos_number;
 use records::subscribe::rule_number;
 use subscribe::filter::GotFilter;
 ghost use mathlib.Core.Path.{_≡_};
-ghost use Rattle.reading.specs.Reader.{bad};
 ghost use Rattle.records.specs.Told.{toldError};
 ghost use Rattle.property_value.specs.Told.{toldValue, toldProperty};
 ghost use Rattle.subscribe.specs.Told.{toldGotFilter};
