@@ -460,6 +460,10 @@ fn listed(run: &mut Run) {
         }
         run.items_of_read(&s);
     }
+    // entry 12; the rows of the gate's corpus stay as they are
+    if run.hold.corpus.is_none() {
+        run.hold.items(&[], Span { start: 0, len: 0 }, 0);
+    }
     run.say("the frames of 01 and of docs/DIFFERENCES.md");
 }
 

@@ -132,7 +132,7 @@ impl Hold {
         self.read_answers[answered.0.as_ref().map_or_else(|e| e.no as usize & 31, |_| 0)] += 1;
         let line = || {
             let of_port = match &answered.0 {
-                Ok(r) => format!("accepted, kind {}", r.kind),
+                Ok(r) => record(r, &self.of_port, s),
                 Err(e) => format!("{e:?}"),
             };
             format!(
@@ -195,6 +195,13 @@ impl Hold {
                 "(a): item",
                 format!("  filter {p:?} {n} of {}\n  port {answered:?}\n  rules {expected:?}", hex(s)),
             );
+        }
+        if self.show {
+            println!("item {n} of start {} length {} in {}", p.start, p.len, hex(s));
+            PLACES
+                .iter()
+                .for_each(|place| println!("    pair in {place:?}: {:?}", port::user(*place, s, p, n)));
+            println!("    identifier: {:?}\n    filter: {:?}", port::identifier(s, p, n), answered);
         }
         let expected = p.of(s).len();
         let answered = port::part(s, p);
@@ -328,6 +335,27 @@ impl Hold {
         }
         note(&mut self.write_classes, class, weight(g), line);
         class
+    }
+}
+
+/// What a record as read is, in one line.
+fn record(r: &Record, lists: &Lists, s: &[u8]) -> String {
+    let run = |p: Span| format!("[{}]", hex(p.of(s)));
+    let pairs: Vec<String> = lists.users.iter().map(|(a, b)| run(*a) + "=" + &run(*b)).collect();
+    let filters: Vec<String> = lists.filters.iter().map(|(p, o)| format!("{} options {o:02X}", run(*p))).collect();
+    match r.kind {
+        3 => format!(
+            "accepted: Publish qos {} id {} topic {} payload {} identifiers {:?} pairs {pairs:?}",
+            r.qos,
+            r.id,
+            run(r.topic),
+            run(r.payload),
+            lists.ids
+        ),
+        8 => format!("accepted: Subscribe id {} identifier {:?} pairs {pairs:?} filters {filters:?}", r.id, r.sid),
+        4 => format!("accepted: PubAck id {} reason {:02X} pairs {pairs:?}", r.id, r.reason),
+        12 => "accepted: PingReq".into(),
+        _ => "accepted: PingResp".into(),
     }
 }
 
