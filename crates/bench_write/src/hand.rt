@@ -5,7 +5,7 @@ use packet_write::write::write;
 use puback_write::PubAckHead;
 use publish_write::head::PublishHead;
 use records::answer::Limit;
-use records::puback::PubAckReason;
+use records::puback_record::PubAckReason;
 use records::qos::QoS;
 use records::span::MaybeU8;
 use records::span::MaybeU16;

@@ -3,16 +3,16 @@
 mod hand;
 mod show;
 
-use numbers::length::write_remaining_length;
+use numbers::length::put_length;
 use records::answer::Limit;
-use records::puback::PubAckReason;
+use records::puback_record::PubAckReason;
 use records::qos::QoS;
 use records::span::MaybeU32;
 
 // 01, "Lengths".
 fn length(rows: u64, n: usize) -> u64 {
     let mut out = [0xAA; 5];
-    write_remaining_length(&mut out, 0, n);
+    put_length(&mut out, 0, n);
     io::print_decimal(1, n as u64);
     io::write_all(1, b": ");
     show::bytes(&out);

@@ -6,7 +6,7 @@ use crate::tally;
 use records::answer::Limit;
 use records::answer::Read;
 use records::error::Error;
-use records::packet::Packet;
+use records::packet_record::Packet;
 use records::span::Span;
 use wire::string;
 ghost use mathlib.Core.Path.{_≡_};

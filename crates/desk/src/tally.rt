@@ -3,7 +3,7 @@ use crate::field;
 use crate::output;
 use records::error;
 use records::error::Error;
-use records::packet::Packet;
+use records::packet_record::Packet;
 
 const PUBLISH: usize = 22;
 

@@ -4,7 +4,7 @@ use records::answer::FilterItem;
 use records::answer::IdentifierItem;
 use records::answer::UserItem;
 use records::qos::qos_number;
-use records::subscribe::rule_number;
+use records::subscribe_record::rule_number;
 ghost use mathlib.Core.Path.{_≡_};
 ghost use Rattle.records.specs.Answered.{toldUser, toldIdentifier, toldFilterItem};
 ghost use Rattle.layout.specs.Item.{fitNumber, userNumbers, identifierNumbers, filterNumbers};

@@ -7,7 +7,7 @@ use records::error::Error;
 use records::error::number;
 use records::error::values;
 use records::qos::qos_number;
-use records::subscribe::rule_number;
+use records::subscribe_record::rule_number;
 use subscribe::filter::GotFilter;
 ghost use mathlib.Core.Path.{_≡_};
 ghost use Rattle.records.specs.Told.{toldError};

@@ -104,7 +104,7 @@ fn put_groups(out: &mut [u8], at: usize, n: usize) -> usize
 }
 
 // Puts the shortest spelling, and gives how many bytes it has. A number too large to spell takes four bytes that no reader accepts.
-pub fn write_remaining_length(out: &mut [u8], at: usize, n: usize) -> usize
+pub fn put_length(out: &mut [u8], at: usize, n: usize) -> usize
     ensures { λ r. ⌜ (now (out .exit) ≡ sets (now (out .entry)) at (short n)) × (r ≡ list.length (short n)) ⌝ }
 {
     if at < out.len() {

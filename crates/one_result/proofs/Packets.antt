@@ -10,14 +10,14 @@ use Rattle.reading.specs.Place as place
 use Rattle.records.proofs.Told.{back-error, backSpan, back-span}
 use Rattle.records.proofs.Said.{backPublishBlock, back-publish-block, backSubscribeBlock, back-subscribe-block, backPubAckBlock, back-puback-block, backFilter, back-filter, backPacket, back-packet}
 use Rattle.records.specs.declared.error.Error.{Error}
-use Rattle.records.specs.declared.packet.Packet.{Packet}
-use Rattle.records.specs.declared.puback.MaybePubAckProperties.{MaybePubAckProperties}
-use Rattle.records.specs.declared.publish.MaybePublishProperties.{MaybePublishProperties}
-use Rattle.records.specs.declared.subscribe.Filter.{Filter}
-use Rattle.records.specs.declared.subscribe.MaybeSubscribeProperties.{MaybeSubscribeProperties}
+use Rattle.records.specs.declared.packet_record.Packet.{Packet}
+use Rattle.records.specs.declared.puback_record.MaybePubAckProperties.{MaybePubAckProperties}
+use Rattle.records.specs.declared.publish_record.MaybePublishProperties.{MaybePublishProperties}
+use Rattle.records.specs.declared.subscribe_record.Filter.{Filter}
+use Rattle.records.specs.declared.subscribe_record.MaybeSubscribeProperties.{MaybeSubscribeProperties}
 use Rattle.properties.specs.Block.{toldSubscribeBlockAt, toldPubAckBlockAt}
-use Rattle.properties.specs.declared.puback.GotPubAckBlock.{GotPubAckBlock}
-use Rattle.properties.specs.declared.subscribe.GotSubscribeBlock.{GotSubscribeBlock}
+use Rattle.properties.specs.declared.puback_block.GotPubAckBlock.{GotPubAckBlock}
+use Rattle.properties.specs.declared.subscribe_block.GotSubscribeBlock.{GotSubscribeBlock}
 use Rattle.publish_properties.specs.Singles.{toldPublishBlockAt}
 use Rattle.publish_properties.specs.declared.GotPublishBlock.{GotPublishBlock}
 use Rattle.puback.specs.Told.{toldGotPubAck}

@@ -8,7 +8,7 @@ use publish::GotPublish;
 use records::answer::Limit;
 use records::answer::Read;
 use records::error::Error;
-use records::packet::Packet;
+use records::packet_record::Packet;
 use subscribe::GotSubscribe;
 ghost use mathlib.Core.Path.{_≡_};
 ghost use mathlib.Core.List.{[]};

@@ -15,16 +15,16 @@ use Rattle.reading.specs.Place as place
 use Rattle.records.specs.Said.{toldPublishProperties, toldSubscribeProperties, toldPubAckProperties, toldPublishBlock, toldSubscribeBlock, toldPubAckBlock, toldPublish, toldSubscribe, toldPubAck}
 use Rattle.records.specs.declared.answer.Limit.{Limit}
 use Rattle.records.specs.declared.answer.Read.{Read}
-use Rattle.records.specs.declared.packet.Packet as code
-use Rattle.records.specs.declared.puback.PubAck.{PubAck}
-use Rattle.records.specs.declared.puback.PubAckProperties.{PubAckProperties}
-use Rattle.records.specs.declared.puback.MaybePubAckProperties.{MaybePubAckProperties}
-use Rattle.records.specs.declared.publish.Publish.{Publish}
-use Rattle.records.specs.declared.publish.PublishProperties.{PublishProperties}
-use Rattle.records.specs.declared.publish.MaybePublishProperties.{MaybePublishProperties}
-use Rattle.records.specs.declared.subscribe.Subscribe.{Subscribe}
-use Rattle.records.specs.declared.subscribe.SubscribeProperties.{SubscribeProperties}
-use Rattle.records.specs.declared.subscribe.MaybeSubscribeProperties.{MaybeSubscribeProperties}
+use Rattle.records.specs.declared.packet_record.Packet as code
+use Rattle.records.specs.declared.puback_record.PubAck.{PubAck}
+use Rattle.records.specs.declared.puback_record.PubAckProperties.{PubAckProperties}
+use Rattle.records.specs.declared.puback_record.MaybePubAckProperties.{MaybePubAckProperties}
+use Rattle.records.specs.declared.publish_record.Publish.{Publish}
+use Rattle.records.specs.declared.publish_record.PublishProperties.{PublishProperties}
+use Rattle.records.specs.declared.publish_record.MaybePublishProperties.{MaybePublishProperties}
+use Rattle.records.specs.declared.subscribe_record.Subscribe.{Subscribe}
+use Rattle.records.specs.declared.subscribe_record.SubscribeProperties.{SubscribeProperties}
+use Rattle.records.specs.declared.subscribe_record.MaybeSubscribeProperties.{MaybeSubscribeProperties}
 use Rattle.packet.specs.Told.{Meets, Says}
 use Rattle.promises.specs.Reading.{UserItems, IdentifierItems, FilterItems}
 use Rattle.promises.proofs.Reading.{items}

@@ -12,9 +12,9 @@ use Rattle.reading.specs.Read.{asBytes}
 use Rattle.reading.specs.Place.{Span, heldOf, valuesAt, onGot, onSome, ifSome, sayVal, sayPublishProps, sayAckProps, say}
 use Rattle.reading.proofs.Reading.{bad-got, from-got, from-bind}
 use Rattle.records.specs.Said.{toldPublishBlock, toldPubAckBlock, toldPacket}
-use Rattle.records.specs.declared.packet.Packet as code
-use Rattle.records.specs.declared.puback.PubAck.{PubAck}
-use Rattle.records.specs.declared.publish.Publish.{Publish}
+use Rattle.records.specs.declared.packet_record.Packet as code
+use Rattle.records.specs.declared.puback_record.PubAck.{PubAck}
+use Rattle.records.specs.declared.publish_record.Publish.{Publish}
 use Rattle.wire.specs.Told.{stringIf, inBlock}
 use Rattle.promises.specs.Reading.{itself, PublishParts, PubAckParts}
 

@@ -27,7 +27,7 @@ use Rattle.records.proofs.Answered.{read-injective}
 use Rattle.records.specs.declared.answer.Limit.{Limit}
 use Rattle.records.specs.declared.answer.Read.{Read}
 use Rattle.records.specs.declared.error.Error.{Error}
-use Rattle.records.specs.declared.packet.Packet as code
+use Rattle.records.specs.declared.packet_record.Packet as code
 use Rattle.packet.specs.Told.{Meets, takenBy, Says, Judged}
 use Rattle.packet.proofs.Laws as packet
 

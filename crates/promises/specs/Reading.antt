@@ -10,8 +10,8 @@ use Rattle.records.specs.Answered.{toldUser, toldIdentifier, toldFilterItem}
 use Rattle.records.specs.declared.answer.UserItem.{UserItem}
 use Rattle.records.specs.declared.answer.IdentifierItem.{IdentifierItem}
 use Rattle.records.specs.declared.answer.FilterItem.{FilterItem}
-use Rattle.records.specs.declared.puback.PubAck.{PubAck}
-use Rattle.records.specs.declared.publish.Publish.{Publish}
+use Rattle.records.specs.declared.puback_record.PubAck.{PubAck}
+use Rattle.records.specs.declared.publish_record.Publish.{Publish}
 use Rattle.records.specs.declared.span.Span.{Span}
 use Rattle.wire.specs.Told.{stringIf, inBlock}
 use Rattle.items.specs.Nth.{NthUser, NthIdentifier}

@@ -12,8 +12,8 @@ use Rattle.reading.specs.Read.{numOf, anyBytes, stringFit, propertyOf}
 use Rattle.reading.specs.Place.{Span, asPlaces, onGot}
 use Rattle.records.specs.Told.{toldError}
 use Rattle.records.specs.Said.{toldSubscribeBlock, toldPubAckBlock}
-use Rattle.properties.specs.declared.puback.GotPubAckBlock.{GotPubAckBlock}
-use Rattle.properties.specs.declared.subscribe.GotSubscribeBlock.{GotSubscribeBlock}
+use Rattle.properties.specs.declared.puback_block.GotPubAckBlock.{GotPubAckBlock}
+use Rattle.properties.specs.declared.subscribe_block.GotSubscribeBlock.{GotSubscribeBlock}
 
 -- ---- the place of a block
 

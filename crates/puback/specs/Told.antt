@@ -10,7 +10,7 @@ use Rattle.reading.specs.Place.{asPlaces, Placed, heldOf}
 use Rattle.reading.specs.Place as place
 use Rattle.records.specs.Told.{toldError}
 use Rattle.records.specs.Said.{toldPubAck, toldPubAckBlock}
-use Rattle.records.specs.declared.puback.PubAck.{PubAck}
+use Rattle.records.specs.declared.puback_record.PubAck.{PubAck}
 use Rattle.wire.specs.Told.{stringIf, inBlock}
 use Rattle.puback.specs.declared.GotPubAck.{GotPubAck}
 use Rattle.puback.specs.declared.GotLastBlock.{GotLastBlock}

@@ -1,13 +1,13 @@
 // A PubAck, after puback.rs: the read of its fields (MQTT 3.4), and its reason string as a part of the stream.
 use numbers::fixed;
 use numbers::got::GotU16;
-use properties::puback;
-use properties::puback::GotPubAckBlock;
+use properties::puback_block;
+use properties::puback_block::GotPubAckBlock;
 use records::error::Error;
-use records::puback::GotReason;
-use records::puback::MaybePubAckProperties;
-use records::puback::PubAck;
-use records::puback::PubAckReason;
+use records::puback_record::GotReason;
+use records::puback_record::MaybePubAckProperties;
+use records::puback_record::PubAck;
+use records::puback_record::PubAckReason;
 use records::span::MaybeSpan;
 use wire::string;
 ghost use mathlib.Core.Path.{_≡_};
@@ -38,7 +38,7 @@ fn read_last_block(s: &[u8], at: usize) -> GotLastBlock
     if s.len() <= at {
         return GotLastBlock::Value(MaybePubAckProperties::Absent);
     }
-    match puback::read_puback_block(s, at) {
+    match puback_block::read_puback_block(s, at) {
         GotPubAckBlock::Refused(e) => GotLastBlock::Refused(e),
         GotPubAckBlock::Value(properties, next) => {
             if next < s.len() {
@@ -60,7 +60,7 @@ fn read_rest(s: &[u8], at: usize, pkid: u16) -> GotPubAck
             properties: MaybePubAckProperties::Absent,
         });
     }
-    match records::puback::reason(s[at]) {
+    match records::puback_record::reason(s[at]) {
         GotReason::Refused(e) => GotPubAck::Refused(e),
         GotReason::Value(reason) => match read_last_block(s, at + 1) {
             GotLastBlock::Refused(e) => GotPubAck::Refused(e),

@@ -18,7 +18,7 @@ use Rattle.writing.specs.Order.{judge, word, fieldTests, givenFields}
 use Rattle.writing.specs.Write.{firstByte, frameBytes}
 use Rattle.writing.proofs.ForCode.{judgeAll, judge-if, ack-belongs, ack-tests, ack-sum, ack-frame, cap-small, cap-length}
 use Rattle.writing.proofs.Pins.{ack-props, first-bytes}
-use Rattle.records.specs.declared.puback.PubAckReason.{PubAckReason}
+use Rattle.records.specs.declared.puback_record.PubAckReason.{PubAckReason}
 use Rattle.records.specs.Told.{toldReason}
 use Rattle.numbers.proofs.Laws.Put.{length-wide, wide-one}
 use Rattle.rows.specs.Tested.{first}

@@ -1,13 +1,13 @@
 // A PubAck, written, after `write` and `size` of puback.rs: first every refusal and the size, touching nothing, then the bytes. A plain
 // success is four bytes.
 use numbers::fixed;
-use numbers::length::write_remaining_length;
+use numbers::length::put_length;
 use records::answer::Limit;
 use records::answer::Sized;
 use records::answer::Written;
 use records::error::Error;
-use records::puback::PubAckReason;
-use records::puback::reason_code;
+use records::puback_record::PubAckReason;
+use records::puback_record::reason_code;
 use rows::belong;
 use rows::run;
 use rows::size;
@@ -120,7 +120,7 @@ fn put_block(
     let reason = m.reason;
     fixed::put_u8(&mut *out, at, reason_code(reason));
     let first = run::after(out.len(), at, 1);
-    let n = write_remaining_length(&mut *out, first, len);
+    let n = put_length(&mut *out, first, len);
     let second = run::after(out.len(), first, n);
     let k = row_puts::put_lent(&mut *out, second, 31, m.reason_string, reason_string);
     let third = run::after(out.len(), second, k);

@@ -9,8 +9,8 @@ use Rattle.reading.specs.Place.{Placed, heldOf}
 use Rattle.reading.specs.Place as place
 use Rattle.records.specs.Told.{toldError, toldSpan, toldString}
 use Rattle.records.specs.Said.{toldPublishBlock, toldPublish}
-use Rattle.records.specs.declared.publish.Publish.{Publish}
-use Rattle.records.specs.declared.publish.PublishProperties.{PublishProperties}
+use Rattle.records.specs.declared.publish_record.Publish.{Publish}
+use Rattle.records.specs.declared.publish_record.PublishProperties.{PublishProperties}
 use Rattle.wire.specs.Told.{stringIf, inBlock}
 use Rattle.publish.specs.declared.GotPublish.{GotPublish}
 

@@ -3,7 +3,7 @@
 use crate::head::PublishHead;
 use crate::plan::no_pkid;
 use numbers::fixed;
-use numbers::length::write_remaining_length;
+use numbers::length::put_length;
 use records::qos::qos_number;
 use rows::run::after;
 use wire::string;
@@ -139,7 +139,7 @@ fn put_front(out: &mut [u8], head: PublishHead, rest: usize, topic: &[u8]) -> us
     let qos = head.qos;
     let n = settle::put_header(&mut *out, first_byte(head), rest);
     let second = after(out.len(), 0, n);
-    string::write_mqtt_bytes(&mut *out, second, topic);
+    string::put_string(&mut *out, second, topic);
     let third = after(out.len(), second, 2 + topic.len());
     let m = put_pkid(&mut *out, third, qos_number(qos), head.pkid);
     after(out.len(), third, m)
@@ -161,7 +161,7 @@ fn put_back(
 )
     ensures { λ r. ⌜ ((t : List ℕ) → now (out .exit) ≡ sets (now (out .entry)) at (short properties ++ (propsBytes publishPlace (publishGiven (handed head t (now («response_topic» .entry)) (now («correlation_data» .entry)) (now (user .entry)) (now («user_lengths» .entry)) (now («subscription_identifiers» .entry)) (now («content_type» .entry)) (now (payload .entry)))) ++ now (payload .entry)))) ⌝ }
 {
-    let n = write_remaining_length(&mut *out, at, properties);
+    let n = put_length(&mut *out, at, properties);
     let second = after(out.len(), at, n);
     let third = put_properties(
         &mut *out,

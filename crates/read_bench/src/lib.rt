@@ -2,7 +2,7 @@
 use packet;
 use records::answer::Limit;
 use records::answer::Read;
-use records::packet::Packet;
+use records::packet_record::Packet;
 use std::num;
 ghost use mathlib.Core.Path.{_≡_};
 ghost use Rattle.records.specs.Said.{toldPacket};

@@ -18,8 +18,8 @@ use Rattle.records.specs.declared.answer.Written.{Written}
 use Rattle.records.specs.declared.answer.UserItem.{UserItem}
 use Rattle.records.specs.declared.answer.IdentifierItem.{IdentifierItem}
 use Rattle.records.specs.declared.answer.FilterItem.{FilterItem}
-use Rattle.records.specs.declared.puback.GotReason.{GotReason}
-use Rattle.records.specs.declared.subscribe.GotRule.{GotRule}
+use Rattle.records.specs.declared.puback_record.GotReason.{GotReason}
+use Rattle.records.specs.declared.subscribe_record.GotRule.{GotRule}
 
 -- ---- reading
 

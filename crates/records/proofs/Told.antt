@@ -12,7 +12,7 @@ use Rattle.reading.specs.Place as place
 use Rattle.records.specs.Told.{toldError, toldValues, limitOf, toldBool, toldQoS, toldReason, toldRule, toldSpan, toldU8, toldU16, toldU32, toldString}
 use Rattle.records.specs.declared.answer.Limit.{Limit}
 use Rattle.records.specs.declared.error.Error.{Error}
-use Rattle.records.specs.declared.puback.PubAckReason.{PubAckReason}
+use Rattle.records.specs.declared.puback_record.PubAckReason.{PubAckReason}
 use Rattle.records.specs.declared.qos.QoS.{QoS}
 use Rattle.records.specs.declared.shown.Values.{Values}
 use Rattle.records.specs.declared.span.Span.{Span}
@@ -20,7 +20,7 @@ use Rattle.records.specs.declared.span.MaybeU8.{MaybeU8}
 use Rattle.records.specs.declared.span.MaybeU16.{MaybeU16}
 use Rattle.records.specs.declared.span.MaybeU32.{MaybeU32}
 use Rattle.records.specs.declared.span.MaybeSpan.{MaybeSpan}
-use Rattle.records.specs.declared.subscribe.RetainForwardRule.{RetainForwardRule}
+use Rattle.records.specs.declared.subscribe_record.RetainForwardRule.{RetainForwardRule}
 use Rattle.records.proofs.Laws.{injective-by}
 
 -- ---- refusals

@@ -5,17 +5,17 @@ use Rattle.grammar.specs.Record as record-of
 use Rattle.reading.specs.Place.{Placed}
 use Rattle.reading.specs.Place as place
 use Rattle.records.specs.Told.{toldBool, toldQoS, toldReason, toldRule, toldSpan, toldU8, toldU16, toldU32, toldString}
-use Rattle.records.specs.declared.packet.Packet.{Packet}
-use Rattle.records.specs.declared.puback.PubAck.{PubAck}
-use Rattle.records.specs.declared.puback.PubAckProperties.{PubAckProperties}
-use Rattle.records.specs.declared.puback.MaybePubAckProperties.{MaybePubAckProperties}
-use Rattle.records.specs.declared.publish.Publish.{Publish}
-use Rattle.records.specs.declared.publish.PublishProperties.{PublishProperties}
-use Rattle.records.specs.declared.publish.MaybePublishProperties.{MaybePublishProperties}
-use Rattle.records.specs.declared.subscribe.Filter.{Filter}
-use Rattle.records.specs.declared.subscribe.Subscribe.{Subscribe}
-use Rattle.records.specs.declared.subscribe.SubscribeProperties.{SubscribeProperties}
-use Rattle.records.specs.declared.subscribe.MaybeSubscribeProperties.{MaybeSubscribeProperties}
+use Rattle.records.specs.declared.packet_record.Packet.{Packet}
+use Rattle.records.specs.declared.puback_record.PubAck.{PubAck}
+use Rattle.records.specs.declared.puback_record.PubAckProperties.{PubAckProperties}
+use Rattle.records.specs.declared.puback_record.MaybePubAckProperties.{MaybePubAckProperties}
+use Rattle.records.specs.declared.publish_record.Publish.{Publish}
+use Rattle.records.specs.declared.publish_record.PublishProperties.{PublishProperties}
+use Rattle.records.specs.declared.publish_record.MaybePublishProperties.{MaybePublishProperties}
+use Rattle.records.specs.declared.subscribe_record.Filter.{Filter}
+use Rattle.records.specs.declared.subscribe_record.Subscribe.{Subscribe}
+use Rattle.records.specs.declared.subscribe_record.SubscribeProperties.{SubscribeProperties}
+use Rattle.records.specs.declared.subscribe_record.MaybeSubscribeProperties.{MaybeSubscribeProperties}
 
 -- ---- property sets
 

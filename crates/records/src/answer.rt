@@ -1,8 +1,8 @@
 // The answers: of a read, a size, a write, and an item.
 use crate::error::Error;
-use crate::packet::Packet;
+use crate::packet_record::Packet;
 use crate::span::Span;
-use crate::subscribe::Filter;
+use crate::subscribe_record::Filter;
 
 // The largest R that is read, or the largest size that is written; AtMost(0) is a limit.
 pub enum Limit {

@@ -2,10 +2,10 @@
 // structs of puback.rs, subscribe.rs and publish.rs; strings and lists are places in the lent stream.
 pub mod answer;
 pub mod error;
-pub mod packet;
-pub mod puback;
-pub mod publish;
+pub mod packet_record;
+pub mod puback_record;
+pub mod publish_record;
 pub mod qos;
 pub mod shown;
 pub mod span;
-pub mod subscribe;
+pub mod subscribe_record;

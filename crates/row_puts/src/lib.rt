@@ -1,12 +1,12 @@
 // The bytes of a row, after `write` of the properties in publish.rs, subscribe.rs and puback.rs, and of filters: each function puts them
 // at an index of an output and gives how many they are. What would lie past the end is not stored.
 use numbers::fixed;
-use numbers::length::write_remaining_length;
+use numbers::length::put_length;
 use records::span::MaybeU8;
 use records::span::MaybeU16;
 use records::span::MaybeU32;
 use rows::run;
-use wire::string::write_mqtt_bytes;
+use wire::string::put_string;
 ghost use mathlib.Core.Path.{_≡_};
 ghost use mathlib.Core.List.{_∷_, [], _++_};
 ghost use Prim.Native.Nat.{_+_, _^_, _≤_, _<_, min};
@@ -74,7 +74,7 @@ fn put_number(out: &mut [u8], at: usize, id: u8, n: u32) -> usize
     ensures { λ r. ⌜ Put (now (out .entry)) at (id ∷ short n) (now (out .exit)) r × (r ≤ 5) ⌝ }
 {
     let next = put_id(&mut *out, at, id);
-    1 + write_remaining_length(&mut *out, next, n as usize)
+    1 + put_length(&mut *out, next, n as usize)
 }
 
 // The same of a variable length number.
@@ -93,7 +93,7 @@ pub fn put_lent(out: &mut [u8], at: usize, id: u8, on: bool, s: &[u8]) -> usize
 {
     if on {
         let next = put_id(&mut *out, at, id);
-        write_mqtt_bytes(&mut *out, next, s);
+        put_string(&mut *out, next, s);
         return 3 + s.len();
     }
     0
@@ -104,9 +104,9 @@ fn put_pair(out: &mut [u8], at: usize, key: &[u8], value: &[u8]) -> usize
     ensures { λ r. ⌜ Put (now (out .entry)) at (38 ∷ (string (now (key .entry)) ++ string (now (value .entry)))) (now (out .exit)) r ⌝ }
 {
     let next = put_id(&mut *out, at, 38);
-    write_mqtt_bytes(&mut *out, next, key);
+    put_string(&mut *out, next, key);
     let last = run::after(out.len(), at, 3 + key.len());
-    write_mqtt_bytes(&mut *out, last, value);
+    put_string(&mut *out, last, value);
     5 + key.len() + value.len()
 }
 
@@ -152,7 +152,7 @@ pub fn put_ids(out: &mut [u8], at: usize, ids: &[u32]) -> usize
 fn put_filter(out: &mut [u8], at: usize, s: &[u8], options: u8) -> usize
     ensures { λ r. ⌜ Put (now (out .entry)) at (filterBytes (now (s .entry), options)) (now (out .exit)) r ⌝ }
 {
-    write_mqtt_bytes(&mut *out, at, s);
+    put_string(&mut *out, at, s);
     let next = run::after(out.len(), at, 2 + s.len());
     fixed::put_u8(&mut *out, next, options % 64);
     3 + s.len()

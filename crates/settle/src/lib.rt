@@ -2,7 +2,7 @@
 // of its frame. The crate's `write` of each kind repeats these lines, and tests the limit first (D7).
 use numbers::fixed;
 use numbers::length::len_len;
-use numbers::length::write_remaining_length;
+use numbers::length::put_length;
 use records::answer::Limit;
 use records::answer::Sized;
 use records::answer::Written;
@@ -98,5 +98,5 @@ pub fn put_header(out: &mut [u8], first: u8, rest: usize) -> usize
 {
     fixed::put_u8(&mut *out, 0, first);
     let next = run::after(out.len(), 0, 1);
-    1 + write_remaining_length(&mut *out, next, rest)
+    1 + put_length(&mut *out, next, rest)
 }

@@ -17,7 +17,7 @@ use Rattle.records.specs.Said.{toldFilter, toldSubscribe}
 use Rattle.records.specs.Answered.{toldFilterItem}
 use Rattle.records.specs.declared.answer.FilterItem.{FilterItem}
 use Rattle.records.specs.declared.span.Span.{Span}
-use Rattle.records.specs.declared.subscribe.Filter.{Filter}
+use Rattle.records.specs.declared.subscribe_record.Filter.{Filter}
 use Rattle.subscribe.specs.declared.GotSubscribe.{GotSubscribe}
 use Rattle.subscribe.specs.declared.filter.GotFilter.{GotFilter}
 use Rattle.subscribe.specs.declared.filter.GotFilters.{GotFilters}

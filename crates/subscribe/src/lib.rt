@@ -2,10 +2,10 @@
 use crate::filter::GotFilters;
 use numbers::fixed;
 use numbers::got::GotU16;
-use properties::subscribe;
-use properties::subscribe::GotSubscribeBlock;
+use properties::subscribe_block;
+use properties::subscribe_block::GotSubscribeBlock;
 use records::error::Error;
-use records::subscribe::Subscribe;
+use records::subscribe_record::Subscribe;
 ghost use mathlib.Core.Path.{_≡_};
 ghost use Prim.Native.Nat.{ℕ};
 ghost use lib.ListN.{length, drop};
@@ -27,7 +27,7 @@ pub fn read(s: &[u8], at: usize) -> GotSubscribe
 {
     match fixed::read_u16(s, at) {
         GotU16::Refused(e) => GotSubscribe::Refused(e),
-        GotU16::Value(pkid, next) => match subscribe::read_subscribe_block(s, next) {
+        GotU16::Value(pkid, next) => match subscribe_block::read_subscribe_block(s, next) {
             GotSubscribeBlock::Refused(e) => GotSubscribe::Refused(e),
             GotSubscribeBlock::Value(properties, start) => match filter::read_filters(s, start) {
                 GotFilters::Refused(e) => GotSubscribe::Refused(e),

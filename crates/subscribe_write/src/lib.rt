@@ -1,7 +1,7 @@
 // A Subscribe, written, after `write` and `size` of subscribe.rs: first every refusal and the size, touching nothing, then the bytes. An
 // empty filter list is refused (D6).
 use numbers::fixed;
-use numbers::length::write_remaining_length;
+use numbers::length::put_length;
 use records::answer::Limit;
 use records::answer::Sized;
 use records::answer::Written;
@@ -188,7 +188,7 @@ fn put_block(
 {
     let len = block_length(m, user, user_lengths);
     let id = m.id;
-    let n = write_remaining_length(&mut *out, at, len);
+    let n = put_length(&mut *out, at, len);
     let first = run::after(out.len(), at, n);
     let k = row_puts::put_number_if(&mut *out, first, 11, id);
     let second = run::after(out.len(), first, k);

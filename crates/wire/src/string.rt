@@ -226,7 +226,7 @@ pub fn string_length(s: &[u8]) -> GotStringLength
 }
 
 // The length is written modulo 65,536, as `string` has it: `string_length` refuses what is longer.
-pub fn write_mqtt_bytes(out: &mut [u8], at: usize, s: &[u8])
+pub fn put_string(out: &mut [u8], at: usize, s: &[u8])
     ensures { λ r. ⌜ now (out .exit) ≡ sets (now (out .entry)) at (string (now (s .entry))) ⌝ }
 {
     if at < out.len() {

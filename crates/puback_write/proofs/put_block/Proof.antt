@@ -23,8 +23,8 @@ put-u8-requires c κs = search needs
 after-requires : tie.Need-after-requires
 after-requires c κs = search needs
 
-write-remaining-length-requires : tie.Need-write-remaining-length-requires
-write-remaining-length-requires c κs = search needs
+put-length-requires : tie.Need-put-length-requires
+put-length-requires c κs = search needs
 
 after-requires-2 : tie.Need-after-requires-2
 after-requires-2 c κs = search needs
@@ -46,7 +46,7 @@ returns c =
     let a = c .before .before .before .before .before .before .before .before .before .before .before .before .before .before .before .before .before .before .before .before .before .before .before .before .before .args in
     put-behind (handed (a .m) (now (a .reason-string)) (now (a .user)) (now (a .user-lengths))) (now (a .out)) _ _ _ _ (a .at) _ _ _ _ _ _ _ (c .before .before .before .before .before .before .before .before .before .before .before .before .before .before .before .before .before .before .before .before .block-length .ensures) (reason-small (a .m .reason))
     (c .before .before .before .before .before .before .before .before .before .before .before .before .before .before .before .before .before .put-u8 .ensures ∙ ap (λ (n : ℕ). sets (now (a .out)) (a .at) (wide 1 n)) (c .before .before .before .before .before .before .before .before .before .before .before .before .before .before .before .before .before .before .reason-code .ensures)) (c .before .before .before .before .before .before .before .before .before .before .before .before .before .before .after .ensures)
-    (c .before .before .before .before .before .before .before .before .before .before .before .before .write-remaining-length .ensures) (c .before .before .before .before .before .before .before .before .before .after2 .ensures)
+    (c .before .before .before .before .before .before .before .before .before .before .before .before .put-length .ensures) (c .before .before .before .before .before .before .before .before .before .after2 .ensures)
     (c .before .before .before .before .before .before .before .put-lent .ensures text) (c .before .before .before .before .after3 .ensures)
     (c .before .before .put-pairs .ensures)
 
@@ -58,7 +58,7 @@ put-block-spec =
     reason-code-requires
     put-u8-requires
     after-requires
-    write-remaining-length-requires
+    put-length-requires
     after-requires-2
     put-lent-requires
     after-requires-3

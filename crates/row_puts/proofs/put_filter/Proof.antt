@@ -5,8 +5,8 @@ use Rattle.row_puts.proofs.Laws.{put-filter}
 use Rattle.row_puts.proofs.put_filter.Statement.{statement}
 use Rattle.row_puts.proofs.put_filter.Tie as tie
 
-write-mqtt-bytes-requires : tie.Need-write-mqtt-bytes-requires
-write-mqtt-bytes-requires c κs = search needs
+put-string-requires : tie.Need-put-string-requires
+put-string-requires c κs = search needs
 
 add-after : tie.Need-add-after
 add-after c = search needs
@@ -26,13 +26,13 @@ same-length c = search needs
 returns : tie.Need-returns
 returns c =
     let a = c .before .before .before .before .before .before .before .before .before .before .before .args in
-    put-filter (now (a .s)) (a .options) (now (a .out)) _ _ (a .at) _ (c .before .before .before .before .before .before .before .write-mqtt-bytes .ensures) (c .before .before .before .before .after .ensures) (c .before .before .put-u8 .ensures)
+    put-filter (now (a .s)) (a .options) (now (a .out)) _ _ (a .at) _ (c .before .before .before .before .before .before .before .put-string .ensures) (c .before .before .before .before .after .ensures) (c .before .before .put-u8 .ensures)
 
 pub put-filter-spec : {M : Type 1} → statement M
 put-filter-spec =
     tie.close
     (tie.spec
-    write-mqtt-bytes-requires
+    put-string-requires
     add-after
     after-requires
     put-u8-requires

@@ -8,8 +8,8 @@ use Rattle.row_puts.proofs.put_lent.Tie as tie
 put-id-requires : tie.Need-put-id-requires
 put-id-requires c κs = search needs
 
-write-mqtt-bytes-requires : tie.Need-write-mqtt-bytes-requires
-write-mqtt-bytes-requires c κs = search needs
+put-string-requires : tie.Need-put-string-requires
+put-string-requires c κs = search needs
 
 add-result : tie.Need-add-result
 add-result c = search needs
@@ -20,7 +20,7 @@ same-length c = search needs
 returns : tie.Need-returns
 returns c =
     let a = c .before .before .before .before .before .before .before .before .before .before .before .args in
-    λ f. rw (c .before .before .before .before .before .before .before .before .if1 .taken) (put-string (a .id) f (now (a .s)) (now (a .out)) _ _ (a .at) _ (c .before .before .before .before .before .before .put-id .ensures) (c .before .before .write-mqtt-bytes .ensures))
+    λ f. rw (c .before .before .before .before .before .before .before .before .if1 .taken) (put-string (a .id) f (now (a .s)) (now (a .out)) _ _ (a .at) _ (c .before .before .before .before .before .before .put-id .ensures) (c .before .before .put-string .ensures))
 
 returns-2 : tie.Need-returns-2
 returns-2 c = λ f. rw (c .if1 .left) (put-none _ _)
@@ -28,4 +28,4 @@ returns-2 c = λ f. rw (c .if1 .left) (put-none _ _)
 pub put-lent-spec : {M : Type 1} → statement M
 put-lent-spec =
     tie.close
-    (tie.spec put-id-requires write-mqtt-bytes-requires add-result same-length returns returns-2)
+    (tie.spec put-id-requires put-string-requires add-result same-length returns returns-2)

@@ -15,13 +15,13 @@ use Rattle.row_puts.proofs.put_number.Tie as tie
 put-id-requires : tie.Need-put-id-requires
 put-id-requires c κs = search needs
 
-write-remaining-length-requires : tie.Need-write-remaining-length-requires
-write-remaining-length-requires c κs = search needs
+put-length-requires : tie.Need-put-length-requires
+put-length-requires c κs = search needs
 
 add-result : tie.Need-add-result
 add-result c =
     let n : ℕ = c .before .before .before .before .before .before .before .before .before .args .n in
-    let e : c .before .before .write-remaining-length .result ≡ lenLen n = c .before .before .write-remaining-length .ensures .1 ∙ length-short n in
+    let e : c .before .before .put-length .result ≡ lenLen n = c .before .before .put-length .ensures .1 ∙ length-short n in
     omega (arith, len-len-most n)
 
 same-length : tie.Need-same-length
@@ -30,11 +30,11 @@ same-length c = search needs
 returns : tie.Need-returns
 returns c =
     let a = c .before .before .before .before .before .before .before .before .before .args in
-    let w = c .before .before .write-remaining-length in
+    let w = c .before .before .put-length in
     let e : w .result ≡ lenLen (a .n) = w .ensures .1 ∙ length-short (a .n) in
     (put-row (now (a .out)) _ _ (short (a .n)) (a .at) (a .id) _ _ (c .before .before .before .before .before .before .put-id .ensures) (w .ensures .0) (ap (λ (k : ℕ). 1 + k) (w .ensures .1)), omega (arith, len-len-most (a .n)))
 
 pub put-number-spec : {M : Type 1} → statement M
 put-number-spec =
     tie.close
-    (tie.spec put-id-requires write-remaining-length-requires add-result same-length returns)
+    (tie.spec put-id-requires put-length-requires add-result same-length returns)

@@ -8,8 +8,8 @@ use Rattle.row_puts.proofs.put_pair.Tie as tie
 put-id-requires : tie.Need-put-id-requires
 put-id-requires c κs = search needs
 
-write-mqtt-bytes-requires : tie.Need-write-mqtt-bytes-requires
-write-mqtt-bytes-requires c κs = search needs
+put-string-requires : tie.Need-put-string-requires
+put-string-requires c κs = search needs
 
 add-after : tie.Need-add-after
 add-after c = search needs
@@ -17,8 +17,8 @@ add-after c = search needs
 after-requires : tie.Need-after-requires
 after-requires c κs = search needs
 
-write-mqtt-bytes-requires-2 : tie.Need-write-mqtt-bytes-requires-2
-write-mqtt-bytes-requires-2 c κs = search needs
+put-string-requires-2 : tie.Need-put-string-requires-2
+put-string-requires-2 c κs = search needs
 
 add-result : tie.Need-add-result
 add-result c = search needs
@@ -32,17 +32,17 @@ same-length c = search needs
 returns : tie.Need-returns
 returns c =
     let a = c .before .before .before .before .before .before .before .before .before .before .before .before .before .before .before .before .args in
-    put-both (now (a .key)) (now (a .value)) (now (a .out)) _ _ _ (a .at) _ _ (c .before .before .before .before .before .before .before .before .before .before .before .put-id .ensures) (c .before .before .before .before .before .before .before .write-mqtt-bytes .ensures) (c .before .before .before .before .after .ensures) (c .before .before .write-mqtt-bytes2 .ensures)
+    put-both (now (a .key)) (now (a .value)) (now (a .out)) _ _ _ (a .at) _ _ (c .before .before .before .before .before .before .before .before .before .before .before .put-id .ensures) (c .before .before .before .before .before .before .before .put-string .ensures) (c .before .before .before .before .after .ensures) (c .before .before .put-string2 .ensures)
 
 pub put-pair-spec : {M : Type 1} → statement M
 put-pair-spec =
     tie.close
     (tie.spec
     put-id-requires
-    write-mqtt-bytes-requires
+    put-string-requires
     add-after
     after-requires
-    write-mqtt-bytes-requires-2
+    put-string-requires-2
     add-result
     add-result-2
     same-length

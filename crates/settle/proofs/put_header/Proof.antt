@@ -21,13 +21,13 @@ put-u8-requires c κs = search needs
 after-requires : tie.Need-after-requires
 after-requires c κs = search needs
 
-write-remaining-length-requires : tie.Need-write-remaining-length-requires
-write-remaining-length-requires c κs = search needs
+put-length-requires : tie.Need-put-length-requires
+put-length-requires c κs = search needs
 
 add-result : tie.Need-add-result
 add-result c =
     let n : ℕ = c .before .before .before .before .before .before .before .before .before .before .args .rest in
-    let e : c .before .before .write-remaining-length .result ≡ lenLen n = c .before .before .write-remaining-length .ensures .1 ∙ length-short n in
+    let e : c .before .before .put-length .result ≡ lenLen n = c .before .before .put-length .ensures .1 ∙ length-short n in
     omega (arith, len-len-most n)
 
 same-length : tie.Need-same-length
@@ -36,7 +36,7 @@ same-length c = search needs
 returns : tie.Need-returns
 returns c =
     let a = c .before .before .before .before .before .before .before .before .before .before .args in
-    let w = c .before .before .write-remaining-length in
+    let w = c .before .before .put-length in
     put-row (now (a .out)) _ _ (short (a .rest)) 0 (a .first) _ _ (c .before .before .before .before .before .before .before .put-u8 .ensures ∙ ap (λ (l : List ℕ). sets (now (a .out)) 0 l) (sym (wide-one (omega arith))), c .before .before .before .before .after .ensures) (w .ensures .0) (ap (λ (k : ℕ). 1 + k) (w .ensures .1))
 
 pub put-header-spec : {M : Type 1} → statement M
@@ -45,7 +45,7 @@ put-header-spec =
     (tie.spec
     put-u8-requires
     after-requires
-    write-remaining-length-requires
+    put-length-requires
     add-result
     same-length
     returns)

@@ -9,8 +9,8 @@ use Rattle.subscribe_write.proofs.put_block.Tie as tie
 block-length-requires : tie.Need-block-length-requires
 block-length-requires c κs = search needs
 
-write-remaining-length-requires : tie.Need-write-remaining-length-requires
-write-remaining-length-requires c κs = search needs
+put-length-requires : tie.Need-put-length-requires
+put-length-requires c κs = search needs
 
 after-requires : tie.Need-after-requires
 after-requires c κs = search needs
@@ -34,7 +34,7 @@ returns : tie.Need-returns
 returns c =
     let a = c .before .before .before .before .before .before .before .before .before .before .before .before .before .before .before .before .before .before .before .args in
     λ fs ns os. put-rows (handed (a .m) (now (a .user)) (now (a .user-lengths)) fs ns os) (now (a .out)) _ _ _ (a .at) _ _ _ _ _ _ _ (c .before .before .before .before .before .before .before .before .before .before .before .before .before .before .before .block-length .ensures fs ns os)
-    (c .before .before .before .before .before .before .before .before .before .before .before .before .before .write-remaining-length .ensures) (c .before .before .before .before .before .before .before .before .before .before .after .ensures)
+    (c .before .before .before .before .before .before .before .before .before .before .before .before .before .put-length .ensures) (c .before .before .before .before .before .before .before .before .before .before .after .ensures)
     (c .before .before .before .before .before .before .before .before .put-number-if .ensures) (c .before .before .before .before .before .after2 .ensures)
     (c .before .before .before .put-pairs .ensures) (c .after3 .ensures)
 
@@ -43,7 +43,7 @@ put-block-spec =
     tie.close
     (tie.spec
     block-length-requires
-    write-remaining-length-requires
+    put-length-requires
     after-requires
     put-number-if-requires
     after-requires-2

@@ -10,8 +10,8 @@ use Rattle.publish_write.specs.Handed.{handed}
 use Rattle.publish_write.proofs.put.put_back.Statement.{statement}
 use Rattle.publish_write.proofs.put.put_back.Tie as tie
 
-write-remaining-length-requires : tie.Need-write-remaining-length-requires
-write-remaining-length-requires c κs = search needs
+put-length-requires : tie.Need-put-length-requires
+put-length-requires c κs = search needs
 
 after-requires : tie.Need-after-requires
 after-requires c κs = search needs
@@ -28,7 +28,7 @@ same-length c = search needs
 returns : tie.Need-returns
 returns c =
     let a = c .before .before .before .before .before .before .before .before .before .before .before .before .before .before .before .before .before .before .before .before .before .args in
-    let w = c .before .before .before .before .before .before .before .before .before .before .before .write-remaining-length .ensures in
+    let w = c .before .before .before .before .before .before .before .before .before .before .before .put-length .ensures in
     λ t. next-last (store-next (short (a .properties)) (w .0) (w .1) (c .before .before .before .before .before .before .before .before .after .ensures))
     (propsBytes publishPlace (publishGiven (handed (a .head) t (now (a .response-topic)) (now (a .correlation-data)) (now (a .user)) (now (a .user-lengths)) (now (a .subscription-identifiers))
     (now (a .content-type)) (now (a .payload)))) ++ now (a .payload))
@@ -38,7 +38,7 @@ pub put-back-spec : {M : Type 1} → statement M
 put-back-spec =
     tie.close
     (tie.spec
-    write-remaining-length-requires
+    put-length-requires
     after-requires
     put-properties-requires
     put-bytes-requires

@@ -15,8 +15,8 @@ put-header-requires c κs = search needs
 after-requires : tie.Need-after-requires
 after-requires c κs = search needs
 
-write-mqtt-bytes-requires : tie.Need-write-mqtt-bytes-requires
-write-mqtt-bytes-requires c κs = search needs
+put-string-requires : tie.Need-put-string-requires
+put-string-requires c κs = search needs
 
 add-after : tie.Need-add-after
 add-after c = search needs
@@ -43,7 +43,7 @@ returns c =
     (c .before .before .before .before .before .before .before .before .before .before .before .before .before .before .before .first-byte .ensures (now (a .topic)) r b u l i d p)
     (c .before .before .before .before .before .before .before .before .before .before .before .before .before .before .put-header .ensures)
     (c .before .before .before .before .before .before .before .before .before .before .before .after .ensures)
-    (c .before .before .before .before .before .before .before .before .before .write-mqtt-bytes .ensures) (c .before .before .before .before .before .before .after2 .ensures)
+    (c .before .before .before .before .before .before .before .before .before .put-string .ensures) (c .before .before .before .before .before .before .after2 .ensures)
     (c .before .before .before .before .qos-number .ensures) (c .before .before .before .put-pkid .ensures) (c .after3 .ensures)
 
 pub put-front-spec : {M : Type 1} → statement M
@@ -53,7 +53,7 @@ put-front-spec =
     first-byte-requires
     put-header-requires
     after-requires
-    write-mqtt-bytes-requires
+    put-string-requires
     add-after
     after-requires-2
     qos-number-requires

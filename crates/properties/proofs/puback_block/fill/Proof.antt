@@ -1,4 +1,4 @@
--- `properties::puback::fill` meets its contract. The loop's invariant: the rest of the loop decides the whole. Each property takes a byte at
+-- `properties::puback_block::fill` meets its contract. The loop's invariant: the rest of the loop decides the whole. Each property takes a byte at
 -- least, and what is left of the slice is the measure. Assumes nothing.
 use mathlib.Core.Path.{refl, sym, ap, _∙_}
 use Prim.Native.Nat.{_-_}
@@ -11,8 +11,8 @@ use Rattle.records.specs.Said.{toldPubAckProperties}
 use Rattle.property_value.specs.Told.{toldProperty}
 use Rattle.properties.specs.Block.{ackRow, loopFrom}
 use Rattle.properties.proofs.Laws.Fold.{Filling, filling-start, filling-next, filling-ahead, filled-bad, filled-end}
-use Rattle.properties.proofs.puback.fill.Statement.{statement}
-use Rattle.properties.proofs.puback.fill.Tie as tie
+use Rattle.properties.proofs.puback_block.fill.Statement.{statement}
+use Rattle.properties.proofs.puback_block.fill.Tie as tie
 
 abbrev Inv-loop : tie.InvT-loop
 Inv-loop s p₀ at₀ p at = Filling ackRow s (loopFrom ackRow (toldPubAckProperties p₀) s at₀) (toldPubAckProperties p) at

@@ -1,8 +1,8 @@
--- `properties::subscribe::apply` meets its contract: by the row, a number is the identifier, and what is no number is a user property. Assumes nothing.
+-- `properties::subscribe_block::apply` meets its contract: by the row, a number is the identifier, and what is no number is a user property. Assumes nothing.
 use borrow.Author.Needs.{needs}
 use Rattle.properties.proofs.Laws.Fold.{subscribe-is}
-use Rattle.properties.proofs.subscribe.apply.Statement.{statement}
-use Rattle.properties.proofs.subscribe.apply.Tie as tie
+use Rattle.properties.proofs.subscribe_block.apply.Statement.{statement}
+use Rattle.properties.proofs.subscribe_block.apply.Tie as tie
 
 enum-known-v : tie.Need-enum-known-v
 enum-known-v c = search needs

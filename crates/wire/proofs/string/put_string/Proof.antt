@@ -1,11 +1,11 @@
--- `wire::string::write_mqtt_bytes` meets its contract: the length and the bytes behind it are one run of stores. Assumes nothing.
+-- `wire::string::put_string` meets its contract: the length and the bytes behind it are one run of stores. Assumes nothing.
 use borrow.Author.Needs.{needs}
 use denote.Ref.{now}
 use Rattle.writing.specs.Spell.{string}
 use Rattle.numbers.proofs.Laws.Put.{sets-out}
 use Rattle.wire.proofs.Laws.Strings.{put-string}
-use Rattle.wire.proofs.string.write_mqtt_bytes.Statement.{statement}
-use Rattle.wire.proofs.string.write_mqtt_bytes.Tie as tie
+use Rattle.wire.proofs.string.put_string.Statement.{statement}
+use Rattle.wire.proofs.string.put_string.Tie as tie
 
 cast-put-u16 : tie.Need-cast-put-u16
 cast-put-u16 c = search needs
@@ -32,8 +32,8 @@ returns-2 c =
     let a = c .before .before .before .args in
     sets-out (string (now (a .s))) (now (a .out)) (a .at) (c .if1 .left)
 
-pub write-mqtt-bytes-spec : {M : Type 1} → statement M
-write-mqtt-bytes-spec =
+pub put-string-spec : {M : Type 1} → statement M
+put-string-spec =
     tie.close
     (tie.spec
     cast-put-u16

@@ -1,8 +1,8 @@
--- `properties::puback::apply` meets its contract: by the row, text is the reason string, and what is no text is a user property. Assumes nothing.
+-- `properties::puback_block::apply` meets its contract: by the row, text is the reason string, and what is no text is a user property. Assumes nothing.
 use borrow.Author.Needs.{needs}
 use Rattle.properties.proofs.Laws.Fold.{ack-is}
-use Rattle.properties.proofs.puback.apply.Statement.{statement}
-use Rattle.properties.proofs.puback.apply.Tie as tie
+use Rattle.properties.proofs.puback_block.apply.Statement.{statement}
+use Rattle.properties.proofs.puback_block.apply.Tie as tie
 
 enum-known-v : tie.Need-enum-known-v
 enum-known-v c = search needs

@@ -1,8 +1,8 @@
 -- A number in an arm of its own is that reason's; one that is left over differs from each of the nine, and 0x98 is a gap of one.
 use borrow.Author.Tests.{ne-eqb}
 use Rattle.grammar.specs.Tables.{reasons}
-use Rattle.records.proofs.puback.reason.Statement.{statement}
-use Rattle.records.proofs.puback.reason.Tie as tie
+use Rattle.records.proofs.puback_record.reason.Statement.{statement}
+use Rattle.records.proofs.puback_record.reason.Tie as tie
 
 left-over : tie.Need-returns-11
 unfolding reasons

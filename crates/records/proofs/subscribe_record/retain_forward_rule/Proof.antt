@@ -1,8 +1,8 @@
--- `records::subscribe::retain_forward_rule` is right since each number in an arm of its own is below 3, and what is left over is not. Assumes nothing.
+-- `records::subscribe_record::retain_forward_rule` is right since each number in an arm of its own is below 3, and what is left over is not. Assumes nothing.
 use native.Mathlib.Omega.{arith}
 use borrow.Author.Tests.{le-ltb}
-use Rattle.records.proofs.subscribe.retain_forward_rule.Statement.{statement}
-use Rattle.records.proofs.subscribe.retain_forward_rule.Tie as tie
+use Rattle.records.proofs.subscribe_record.retain_forward_rule.Statement.{statement}
+use Rattle.records.proofs.subscribe_record.retain_forward_rule.Tie as tie
 
 returns : tie.Need-returns
 returns c = rw (c .match .keys1)

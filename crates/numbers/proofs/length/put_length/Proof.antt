@@ -1,10 +1,10 @@
--- `numbers::length::write_remaining_length` is right since past the end nothing is stored, and `len_len` counts all the same. Assumes nothing.
+-- `numbers::length::put_length` is right since past the end nothing is stored, and `len_len` counts all the same. Assumes nothing.
 use native.Mathlib.Omega.{arith}
 use borrow.Author.Needs.{needs}
 use Rattle.writing.specs.Spell.{short}
 use Rattle.numbers.proofs.Laws.Put.{sets-out}
-use Rattle.numbers.proofs.length.write_remaining_length.Statement.{statement}
-use Rattle.numbers.proofs.length.write_remaining_length.Tie as tie
+use Rattle.numbers.proofs.length.put_length.Statement.{statement}
+use Rattle.numbers.proofs.length.put_length.Tie as tie
 
 put-groups-requires : tie.Need-put-groups-requires
 put-groups-requires c κs = search needs
@@ -21,6 +21,6 @@ returns c = c .before .before .put-groups .ensures
 returns-2 : tie.Need-returns-2
 returns-2 c = let a = c .before .before .before .args in (sets-out (short (a .n)) (a .out .now) (a .at) (omega arith), c .len-len .ensures)
 
-pub write-remaining-length-spec : {M : Type 1} → statement M
-write-remaining-length-spec =
+pub put-length-spec : {M : Type 1} → statement M
+put-length-spec =
     tie.close (tie.spec put-groups-requires len-len-requires same-length returns returns-2)
