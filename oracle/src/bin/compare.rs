@@ -1,9 +1,9 @@
 //! The crate's text against the port: every short frame, random ones and damaged copies of them, records written; see oracle/README.md.
-//! compare [--seed N] [--share PERCENT] [--fault D1..D7] [--listed] [--corpus FILE]
+//! compare [--seed N] [--share PERCENT] [--listed] [--corpus FILE]
 use oracle::compare::corpus::Corpus;
 use oracle::compare::frames::{self, one_in, pick, Frame};
 use oracle::compare::hold::{entries, Hold};
-use oracle::compare::model::{entry, Entries};
+use oracle::compare::model::Entries;
 use oracle::compare::shape::{Given, Lent, Span};
 use oracle::compare::{given, port};
 use oracle::streams::Dice;
@@ -560,7 +560,6 @@ fn main() {
             "--seed" => seed = value().parse().unwrap(),
             "--share" => share = value().parse().unwrap(),
             "--cap" => cap = value().parse().unwrap(),
-            "--fault" => port::seed(entry(value().trim_start_matches('D').parse().unwrap())),
             "--corpus" => file = Some(value()),
             "--listed" => only_listed = true,
             _ => panic!("what is {a}?"),

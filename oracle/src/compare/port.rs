@@ -1,19 +1,9 @@
 //! The port, reached through its C interface (feature `capi`, bindings/c/ecchjulmina.h). Without the feature the hand-written reader of
-//! limit.rs and the model of the writer stand in for it. A fault can be seeded: a difference of the crate put back on the port's side.
-use super::model::Entries;
+//! limit.rs and the model of the writer stand in for it.
 use super::shape::*;
-use super::{model, model_write};
-use std::sync::atomic::{AtomicU32, Ordering::Relaxed};
 
 /// The numbers of `record`, after enum ecch_record_layout.
 pub const RECORD: usize = 38;
-
-static SEED: AtomicU32 = AtomicU32::new(0);
-
-/// From now on the port answers with these differences put back.
-pub fn seed(faults: Entries) {
-    SEED.store(faults, Relaxed);
-}
 
 /// A record's numbers, as ecch_read fills them.
 pub fn numbers(answer: &Answer) -> [u64; RECORD] {
@@ -292,6 +282,7 @@ mod side {
 
 #[cfg(not(feature = "capi"))]
 mod side {
+    use super::super::{model, model_write};
     use super::*;
     use crate::limit::{self, Rec};
 
@@ -390,14 +381,10 @@ mod side {
     }
 }
 
-pub use side::{name, part};
+pub use side::{filter, identifier, name, part, size, user, write};
 
 /// The record or the refusal with the bytes taken; `lists` gets the items, each asked for by its number until there is none.
 pub fn read(s: &[u8], limit: Option<u64>, lists: &mut Lists) -> Answer {
-    let seed = SEED.load(Relaxed) & model::ALL;
-    if seed != 0 {
-        return model::read(s, limit, seed, lists);
-    }
     lists.clear();
     let answer = side::read(s, limit);
     if let Ok(r) = &answer.0 {
@@ -419,26 +406,4 @@ pub fn read(s: &[u8], limit: Option<u64>, lists: &mut Lists) -> Answer {
         }
     }
     answer
-}
-
-pub use side::{filter, identifier, user};
-
-pub fn size(g: &Given) -> Result<u64, No> {
-    let seed = SEED.load(Relaxed) & model_write::ALL;
-    if seed != 0 {
-        return model_write::size(g, seed);
-    }
-    side::size(g)
-}
-
-pub fn write(g: &Given, limit: Option<u64>, out: &mut [u8]) -> Result<u64, No> {
-    let seed = SEED.load(Relaxed) & model_write::ALL;
-    if seed != 0 {
-        let mut put = vec![];
-        let answer = model_write::write(g, limit, out.len(), seed, &mut put);
-        let n = put.len().min(out.len());
-        out[..n].copy_from_slice(&put[..n]);
-        return answer;
-    }
-    side::write(g, limit, out)
 }
