@@ -75,7 +75,7 @@ kept-value pair = kept-then kept-text kept-text
 kept-property : (place : Place) → Kept (PropertyFault place)
 kept-property place _ _ noId = refl
 kept-property place _ _ (unknown e) = refl
-kept-property place _ k (value {kind = t} {s = s} e f) = kept-value t s k f
+kept-property place _ k (value {f = t} {s = s} e f) = kept-value t s k f
 
 kept-block : (place : Place) → Kept (BlockFault place)
 kept-block place = kept-sized (λ _ _. refl) (kept-num refl refl) (kept-many (kept-property place))

@@ -1,4 +1,4 @@
--- Each form's reader fills a frame just as its grammar does. Assumes nothing.
+-- The reader of each layout fills a frame just as its grammar does. Assumes nothing.
 use mathlib.Core.Path.{_≡_, refl}
 use mathlib.Core.Bool.{Bool, true, false, not}
 use mathlib.Core.Option.{Option, none, some}
@@ -47,7 +47,7 @@ module _ (rs : List ℕ) (end : ℕ) where
       from-bind (ackBlockFit asBytes end r) (λ ps. got (c, ps)) λ ps e.
       from-got (λ z. AckRest rs z (c ∷ r)) (c, ps) (block-back c r h ps e)
 
-  pub fills-rest : Fills (ackRestFit asBytes rs end) (AckRest rs)
+  fills-rest : Fills (ackRestFit asBytes rs end) (AckRest rs)
   fills-rest = record { whole = rest-whole; back = rest-back }
 
 -- ---- Publish and Subscribe
@@ -74,7 +74,7 @@ reads-publish-block = reads-block publishPlace (publishAs asBytes) publishOf (λ
 pub reads-subscribe-block : (end : ℕ) → Reads (blockOf asBytes subscribePlace (subscribeAs asBytes) end) (Block subscribePlace subscribeOf)
 reads-subscribe-block = reads-block subscribePlace (subscribeAs asBytes) subscribeOf (λ _ _ _. refl)
 
--- ---- every form
+-- ---- every layout
 
 module _ {q : Filler Packet} {G : Gram Packet} (t : Bool) (k : Refusal) (S : Fills q G) where
   first-whole : (v : Packet) (b : List ℕ) → Only (λ _. t) G v b → (guard t k >> q b) ≡ got v
@@ -87,7 +87,7 @@ module _ {q : Filler Packet} {G : Gram Packet} (t : Bool) (k : Refusal) (S : Fil
   fills-first : Fills (λ b. guard t k >> q b) (Only (λ _. t) G)
   fills-first = record { whole = first-whole; back = first-back }
 
-pub fills-fields : (f : Layout) (x end : ℕ) → Fills (fieldsFit asBytes f x end) (Fields f x)
+fills-fields : (f : Layout) (x end : ℕ) → Fills (fieldsFit asBytes f x end) (Fields f x)
 unfolding fieldsFit messageFit
 fills-fields aPublish x end =
     fills-first (notThree (flagQos x)) _
@@ -110,14 +110,14 @@ held : {G : Gram Packet} → Solid G → (v : Packet) (b : List ℕ) → G v b �
 held S v [] g = absurd (S v [] g refl)
 held S v (y ∷ b) g = refl
 
--- a form that is no ping has bytes
+-- a layout that is no ping has bytes
 bytes-fine : (f : Layout) (x : ℕ) (v : Packet) (b : List ℕ) → Fields f x v b → or (isPing (some f)) (not (isEmpty b)) ≡ true
 bytes-fine aPublish x v b g = held (solid-only (publishGood x) (solid-map (mkPublish x) (solid-then (solid-sized (big-solid 1))))) v b g
 bytes-fine (anAck rs) x v b g = held (solid-map (mkAck x) (solid-then (big-solid 1))) v b g
 bytes-fine aSubscribe x v b g = held (solid-map mkSubscribe (solid-then (big-solid 1))) v b g
 bytes-fine aPing x v b g = refl
 
--- a kind that has a form is neither 0 nor 15
+-- a kind that is carried is neither 0 nor 15
 pub kind-fine : (k : ℕ) (f : Layout) → lookup kinds k ≡ some f → not (isIn k reserved) ≡ true
 unfolding kinds
 kind-fine k f e = first (eqb k 0) refl

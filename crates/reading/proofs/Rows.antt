@@ -24,7 +24,7 @@ use Rattle.reading.proofs.Numbers.{field-numbers}
 
 -- ---- rows 1 to 3, from the fault of a frame
 
-abbrev pub Some : Option ℕ → List ℕ → ℕ → List ℕ → ℕ → Type 0
+abbrev Some : Option ℕ → List ℕ → ℕ → List ℕ → ℕ → Type 0
 Some limit s k vs t = (r : Framing) × (rowNumber r ≡ k) × Given limit r s vs t
 
 -- of a refusal

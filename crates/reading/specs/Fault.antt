@@ -102,7 +102,7 @@ ValueFault pair = ThenFault Text TextFault TextFault
 pub data PropertyFault (place : Place) : List ℕ → Refusal → Type 0 where
   noId : PropertyFault place [] (nr 7 [])
   unknown : {i : ℕ} {s : List ℕ} → lookup place i ≡ none → PropertyFault place (i ∷ s) (nr 10 (i ∷ []))
-  value : {i : ℕ} {kind : Form} {s : List ℕ} {k : Refusal} → lookup place i ≡ some kind → ValueFault kind s k → PropertyFault place (i ∷ s) k
+  value : {i : ℕ} {f : Form} {s : List ℕ} {k : Refusal} → lookup place i ≡ some f → ValueFault f s k → PropertyFault place (i ∷ s) k
 
 -- 01, rows 7, 2 and 8 for L, then the first property that breaks
 abbrev pub BlockFault : Place → Fault

@@ -11,7 +11,7 @@ use Rattle.grammar.specs.Number.{bigFrom}
 use Rattle.grammar.specs.Text.{Range, inRange, rows, rowAt, cons}
 use Rattle.grammar.specs.Tables.{Form, u8, u16, u32, number, text, bytes, pair, Place, publishPlace, subscribePlace, ackPlace, Layout, aPublish, anAck, aSubscribe, aPing, kinds, reserved, isPing}
 use Rattle.grammar.specs.Record.{Val, num, str, PropOf, unlessEmpty, PublishProps, publishProps, SubscribeProps, subscribeProps, AckProps, ackProps, Filter, PacketOf, kindOf, flagQos, mkPublish, mkAck, mkFilter, mkSubscribe, mkPing}
-use Rattle.grammar.specs.Sentence.{duoOf, notThree, notZero, qosFine, ruleFine, someOf}
+use Rattle.grammar.specs.Sentence.{duoOf, notThree, notZero, qosFine, ruleFine, someOf, Packet}
 use Rattle.reading.specs.Refusal.{Refusal, nr, Answer, accepted, refusedAs, cut, crossed, lacking, within, over}
 use Rattle.reading.specs.Reader.{Fit, got, bad, Reader, Filler, _>>=_, _>>_, guard, noneOf, neverOf, mapOf, onlyOf, thenOf, sizedOf, isFit, mapFit, handFit, onlyFit, thenFit, exactFit, manyFit, isGot}
 
@@ -224,5 +224,5 @@ module _ (h : Shape) where
 -- ---- demand 3 speaks of bytes
 
 -- demand 3: the answer in bytes; strings are bytes, and lists are lists
-abbrev pub readOf : Option ℕ → List ℕ → Answer (PacketOf (List ℕ) List)
+abbrev pub readOf : Option ℕ → List ℕ → Answer Packet
 readOf = readAs asBytes
