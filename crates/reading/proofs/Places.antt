@@ -1,7 +1,7 @@
 -- The answer with places, looked up in the stream, is the answer in bytes: a string is the part at its span, and the items of a list are
 -- what is read again at its span. Assumes nothing.
 use mathlib.Core.Path.{_≡_, refl, sym, ap, _∙_}
-use mathlib.Core.Bool.{Bool, true, false, not}
+use mathlib.Core.Bool.{Bool, true, false, not, _||_}
 use mathlib.Core.Option.{Option, none, some}
 use mathlib.Core.Logic.{_↔_}
 use mathlib.Core.List.{List, [], _∷_, _++_, map, append-assoc}
@@ -9,7 +9,7 @@ use Prim.Native.Nat.{ℕ, _+_, _-_, _≤_}
 use native.Mathlib.Omega.{arith}
 use lib.Dec.{eqb, leb, leb→le}
 use lib.ListN.{length, length-append}
-use Rattle.grammar.specs.Choice.{pick, or, isIn, lookup, isEmpty}
+use Rattle.grammar.specs.Choice.{pick, isIn, lookup, isEmpty}
 use Rattle.grammar.specs.Gram.{Gram, Only, both, sized, Many, is}
 use Rattle.grammar.specs.Number.{byte}
 use Rattle.grammar.specs.Tables.{Form, u8, u16, u32, number, text, bytes, pair, Place, publishPlace, subscribePlace, ackPlace, Layout, aPublish, anAck, aSubscribe, aPing, kinds, reserved, isPing}
@@ -228,7 +228,7 @@ module _ (s : List ℕ) where
   unfolding bodyFit
   body-like x end l w =
       like-guard (not (isIn (kindOf x) reserved)) (nr 4 (kindOf x ∷ [])) _ _ λ _.
-      like-guard (or (isPing (lookup kinds (kindOf x))) (not (isEmpty l))) (nr 5 []) _ _ λ _.
+      like-guard (isPing (lookup kinds (kindOf x)) || not (isEmpty l)) (nr 5 []) _ _ λ _.
       layout-like (lookup kinds (kindOf x)) x end l w
 
   answer-like : (n : ℕ) (m : Fit Placed) (m′ : Fit Packet) → Like (Reading (say s)) m m′ → sayAnswer s (bodyAnswer n m) ≡ got (bodyAnswer n m′)

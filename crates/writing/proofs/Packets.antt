@@ -7,7 +7,7 @@ use Prim.Native.Nat.{ℕ, zero, suc, _+_, _*_, _/_, _%_, _≤_, _<_}
 use native.Mathlib.Omega.{arith}
 use lib.Dec.{eqb, ltb, ltb→lt, eqb·suc-zero}
 use lib.ListN.{length, length-append}
-use Rattle.grammar.specs.Choice.{pick, or, isIn, lookup, isEmpty}
+use Rattle.grammar.specs.Choice.{pick, isIn, lookup, isEmpty}
 use Rattle.grammar.specs.Gram.{Only, both, sized, is}
 use Rattle.grammar.specs.Number.{byte, Big}
 use Rattle.grammar.specs.Tables.{publishPlace, subscribePlace, ackPlace, reasons, Layout, aPublish, anAck, aSubscribe, aPing, kinds}
@@ -73,7 +73,7 @@ is-in : (P : ℕ → Type 0) (x : ℕ) {l : List ℕ} → Each P l → isIn x l 
 is-in P x nil e = absurd (no-way e)
 is-in P x (_&_ {a = y} {l = l} p ps) e = go (is-in P x ps) (eqb x y) refl e
   where
-    go : (isIn x l ≡ true → P x) → (t : Bool) → eqb x y ≡ t → or t (isIn x l) ≡ true → P x
+    go : (isIn x l ≡ true → P x) → (t : Bool) → eqb x y ≡ t → (t || isIn x l) ≡ true → P x
     go ih true q e′ = rw (eq-of x y q) p
     go ih false q e′ = ih e′
 
