@@ -13,7 +13,7 @@ use Rattle.grammar.specs.Number.{byte, Big}
 use Rattle.grammar.specs.Tables.{publishPlace, subscribePlace, ackPlace, reasons, Layout, aPublish, anAck, aSubscribe, aPing, kinds}
 use Rattle.grammar.specs.Record.{kindOf, flagQos, mkPublish, mkAck, mkFilter, mkSubscribe, mkPing}
 use Rattle.grammar.specs.Sentence.{Any, publishOf, subscribeOf, ackOf, notThree, notZero, Ident, publishGood, someOf, AckRest, plain, full, Packet, Fields, body, framed, Sentence}
-use Rattle.reading.proofs.Lists.{no-way, T-of, ltb-yes, eq-of}
+use Rattle.reading.proofs.Lists.{no-way, T-of, ltb-yes, eq-of, not-true}
 use Rattle.writing.specs.Lists.{Each, nil, _&_, Octet, Octets, flat, all, beside}
 use Rattle.writing.specs.Handed.{PublishHanded, SubscribeHanded, AckHanded, Handed, publish, ack, subscribe, ping, publishGiven, subscribeGiven, ackGiven, strings, propOf, entries, filters}
 use Rattle.writing.specs.Spell.{wide, propsBytes, counted, block}
@@ -23,7 +23,7 @@ use Rattle.writing.specs.Write.{firsts, firstOf, firstByte, identBytes, 
 use Rattle.writing.specs.Refuse.{InBlock, Belongs, Sound, Small, Accepts}
 use Rattle.writing.specs.Meant.{said, PublishTyped, AckTyped, SubscribeTyped, Typed}
 use Rattle.writing.proofs.Each.{each-head, each-tail, each-append, each-left, each-right, each-flat, each-piece, rows-of, lookup-each}
-use Rattle.writing.proofs.Tests.{and-left, and-right, not-true, all-when, passes-when}
+use Rattle.writing.proofs.Tests.{and-left, and-right, all-when, passes-when}
 use Rattle.writing.proofs.Says.{Says, says-nothing, says-map, says-only, says-then, says-is, says-wide, says-short}
 use Rattle.writing.proofs.Values.{says-bytes, an-u8, an-u16, an-u32, a-number, a-text, a-bytes, RightRow, says-block, one-suits, below-each, lent-suits, pairs-suit, several-suit, says-filters}
 use Rattle.writing.proofs.Sets.{publish-says, ack-says, subscribe-says}

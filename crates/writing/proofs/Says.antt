@@ -83,7 +83,7 @@ step-octets n b p true e = let h : n < 256 = omega (arith, ltb→lt n 128 (T-of 
 step-octets n b p false e = let h : n % 128 + 128 < 256 = omega arith in h & p
 
 -- bytes, whatever the number
-pub spell-octets : (k n : ℕ) → Octets (spell k n)
+spell-octets : (k n : ℕ) → Octets (spell k n)
 unfolding spell
 spell-octets zero n = nil
 spell-octets (suc k) n = step-octets n (spell k (n / 128)) (spell-octets k (n / 128)) (ltb n 128) refl

@@ -62,7 +62,7 @@ pub length-string : (s : List ℕ) → length (string s) ≡ 2 + length s
 unfolding string
 length-string s = length-append (wide 2 (length s)) s ∙ ap (λ (k : ℕ). k + length s) (length-wide 2 (length s))
 
-pub length-counted : (b : List ℕ) → length (counted b) ≡ withLength (length b)
+length-counted : (b : List ℕ) → length (counted b) ≡ withLength (length b)
 unfolding counted
 length-counted b = length-append (short (length b)) b ∙ ap (λ (k : ℕ). k + length b) (length-short (length b))
 
@@ -141,7 +141,7 @@ pub length-props : (place : Place) (b : Bool) (g : Givens) → Each (InBlock b g
 unfolding propsBytes propsSize
 length-props place b g rows = length-rows g rows
 
-pub length-block : (place : Place) (b : Bool) (g : Givens) → Each (InBlock b g) place → length (block place g) ≡ withLength (propsSize place g)
+length-block : (place : Place) (b : Bool) (g : Givens) → Each (InBlock b g) place → length (block place g) ≡ withLength (propsSize place g)
 unfolding block
 length-block place b g rows = length-counted (propsBytes place g) ∙ ap withLength (length-props place b g rows)
 

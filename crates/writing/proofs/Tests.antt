@@ -4,9 +4,9 @@ use mathlib.Core.Bool.{Bool, true, false, not, _&&_, _||_}
 use mathlib.Core.Logic.{_↔_, _⊎_, inl, inr}
 use mathlib.Core.List.{List, [], _∷_}
 use Prim.Native.Nat.{ℕ, _≤_, _<_}
-use lib.Dec.{eqb, leb, eqb-refl, leb→le, nleb→lt}
+use lib.Dec.{eqb, leb, eqb-refl, leb→le}
 use Rattle.grammar.specs.Choice.{isEmpty}
-use Rattle.reading.proofs.Lists.{no-way, T-true, T-of, eq-of}
+use Rattle.reading.proofs.Lists.{no-way, T-true, T-of, leb-false, eq-of, not-true, nil-of}
 use Rattle.writing.specs.Lists.{Each, nil, _&_, all}
 use Rattle.writing.proofs.Each.{each-head, each-tail}
 
