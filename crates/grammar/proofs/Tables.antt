@@ -12,6 +12,7 @@ abbrev pub count : ℕ → ℕ → List ℕ
 count zero n = []
 count (suc k) n = n ∷ count k (suc n)
 
+-- the number with what is said of it, if anything is
 abbrev entry : {A : Type 0} → ℕ → Option A → List (ℕ × A) → List (ℕ × A)
 entry i none l = l
 entry i (some a) l = (i, a) ∷ l
@@ -26,6 +27,7 @@ abbrev pub chosen : (ℕ → Bool) → List ℕ → List ℕ
 chosen t [] = []
 chosen t (i ∷ l) = pick (t i) (i ∷ chosen t l) (chosen t l)
 
+-- nothing is said
 abbrev isNone : Option Layout → Bool
 isNone none = true
 isNone (some l) = false
