@@ -13,7 +13,7 @@ use Rattle.grammar.specs.Number.{byte, Big}
 use Rattle.grammar.specs.Tables.{publishPlace, subscribePlace, ackPlace, reasons, Layout, aPublish, anAck, aSubscribe, aPing, kinds}
 use Rattle.grammar.specs.Record.{kindOf, flagQos, mkPublish, mkAck, mkFilter, mkSubscribe, mkPing}
 use Rattle.grammar.specs.Sentence.{Any, publishOf, subscribeOf, ackOf, notThree, notZero, Ident, publishGood, someOf, AckRest, plain, full, Packet, Fields, body, framed, Sentence}
-use Rattle.reading.proofs.Lists.{no-way, T-of, ltb-yes, eq-of, not-true}
+use Rattle.reading.proofs.Lists.{no-way, T-of, ltb-yes, eq-of}
 use Rattle.writing.specs.Lists.{Each, nil, _&_, Octet, Octets, flat, all, beside}
 use Rattle.writing.specs.Handed.{PublishHanded, SubscribeHanded, AckHanded, Handed, publish, ack, subscribe, ping, publishGiven, subscribeGiven, ackGiven, strings, propOf, entries, filters}
 use Rattle.writing.specs.Spell.{wide, propsBytes, counted, block}
@@ -27,7 +27,7 @@ use Rattle.writing.proofs.Tests.{and-left, and-right, all-when, passes-
 use Rattle.writing.proofs.Says.{Says, says-nothing, says-map, says-only, says-then, says-is, says-wide, says-short}
 use Rattle.writing.proofs.Values.{says-bytes, an-u8, an-u16, an-u32, a-number, a-text, a-bytes, RightRow, says-block, one-suits, below-each, lent-suits, pairs-suit, several-suit, says-filters}
 use Rattle.writing.proofs.Sets.{publish-says, ack-says, subscribe-says}
-use Rattle.writing.proofs.Belong.{unnamed-when, unasked-when, nothing-entries}
+use Rattle.writing.proofs.Belong.{unnamed-when, unasked-when, plain-when, nothing-entries}
 use Rattle.writing.proofs.Sizes.{length-body}
 
 -- ---- the kinds that are carried, row by row
@@ -181,9 +181,8 @@ ack-rest : (k : ℕ) (h : AckHanded) (t : AckTyped k h) → Octets (t .reasons) 
     → Says (AckRest (t .reasons)) (h .reason, ackOf (map propOf (entries ackPlace (ackGiven h)))) (pick b [] (h .reason ∷ block ackPlace (ackGiven h)))
 unfolding propsFields block
 ack-rest k h t o w p true e l =
-    let absent : h .block ≡ false = not-true (h .block) (and-right (eqb (h .reason) 0) (not (h .block)) e) in
-    rw (nothing-entries ackPlace (h .block) (ackGiven h) w absent, eq-of (h .reason) 0 (and-left (eqb (h .reason) 0) (not (h .block)) e))
-    (record { spelled = plain; octets = nil })
+    let (success, absent) = plain-when h .0 e in
+    rw (nothing-entries ackPlace (h .block) (ackGiven h) w absent, success) (record { spelled = plain; octets = nil })
 ack-rest k h t o w p false e l =
     let s = says-block ackPlace ackOf (ackGiven h) (ack-rows k h t (each-flat _ ackPlace p)) (block-fits (propsBytes ackPlace (ackGiven h)) (omega arith)) in
     record { spelled = full (t .reason) (s .spelled); octets = is-in Octet (h .reason) o (t .reason) & s .octets }

@@ -1,19 +1,18 @@
 -- What 01 says of the bytes, and the sentence theorem leaves open: first bytes, shortest lengths (`Shortest`), the order of properties,
--- no identifier at QoS 0, bits 6-7 of options, a plain success, empty pings. Assumes nothing.
+-- bits 6-7 of options, a plain success, empty pings. Assumes nothing.
 use mathlib.Core.Path.{_≡_, refl, _∙_}
-use mathlib.Core.Bool.{Bool, true, false, _||_}
+use mathlib.Core.Bool.{false}
 use mathlib.Core.Option.{Option}
 use mathlib.Core.List.{List, [], _∷_, _++_, map}
 use Prim.Native.Nat.{ℕ, _+_, _*_, _%_}
 use native.Mathlib.Omega.{arith}
-use lib.Dec.{eqb}
 use Rattle.grammar.specs.Choice.{pick}
 use Rattle.grammar.specs.Tables.{u8, u16, u32, number, text, bytes, pair, publishPlace, subscribePlace, ackPlace}
 use Rattle.reading.specs.Reader.{got}
 use Rattle.writing.specs.Lists.{flat}
 use Rattle.writing.specs.Handed.{PublishHanded, SubscribeHanded, AckHanded, publish, ack, subscribe, ping, one, lent, pairs, several, publishGiven, subscribeGiven, ackGiven, strings, filters}
 use Rattle.writing.specs.Spell.{wide, spellStep, spell, short, string, rowBytes, propsBytes, counted, block, filterBytes}
-use Rattle.writing.specs.Size.{identSize, isPlain}
+use Rattle.writing.specs.Size.{isPlain}
 use Rattle.writing.specs.Order.{raw, word, propsFields, filterField, fieldsOf}
 use Rattle.writing.specs.Write.{firsts, firstOf, firstByte, identBytes, bodyBytes, frameBytes, writeOf}
 use Rattle.writing.proofs.Verdict.{written}
@@ -103,19 +102,7 @@ pub first-bytes : (firstOf 4 ≡ 0x40) × (firstOf 8 ≡ 0x82) × (firstOf 12 �
 unfolding firstOf firsts
 first-bytes = (refl, refl, refl, refl)
 
--- ---- identifiers and options
-
--- 01, grammar: "QoS 0 writes no identifier"
-pub no-ident : (i : ℕ) → identBytes 0 i ≡ []
-no-ident i = refl
-
--- 01, writing order: "size leaves out a Publish identifier that is 0"
-pub zero-left-out : (q : ℕ) → identSize q 0 ≡ 0
-zero-left-out q = go (eqb q 0)
-  where
-    go : (t : Bool) → _≡_ {A = ℕ} (pick (t || true) 0 2) 0
-    go true = refl
-    go false = refl
+-- ---- options
 
 -- 01, "What must change shape": "bits 6-7 written as 0 and no part of the record"
 pub options-same : (s : List ℕ) (o : ℕ) → filterBytes (s, o) ≡ filterBytes (s, o % 64)
