@@ -23,8 +23,9 @@ use Rattle.writing.proofs.Each.{each-tail, each-left, each-right, lookup-each}
 use Rattle.writing.proofs.Tests.{eq-not, all-when}
 use Rattle.tidy.proofs.Has.{has-many, has-big, has-number, has-string, FromList, has-block}
 
--- ---- each kind; n is what the block may take
+-- ---- each kind; `size` is what the block may take
 
+-- a Publish
 pub record PublishSaid (p : Publish (List ℕ) List) : Type 0 where
   pub dup : p .dup < 2
   pub qos : p .qos < 3
@@ -39,7 +40,7 @@ pub record PublishSaid (p : Publish (List ℕ) List) : Type 0 where
   pub payload : Octets (p .payload)
   pub light : 2 + length (p .topic) + (identSize (p .qos) (p .ident) + (size + length (p .payload))) ≤ most
 
--- the same of an acknowledgement of the kind k
+-- an acknowledgement of the kind k
 pub record AckSaid (k : ℕ) (p : Ack (List ℕ) List) : Type 0 where
   pub reasons : List ℕ
   pub kind : lookup kinds k ≡ some (anAck reasons)
@@ -49,7 +50,7 @@ pub record AckSaid (k : ℕ) (p : Ack (List ℕ) List) : Type 0 where
   pub props : FromList ackPlace ackOf (p .props) size
   pub light : 3 + size ≤ most
 
--- of a filter; `options` is the byte that was read
+-- a filter; `options` is the byte that was read
 pub record FilterSaid (f : Filter (List ℕ)) : Type 0 where
   pub path : Short (f .path)
   pub text : Utf8 (f .path)
@@ -63,7 +64,7 @@ pub record FilterSaid (f : Filter (List ℕ)) : Type 0 where
 abbrev pub filterSize : Filter (List ℕ) → ℕ
 filterSize f = 3 + length (f .path)
 
--- of a Subscribe
+-- a Subscribe
 pub record SubscribeSaid (p : Subscribe (List ℕ) List) : Type 0 where
   pub ident : p .ident < 65536
   pub size : ℕ
@@ -72,7 +73,7 @@ pub record SubscribeSaid (p : Subscribe (List ℕ) List) : Type 0 where
   pub asked : someOf (p .filters) ≡ true
   pub light : 2 + (size + total filterSize (p .filters)) ≤ most
 
--- of each kind
+-- each kind
 abbrev pub Said : Packet → Type 0
 Said (g.publish p) = PublishSaid p
 Said (g.ack k p) = AckSaid k p
