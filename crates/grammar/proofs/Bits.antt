@@ -11,6 +11,7 @@ use Rattle.grammar.specs.Record.{kindOf, flagDup, flagQos, flagRetain, o
 use Rattle.grammar.specs.Sentence.{qosFine, ruleFine}
 use Rattle.grammar.proofs.Tables.{count, chosen}
 
+-- every byte
 abbrev bytes : List ℕ
 bytes = count 256 0
 
@@ -23,6 +24,7 @@ within (z ∷ l) = pick (leb (z .0) (z .1)) (within l) false
 flags-again : map (λ x. 16 * kindOf x + (8 * flagDup x + (2 * flagQos x + flagRetain x))) bytes ≡ bytes
 flags-again = refl
 
+-- each within its bits
 flags-within : chosen (λ x. within ((flagDup x, 1) ∷ (flagQos x, 3) ∷ (flagRetain x, 1) ∷ [])) bytes ≡ bytes
 flags-within = refl
 
@@ -30,6 +32,7 @@ flags-within = refl
 options-again : map (λ o. 64 * (o / 64) + (16 * optionRule o + (8 * optionPreserve o + (4 * optionNoLocal o + optionQos o)))) bytes ≡ bytes
 options-again = refl
 
+-- each within its bits
 options-within : chosen (λ o. within ((optionRule o, 3) ∷ (optionPreserve o, 1) ∷ (optionNoLocal o, 1) ∷ (optionQos o, 3) ∷ [])) bytes ≡ bytes
 options-within = refl
 

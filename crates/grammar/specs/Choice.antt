@@ -1,5 +1,5 @@
 -- Choices and lookups that compute. Assumes nothing.
-use mathlib.Core.Bool.{Bool, true, false}
+use mathlib.Core.Bool.{Bool, true, false, _||_}
 use mathlib.Core.Option.{Option, none, some}
 use mathlib.Core.List.{List, [], _∷_}
 use Prim.Native.Nat.{ℕ}
@@ -10,15 +10,10 @@ abbrev pub pick : {A : Type 0} → Bool → A → A → A
 pick true a b = a
 pick false a b = b
 
--- either test holds
-abbrev pub or : Bool → Bool → Bool
-or true b = true
-or false b = b
-
 -- the number is one of the list
 abbrev pub isIn : ℕ → List ℕ → Bool
 isIn x [] = false
-isIn x (y ∷ l) = or (eqb x y) (isIn x l)
+isIn x (y ∷ l) = eqb x y || isIn x l
 
 -- the first entry of the table that has the number
 abbrev pub lookup : {A : Type 0} → List (ℕ × A) → ℕ → Option A

@@ -1,6 +1,8 @@
--- The answers of `records`: a read, sizes, items and a reason. Assumes nothing.
-use Rattle.records.specs.Answered.{told, toldSized, toldWritten, toldUser, toldIdentifier, toldFilterItem, toldGotReason}
-use Rattle.records.proofs.Answered.{backRead, back-read, backSized, back-sized, backWritten, back-written, backUser, back-user, backIdentifier, back-identifier, backFilterItem, back-filter-item, backGotReason, back-got-reason}
+-- The answers of `records`: a read, sizes, items, a reason and a forward rule; the values of a refusal; a limit. Assumes nothing.
+use Rattle.records.specs.Answered.{told, toldSized, toldWritten, toldUser, toldIdentifier, toldFilterItem, toldGotReason, toldGotRule}
+use Rattle.records.specs.Told.{toldValues, limitOf}
+use Rattle.records.proofs.Answered.{backRead, back-read, backSized, back-sized, backWritten, back-written, backUser, back-user, backIdentifier, back-identifier, backFilterItem, back-filter-item, backGotReason, back-got-reason, backGotRule, back-got-rule}
+use Rattle.records.proofs.Told.{backValues, back-values, backLimit, back-limit}
 use Rattle.one_result.specs.OneResult.{OneResult}
 use Rattle.one_result.proofs.Laws.{one-by}
 
@@ -24,3 +26,12 @@ filter-item-same = one-by toldFilterItem backFilterItem back-filter-item
 
 pub reason-same : OneResult toldGotReason
 reason-same = one-by toldGotReason backGotReason back-got-reason
+
+pub rule-same : OneResult toldGotRule
+rule-same = one-by toldGotRule backGotRule back-got-rule
+
+pub values-same : OneResult toldValues
+values-same = one-by toldValues backValues back-values
+
+pub limit-same : OneResult limitOf
+limit-same = one-by limitOf backLimit back-limit

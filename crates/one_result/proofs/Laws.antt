@@ -1,15 +1,7 @@
 -- What leads back from what is told leaves no choice of an answer. Assumes nothing.
 use mathlib.Core.Path.{_≡_, sym, _∙_}
-use Rattle.reading.specs.Reader.{Fit, got, bad}
-use Rattle.records.specs.declared.error.Error.{Error}
 use Rattle.records.proofs.Laws.{injective-by}
-use Rattle.records.proofs.Told.{backError}
 use Rattle.one_result.specs.OneResult.{OneResult}
 
 pub one-by : {A B : Type 0} (told : A → B) (back : B → A) → ((a : A) → back (told a) ≡ a) → OneResult told
 one-by told back from d a b i j = injective-by told back from (i ∙ sym j)
-
--- back to an answer that is a value or a refusal
-abbrev pub backFit : {B R : Type 0} → (B → R) → (Error → R) → Fit B → R
-backFit value refused (got b) = value b
-backFit value refused (bad k) = refused (backError k)

@@ -14,7 +14,7 @@ use Rattle.reading.specs.Reader.{Fit, got, bad}
 use Rattle.reading.specs.Place as place
 use Rattle.reading.proofs.Reading.{bad-got, got-inj}
 use Rattle.records.specs.Told.{toldError}
-use Rattle.records.proofs.Told.{back-error, error-injective, backQoS, back-qos, backSpan, back-span}
+use Rattle.records.proofs.Told.{back-error, error-injective, backFit, backQoS, back-qos, backSpan, back-span}
 use Rattle.records.specs.declared.span.Span.{Span}
 use Rattle.numbers.specs.Told.{toldGotU8, toldGotU16, toldGotU32}
 use Rattle.numbers.specs.Length.{toldLength}
@@ -38,7 +38,7 @@ use Rattle.property_value.specs.Told.{toldValue, formOf, PropertyRead}
 use Rattle.property_value.specs.declared.Value.{Value}
 use Rattle.property_value.specs.declared.GotProperty.{GotProperty}
 use Rattle.one_result.specs.OneResult.{OneResult}
-use Rattle.one_result.proofs.Laws.{one-by, backFit}
+use Rattle.one_result.proofs.Laws.{one-by}
 
 -- ---- numbers
 

@@ -7,7 +7,7 @@ use Rattle.grammar.specs.Record as record-of
 use Rattle.reading.specs.Reader.{Fit}
 use Rattle.reading.specs.Place.{Placed}
 use Rattle.reading.specs.Place as place
-use Rattle.records.proofs.Told.{back-error, backSpan, back-span}
+use Rattle.records.proofs.Told.{back-error, backFit, backSpan, back-span}
 use Rattle.records.proofs.Said.{backPublishBlock, back-publish-block, backSubscribeBlock, back-subscribe-block, backPubAckBlock, back-puback-block, backFilter, back-filter, backPacket, back-packet}
 use Rattle.records.specs.declared.error.Error.{Error}
 use Rattle.records.specs.declared.packet_record.Packet.{Packet}
@@ -29,7 +29,7 @@ use Rattle.subscribe.specs.declared.filter.GotFilters.{GotFilters}
 use Rattle.publish.specs.Told.{toldGotPublish}
 use Rattle.publish.specs.declared.GotPublish.{GotPublish}
 use Rattle.one_result.specs.OneResult.{OneResult}
-use Rattle.one_result.proofs.Laws.{one-by, backFit}
+use Rattle.one_result.proofs.Laws.{one-by}
 
 -- ---- blocks
 

@@ -3,7 +3,7 @@ use mathlib.Core.Path.{_≡_, refl, ap}
 use mathlib.Core.Option.{Option, none, some}
 use Prim.Native.Nat.{ℕ}
 use Rattle.reading.specs.Reader.{Fit}
-use Rattle.records.proofs.Told.{back-error}
+use Rattle.records.proofs.Told.{back-error, backFit}
 use Rattle.records.specs.declared.span.MaybeU8.{MaybeU8}
 use Rattle.records.specs.declared.span.MaybeU16.{MaybeU16}
 use Rattle.records.specs.declared.span.MaybeU32.{MaybeU32}
@@ -11,7 +11,7 @@ use Rattle.rows.specs.Given.{numberU8, numberU16, numberU32}
 use Rattle.rows.specs.Tested.{toldTested}
 use Rattle.rows.specs.declared.test.Tested.{Tested}
 use Rattle.one_result.specs.OneResult.{OneResult}
-use Rattle.one_result.proofs.Laws.{one-by, backFit}
+use Rattle.one_result.proofs.Laws.{one-by}
 
 abbrev backTested : Fit (Unit {0}) → Tested
 backTested = backFit (λ _. Tested.Fine) Tested.Refused

@@ -1,13 +1,13 @@
 -- What the tables say of a kind decides what becomes of a frame: 4, 5 and 6 in order, then the fields; and the bytes taken. Assumes nothing.
 use mathlib.Core.Path.{_≡_, refl, sym, ap, _∙_}
-use mathlib.Core.Bool.{Bool, true, false, not}
+use mathlib.Core.Bool.{Bool, true, false, not, _||_}
 use mathlib.Core.Option.{Option, none, some}
 use mathlib.Core.List.{List, [], _∷_}
 use Prim.Native.Nat.{ℕ, _+_, _-_, _≤_, _<_, min}
 use native.Mathlib.Omega.{arith}
 use lib.ListN.{length, take, drop}
 use lib.Seq.{drop-cons, length-take-le}
-use Rattle.grammar.specs.Choice.{or, isEmpty}
+use Rattle.grammar.specs.Choice.{isEmpty}
 use Rattle.grammar.specs.Tables.{Layout, aPing, isPing}
 use Rattle.grammar.specs.Record.{ping, kindOf}
 use Rattle.reading.specs.Refusal.{Refusal, nr, accepted, refusedAs}
@@ -30,7 +30,7 @@ use Rattle.packet.specs.Told.{takenIn, takenBy, Judged}
 abbrev Known : Type 0
 Known = ℕ × Bool × Option Layout
 
-or-true : (b : Bool) → or b true ≡ true
+or-true : (b : Bool) → (b || true) ≡ true
 or-true true = refl
 or-true false = refl
 
@@ -39,7 +39,7 @@ module _ (x end : ℕ) (b : List ℕ) where
   abbrev bodyWith : Known → Fit Placed
   bodyWith z = do
     guard (not (z .1)) (nr 4 (z .0 ∷ []))
-    guard (or (isPing (z .2)) (not (isEmpty b))) (nr 5 [])
+    guard (isPing (z .2) || not (isEmpty b)) (nr 5 [])
     layoutFit asPlaces (z .2) x end b
 
   body-with : (z : Known) → z ≡ kindAt x → bodyWith z ≡ bodyFit asPlaces x end b

@@ -18,14 +18,13 @@ abbrev pub listAt : ℕ → ℕ → List ℕ → List ℕ
 listAt zero at s = []
 listAt (suc k) at s = getD s at 0 ∷ listAt k (suc at) s
 
-pub take-at : (k at : ℕ) (s : List ℕ) → at + k ≤ length s → take k (drop at s) ≡ listAt k at s
+take-at : (k at : ℕ) (s : List ℕ) → at + k ≤ length s → take k (drop at s) ≡ listAt k at s
 take-at zero at s h = refl
 take-at (suc k) at s h = rw (drop-cons s at 0 (omega arith)) (ap (λ (l : List ℕ). getD s at 0 ∷ l) (take-at k (suc at) s (omega arith)))
 
-module _ (c : Refusal) (k at : ℕ) (s : List ℕ) where
-  pub big-at : at + k ≤ length s → bigOf c k (drop at s) ≡ got (bigFrom 0 (listAt k at s), drop (at + k) s)
-  unfolding bigOf
-  big-at h = rw (leb-yes k (length (drop at s)) (rw length-drop (omega arith)), take-at k at s h, drop-drop k at s)
+pub big-at : (c : Refusal) (k at : ℕ) (s : List ℕ) → at + k ≤ length s → bigOf c k (drop at s) ≡ got (bigFrom 0 (listAt k at s), drop (at + k) s)
+unfolding bigOf
+big-at c k at s h = rw (leb-yes k (length (drop at s)) (rw length-drop (omega arith)), take-at k at s h, drop-drop k at s)
 
 -- what is read of a number so far, and what follows it
 abbrev pub scale : ℕ → ℕ → Fit (ℕ × List ℕ) → Fit (ℕ × List ℕ)
@@ -70,14 +69,13 @@ module _ {A : Type 0} (n : Reader ℕ) (k : ℕ → List ℕ → Refusal) (q : �
         let j : end - length (drop (m + l) s) ≡ m + l = rw length-drop (omega arith) in
         rw (e, leb-yes l (length (drop m s)) (rw length-drop (omega arith)), drop-drop l m s, j)
 
--- ---- places: l bytes from index m
+-- ---- spans: l bytes from index m
 
-module _ (s : List ℕ) (l m : ℕ) (o : m + l ≤ length s) where
-  pub span-at : spanOf (take l (drop m s)) (m + l) ≡ record { start = m; len = l }
-  span-at =
-      let n : length (take l (drop m s)) ≡ l = length-take-le l (drop m s) (rw length-drop (omega arith)) in
-      let i : m + l - l ≡ m = omega arith in
-      rw (n, i)
+pub span-at : (s : List ℕ) (l m : ℕ) → m + l ≤ length s → spanOf (take l (drop m s)) (m + l) ≡ record { start = m; len = l }
+span-at s l m o =
+    let n : length (take l (drop m s)) ≡ l = length-take-le l (drop m s) (rw length-drop (omega arith)) in
+    let i : m + l - l ≡ m = omega arith in
+    rw (n, i)
 
 -- the l bytes from m, as the rest from m of a slice that ends at m + l
 pub part-slice : (s : List ℕ) (l m : ℕ) → m + l ≤ length s → take l (drop m s) ≡ drop m (take (m + l) s)

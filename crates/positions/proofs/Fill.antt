@@ -1,14 +1,13 @@
 -- Readers one after the other at an index of a slice, and what fills the rest: how a reader in code goes on, field by field. Assumes nothing.
 use mathlib.Core.Path.{_≡_, refl}
 use mathlib.Core.List.{List}
-use Prim.Native.Nat.{ℕ, _-_, _≤_}
-use native.Mathlib.Omega.{arith}
-use lib.ListN.{length, drop, length-drop}
+use Prim.Native.Nat.{ℕ}
+use lib.ListN.{drop}
 use Rattle.reading.specs.Refusal.{Refusal}
 use Rattle.reading.specs.Reader.{Fit, got, bad, Reader, Filler, _>>=_, mapOf, thenOf, thenFit}
 use Rattle.positions.specs.Position.{fromAt}
 use Rattle.positions.proofs.Trails.{Trails}
-use Rattle.positions.proofs.Position.{got-left, got-within, bad-left}
+use Rattle.positions.proofs.Position.{got-left, got-within, bad-left, left-at}
 
 -- a value before the next, as thenOf has them
 abbrev pub after : {A B : Type 0} → A → B × ℕ → Fit ((A × B) × ℕ)
@@ -43,8 +42,5 @@ module _ {A B : Type 0} (p : Reader A) (s : List ℕ) (at : ℕ) where
     fill-got q = rw (got-left p s at T v m e)
 
     pub map-got : (f : A → B) → fromAt (mapOf f p) s at ≡ got (f v, m)
-    unfolding fromAt mapOf
-    map-got f =
-        let h : m ≤ length s = got-within p s at T v m e in
-        let n : length s - length (drop m s) ≡ m = rw length-drop (omega arith) in
-        rw (got-left p s at T v m e, n)
+    unfolding mapOf
+    map-got f = left-at (mapOf f p) s at (f v) m (rw (got-left p s at T v m e)) (got-within p s at T v m e)

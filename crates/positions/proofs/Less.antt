@@ -16,7 +16,7 @@ use Rattle.reading.proofs.Places.{property-says, filter-says}
 use Rattle.positions.proofs.Walk.{Less}
 
 -- some stream in which l stands
-pub stands-somewhere : (end : ℕ) (l : List ℕ) → length l ≤ end → Stands (replicate (end - length l) 0 ++ l) end l
+stands-somewhere : (end : ℕ) (l : List ℕ) → length l ≤ end → Stands (replicate (end - length l) 0 ++ l) end l
 stands-somewhere end l h = record {
   before = replicate (end - length l) 0;
   after = [];

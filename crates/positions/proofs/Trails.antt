@@ -41,7 +41,7 @@ module _ {A : Type 0} {p : Reader A} (T : Trails p) where
   unfolding mapOf
   trails-map {B = B} f s = from-bind (p s) _ λ y e. from-got (λ (z : B × List ℕ). Ends s (z .1)) _ (T s y e)
 
-  pub trails-only : (t : A → Bool) (k : A → Refusal) → Trails (onlyOf t k p)
+  trails-only : (t : A → Bool) (k : A → Refusal) → Trails (onlyOf t k p)
   unfolding onlyOf
   trails-only t k s = from-bind (p s) _ λ y e. from-guard (t (y .0)) _ _ λ _. from-got (λ (z : A × List ℕ). Ends s (z .1)) _ (T s y e)
 
@@ -50,7 +50,7 @@ module _ {A : Type 0} {p : Reader A} (T : Trails p) where
   trails-then {B = B} {q = q} H s = from-bind (p s) _ λ x e. from-bind (q (x .0) (x .1)) _ λ y e′.
       from-got (λ (z : (A × B) × List ℕ). Ends s (z .1)) _ (ends-then s (x .1) (y .1) (T s x e) (H (x .0) (x .1) y e′))
 
-pub trails-sized : {A : Type 0} {n : Reader ℕ} → Trails n → (k : ℕ → List ℕ → Refusal) (q : ℕ → Filler A) (end : ℕ) → Trails (sizedOf n k q end)
+trails-sized : {A : Type 0} {n : Reader ℕ} → Trails n → (k : ℕ → List ℕ → Refusal) (q : ℕ → Filler A) (end : ℕ) → Trails (sizedOf n k q end)
 unfolding sizedOf
 trails-sized {A = A} {n = n} T k q end s = from-bind (n s) _ λ x e. from-guard (leb (x .0) (length (x .1))) _ _ λ _.
     from-bind (q (end - length (drop (x .0) (x .1))) (take (x .0) (x .1))) _ λ a e′.
@@ -76,7 +76,7 @@ module _ (h : Shape) (end : ℕ) where
   unfolding textOf
   trails-text = trails-sized (trails-big cut 2) _ _ end
 
-  pub trails-value : (f : Form) → Trails (valueOf h f end)
+  trails-value : (f : Form) → Trails (valueOf h f end)
   unfolding valueOf
   trails-value u8 = trails-map (trails-byte cut) num
   trails-value u16 = trails-map (trails-big cut 2) num

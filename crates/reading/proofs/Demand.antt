@@ -32,7 +32,7 @@ module _ (limit : Option ℕ) {N : Gram ℕ} (L : Reads (lengthOf limit) N) wher
   reads-frame end = reads-then (reads-byte _) (λ _. reads-sized lacking L (λ _. fills-is anyBytes Any cut any-fine) end)
 
   -- a whole frame, whatever follows it, and whatever strings are handed back as
-  pub answers-frame : (h : Shape) (z : ℕ × List ℕ) (c r : List ℕ) → Frame N z c → readAs h limit (c ++ r) ≡ wholeAnswer h (length c) z
+  answers-frame : (h : Shape) (z : ℕ × List ℕ) (c r : List ℕ) → Frame N z c → readAs h limit (c ++ r) ≡ wholeAnswer h (length c) z
   unfolding readAs frameAnswer
   answers-frame h z c r f =
       let n : length (c ++ r) - length r ≡ length c = rw length-append (omega arith) in

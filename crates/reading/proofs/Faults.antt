@@ -1,13 +1,13 @@
 -- Each reader refuses just where its bytes have the fault, and every stream has one verdict, which is the reader's answer. Assumes nothing.
 use mathlib.Core.Path.{_≡_, refl, sym, ap, _∙_, subst}
-use mathlib.Core.Bool.{true, false, not}
+use mathlib.Core.Bool.{true, false, not, _||_}
 use mathlib.Core.Option.{Option, none, some}
 use mathlib.Core.Logic.{_↔_}
 use mathlib.Core.List.{List, [], _∷_, _++_}
 use Prim.Native.Nat.{ℕ, zero, suc, _-_}
 use native.Mathlib.Omega.{arith}
 use lib.ListN.{length, length-append}
-use Rattle.grammar.specs.Choice.{or, isIn, lookup, isEmpty}
+use Rattle.grammar.specs.Choice.{isIn, lookup, isEmpty}
 use Rattle.grammar.specs.Gram.{done, more, Many}
 use Rattle.grammar.specs.Text.{Utf8}
 use Rattle.grammar.specs.Tables.{Form, u8, u16, u32, number, text, bytes, pair, Place, publishPlace, subscribePlace, ackPlace, Layout, aPublish, anAck, aSubscribe, aPing, kinds, reserved, isPing}
@@ -64,7 +64,7 @@ module _ (place : Place) (end : ℕ) where
   unfolding propertyOf valueAt
   property-refuse _ _ noId = refl
   property-refuse _ _ (unknown e) = rw e
-  property-refuse _ k (value {kind = t} {s = s} e h) = rw (e, refuses-value t end .refuse s k h)
+  property-refuse _ k (value {f = t} {s = s} e h) = rw (e, refuses-value t end .refuse s k h)
 
   refuses-property : Refuses (propertyOf asBytes place end) (PropertyFault place)
   refuses-property = record { fault = property-fault; refuse = property-refuse }
@@ -131,7 +131,7 @@ unfolding identOf
 refuses-ident zero = refuses-none 0
 refuses-ident (suc q) = refuses-only (refuses-big cut 2) (reads-big cut 2) notZero (λ _. nr 12 [])
 
--- ---- every form
+-- ---- every layout
 
 module _ (x end : ℕ) where
   refuses-message : Refuses (messageFit asBytes x end) (MessageFault (flagQos x))
@@ -165,23 +165,23 @@ module _ (x end : ℕ) where
 
   -- ---- rows 4, 5 and 6
 
-  foreign-fault : (b : List ℕ) (k : Refusal) → isIn (kindOf x) reserved ≡ false → lookup kinds (kindOf x) ≡ none → or false (not (isEmpty b)) ≡ true → nr 6 (kindOf x ∷ []) ≡ k → BodyFault x b k
+  foreign-fault : (b : List ℕ) (k : Refusal) → isIn (kindOf x) reserved ≡ false → lookup kinds (kindOf x) ≡ none → (false || not (isEmpty b)) ≡ true → nr 6 (kindOf x ∷ []) ≡ k → BodyFault x b k
   foreign-fault [] k h e h′ i = absurd (no-way h′)
   foreign-fault (y ∷ b) k h e h′ i = subst (BodyFault x (y ∷ b)) i (foreign h e)
 
-  form-fault : (b : List ℕ) (k : Refusal) (o : Option Layout) → isIn (kindOf x) reserved ≡ false → lookup kinds (kindOf x) ≡ o → or (isPing o) (not (isEmpty b)) ≡ true → layoutFit asBytes o x end b ≡ bad k → BodyFault x b k
+  layout-fault : (b : List ℕ) (k : Refusal) (o : Option Layout) → isIn (kindOf x) reserved ≡ false → lookup kinds (kindOf x) ≡ o → (isPing o || not (isEmpty b)) ≡ true → layoutFit asBytes o x end b ≡ bad k → BodyFault x b k
   unfolding layoutFit
-  form-fault b k none h e h′ i = foreign-fault b k h e h′ (cc)
-  form-fault b k (some f) h e h′ i = content e h′ (refuses-fields f .fault b k i)
+  layout-fault b k none h e h′ i = foreign-fault b k h e h′ (cc)
+  layout-fault b k (some f) h e h′ i = content e h′ (refuses-fields f .fault b k i)
 
   body-fault : (b : List ℕ) (k : Refusal) → bodyFit asBytes x end b ≡ bad k → BodyFault x b k
   unfolding bodyFit
   body-fault b k =
       of-guard (not (isIn (kindOf x) reserved)) (nr 4 (kindOf x ∷ [])) _ k (λ h i. subst (BodyFault x b) i (kind (not-false (isIn (kindOf x) reserved) h))) λ h.
       let h₀ : isIn (kindOf x) reserved ≡ false = not-true (isIn (kindOf x) reserved) h in
-      of-guard (or (isPing (lookup kinds (kindOf x))) (not (isEmpty b))) (nr 5 []) _ k
+      of-guard (isPing (lookup kinds (kindOf x)) || not (isEmpty b)) (nr 5 []) _ k
       (λ h′ i. let (p, n) = none-left (isPing (lookup kinds (kindOf x))) b h′ in rw (n, ← i) (noBytes h₀ p))
-      (λ h′. form-fault b k (lookup kinds (kindOf x)) h₀ refl h′)
+      (λ h′. layout-fault b k (lookup kinds (kindOf x)) h₀ refl h′)
 
   body-refuse : (b : List ℕ) (k : Refusal) → BodyFault x b k → bodyFit asBytes x end b ≡ bad k
   unfolding bodyFit layoutFit
@@ -190,7 +190,7 @@ module _ (x end : ℕ) where
   body-refuse _ _ (foreign h e) = rw (h, e)
   body-refuse b k (content {l = f} e h g) = rw (kind-fine (kindOf x) f e, e, h, refuses-fields f .refuse b k g)
 
-  pub refuses-body : Refuses (bodyFit asBytes x end) (BodyFault x)
+  refuses-body : Refuses (bodyFit asBytes x end) (BodyFault x)
   refuses-body = record { fault = body-fault; refuse = body-refuse }
 
 -- ---- the frame, and the verdict

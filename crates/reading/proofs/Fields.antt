@@ -129,7 +129,7 @@ pub reads-text : (end : ℕ) → Reads (textOf asBytes end) Text
 unfolding textOf
 reads-text = reads-sized _ (reads-big _ 2) (fills-string isText Utf8 _ text-fine)
 
-pub reads-value : (k : Form) (end : ℕ) → Reads (valueOf asBytes k end) (Spelt k)
+reads-value : (k : Form) (end : ℕ) → Reads (valueOf asBytes k end) (Spelt k)
 unfolding valueOf
 reads-value u8 end = reads-map num (reads-byte cut)
 reads-value u16 end = reads-map num (reads-big cut 2)

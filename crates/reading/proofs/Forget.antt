@@ -56,9 +56,10 @@ pub like-is : {A B : Type 0} {f : A → B} (m : Fit A) (m′ : Fit B) (g : Fit A
 like-is _ _ g x y (gots {a = a} e) = x a ∙ ap got e
 like-is _ _ g x y (bads {k = k}) = y k
 
-pub like-same : {A : Type 0} (m : Fit A) → Like (Via (λ v. v)) m m
-like-same (got a) = gots refl
-like-same (bad k) = bads
+-- an answer beside itself
+like-self : {A : Type 0} {R : A → A → Type 0} → ((a : A) → R a a) → (m : Fit A) → Like R m m
+like-self r (got a) = gots (r a)
+like-self r (bad k) = bads
 
 -- ---- where a list stands in the stream s: it ends at index `end`
 
@@ -77,7 +78,7 @@ module _ {s : List ℕ} {end : ℕ} where
     stop = w .stop ∙ rw (e, length-append b r, length-append (w .before) b) (omega arith);
   }
 
-  pub stands-part : (n : ℕ) (r : List ℕ) → n ≤ length r → Stands s end r → Stands s (end - length (drop n r)) (take n r)
+  stands-part : (n : ℕ) (r : List ℕ) → n ≤ length r → Stands s end r → Stands s (end - length (drop n r)) (take n r)
   stands-part n r h w =
       let e : take n r ++ drop n r ≡ r = take-append-drop n r in
       let l : length (take n r) + length (drop n r) ≡ length r = sym (length-append (take n r) (drop n r)) ∙ ap length e in
@@ -112,16 +113,12 @@ pub record Forgets {A B : Type 0} (s : List ℕ) (end : ℕ) (R : A → B → Ty
 pub record Drops {A B : Type 0} (s : List ℕ) (end : ℕ) (R : A → B → Type 0) (q : Filler A) (q′ : Filler B) : Type 0 where
   pub like : (l : List ℕ) → Stands s end l → Like R (q l) (q′ l)
 
-first-same : {A : Type 0} (m : Fit (A × List ℕ)) → Like (First (Via (λ v. v))) m m
-first-same (got z) = gots (refl, refl)
-first-same (bad k) = bads
-
 module _ {s : List ℕ} {end : ℕ} where
   pub forgets-same : {A : Type 0} (p : Reader A) → Forgets s end (Via (λ v. v)) p p
-  forgets-same p = record { like = λ l w. first-same (p l) }
+  forgets-same p = record { like = λ l w. like-self (λ z. (refl, refl)) (p l) }
 
   pub drops-same : {A : Type 0} (q : Filler A) → Drops s end (Via (λ v. v)) q q
-  drops-same q = record { like = λ l w. like-same (q l) }
+  drops-same q = record { like = λ l w. like-self (λ v. refl) (q l) }
 
   module _ {A A′ : Type 0} {R : A → A′ → Type 0} {p : Reader A} {p′ : Reader A′} (F : Forgets s end R p p′) where
     pub forgets-map : {B B′ : Type 0} {Q : B → B′ → Type 0} (g : A → B) (g′ : A′ → B′) → ((a : A) (b : A′) → R a b → Q (g a) (g′ b)) → Forgets s end Q (mapOf g p) (mapOf g′ p′)
@@ -137,7 +134,7 @@ module _ {s : List ℕ} {end : ℕ} where
 
     module _ {G : Gram A′} (T : Reads p′ G) where
       -- what is left stands there too
-      pub left : (l : List ℕ) (y : A′ × List ℕ) → Stands s end l → p′ l ≡ got y → Stands s end (y .1)
+      left : (l : List ℕ) (y : A′ × List ℕ) → Stands s end l → p′ l ≡ got y → Stands s end (y .1)
       left l y w j = let (b, e, g) = T .split l y j in stands-rest l b (y .1) e w
 
       -- p, then q at what is left; c joins what they say
@@ -191,7 +188,7 @@ module _ {s : List ℕ} {A A′ : Type 0} {R : A → A′ → Type 0} {q : ℕ �
   pub forgets-sized : {n : Reader ℕ} {N : Gram ℕ} (k : ℕ → List ℕ → Refusal) → Reads n N → Forgets s end R (sizedOf n k q end) (sizedOf n k q′ end)
   unfolding sizedOf
   forgets-sized {n = n} k T = record {
-    like = λ l w. like-bind (n l) (n l) _ _ (first-same (n l)) λ x y i j r.
+    like = λ l w. like-bind (n l) (n l) _ _ (forgets-same n .like l w) λ x y i j r.
         rw (r .0, r .1) (like-guard (leb (y .0) (length (y .1))) (k (y .0) (y .1)) _ _ λ t.
         let end′ = end - length (drop (y .0) (y .1)) in
         let b = take (y .0) (y .1) in

@@ -13,7 +13,7 @@ use Rattle.grammar.specs.Choice.{pick}
 use Rattle.grammar.specs.Gram.{Only, Many}
 use Rattle.grammar.specs.Tables.{Place, publishPlace, subscribePlace, ackPlace}
 use Rattle.grammar.specs.Record.{PropOf, allOf, PublishProps, SubscribeProps, AckProps, Filter, publish, ack, subscribe, ping}
-use Rattle.grammar.specs.Sentence.{Value, Property, FilterOf, someOf, Packet}
+use Rattle.grammar.specs.Sentence.{Value, Prop, Property, FilterOf, someOf, Packet}
 use Rattle.reading.specs.Refusal.{Refusal, nr, accepted}
 use Rattle.reading.specs.Reader.{Fit, got, bad, Filler, _>>=_, _>>_, guard}
 use Rattle.reading.specs.Read.{Shape, asBytes, propertiesFit, filtersFit, readOf}
@@ -100,15 +100,15 @@ module _ (s : List ℕ) (p : Span) where
       like-is (valuesAt asPlaces s p place i >>= nthOf n) (valuesAt asBytes s p place i >>= nthOf n) (onGot (sayVal s)) (λ _. refl) (λ _. refl)
       (like-bind (valuesAt asPlaces s p place i) (valuesAt asBytes s p place i) (nthOf n) (nthOf n) (values-like place i) λ vs ws _ _ r. nth-like (sayVal s) n vs ws r)
 
-  pub nth-user : (place : Place) (n : ℕ) → onGot (sayVal s) (userAt asPlaces s p place n) ≡ userAt asBytes s p place n
+  nth-user : (place : Place) (n : ℕ) → onGot (sayVal s) (userAt asPlaces s p place n) ≡ userAt asBytes s p place n
   unfolding userAt
   nth-user place n = nth-value place _ n
 
-  pub nth-subscription : (n : ℕ) → onGot (sayVal s) (subscriptionAt asPlaces s p n) ≡ subscriptionAt asBytes s p n
+  nth-subscription : (n : ℕ) → onGot (sayVal s) (subscriptionAt asPlaces s p n) ≡ subscriptionAt asBytes s p n
   unfolding subscriptionAt
   nth-subscription n = nth-value _ _ n
 
-  pub nth-filter : (n : ℕ) → onGot (sayFilter s) (filterAt asPlaces s p n) ≡ filterAt asBytes s p n
+  nth-filter : (n : ℕ) → onGot (sayFilter s) (filterAt asPlaces s p n) ≡ filterAt asBytes s p n
   unfolding filterAt
   nth-filter n =
       like-is (filterAt asPlaces s p n) (filterAt asBytes s p n) (onGot (sayFilter s)) (λ _. refl) (λ _. refl)
@@ -121,16 +121,16 @@ bind-iff {A = A} {B = B} m f z = (from-bind {C = λ (y : B). (a : A) × (m ≡ g
 
 module _ (s : List ℕ) (p : Span) (n : ℕ) where
   nth-iff : (place : Place) (i : ℕ) (v : Value) → ((valuesAt asBytes s p place i >>= nthOf n) ≡ got v)
-      ↔ ((ps : List (PropOf (List ℕ))) × (p .start + p .len ≤ length s) × Many (Property place) ps (partOf s p) × (nthOf n (allOf i ps) ≡ got v))
+      ↔ ((ps : List Prop) × (p .start + p .len ≤ length s) × Many (Property place) ps (partOf s p) × (nthOf n (allOf i ps) ≡ got v))
   unfolding valuesAt
   nth-iff place i v = (
-    from-bind {C = λ (y : Value). (ps : List (PropOf (List ℕ))) × (p .start + p .len ≤ length s) × Many (Property place) ps (partOf s p) × (nthOf n (allOf i ps) ≡ got y)}
+    from-bind {C = λ (y : Value). (ps : List Prop) × (p .start + p .len ≤ length s) × Many (Property place) ps (partOf s p) × (nthOf n (allOf i ps) ≡ got y)}
         (valuesAt asBytes s p place i) (nthOf n) (from-values place i) v,
     λ (ps, h, g, e). rw (block-iff place s p ps .1 (h, g)) e,
   )
     where
       from-values : (place : Place) (i : ℕ) (vs : List Value) → valuesAt asBytes s p place i ≡ got vs → (y : Value) → nthOf n vs ≡ got y
-          → (ps : List (PropOf (List ℕ))) × (p .start + p .len ≤ length s) × Many (Property place) ps (partOf s p) × (nthOf n (allOf i ps) ≡ got y)
+          → (ps : List Prop) × (p .start + p .len ≤ length s) × Many (Property place) ps (partOf s p) × (nthOf n (allOf i ps) ≡ got y)
       from-values place i vs e y e′ =
           let (ps, a, b) = bind-iff (again (propertiesFit asBytes place) s p) _ vs .0 e in
           let (h, g) = block-iff place s p ps .0 a in
@@ -138,12 +138,12 @@ module _ (s : List ℕ) (p : Span) (n : ℕ) where
 
   -- an n-th user property is given exactly when the place is a well-formed block of the row, of the bytes, that has so many
   pub user-iff : (place : Place) (v : Value) → (userAt asBytes s p place n ≡ got v)
-      ↔ ((ps : List (PropOf (List ℕ))) × (p .start + p .len ≤ length s) × Many (Property place) ps (partOf s p) × (nthOf n (allOf 38 ps) ≡ got v))
+      ↔ ((ps : List Prop) × (p .start + p .len ≤ length s) × Many (Property place) ps (partOf s p) × (nthOf n (allOf 38 ps) ≡ got v))
   unfolding userAt
   user-iff place v = nth-iff place 38 v
 
   pub subscription-iff : (v : Value) → (subscriptionAt asBytes s p n ≡ got v)
-      ↔ ((ps : List (PropOf (List ℕ))) × (p .start + p .len ≤ length s) × Many (Property publishPlace) ps (partOf s p) × (nthOf n (allOf 11 ps) ≡ got v))
+      ↔ ((ps : List Prop) × (p .start + p .len ≤ length s) × Many (Property publishPlace) ps (partOf s p) × (nthOf n (allOf 11 ps) ≡ got v))
   unfolding subscriptionAt
   subscription-iff v = nth-iff publishPlace 11 v
 

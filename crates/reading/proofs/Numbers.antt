@@ -9,7 +9,7 @@ use Rattle.grammar.specs.Gram.{Gram}
 use Rattle.grammar.specs.Tables.{Form, u8, u16, u32, number, text, bytes, pair, Place, Layout, aPublish, anAck, aSubscribe, aPing}
 use Rattle.grammar.specs.Record.{flagQos}
 use Rattle.reading.specs.Refusal.{Refusal, nr}
-use Rattle.reading.specs.Fault.{Fault, Sound, OnlyFault, under, fails, ThenFault, first, second, SizedFault, sizes, crosses, fills, ManyFault, now, later, ExactFault, before, follows, IsFault, isnt, ByteFault, noByte, BigFault, fewer, NumFault, endless, long, BytesFault, TextFault, ValueFault, PropertyFault, noId, unknown, value, BlockFault, AckFault, reason, block, IdentFault, FiltersFault, noFilters, filter, PublishFault, qos, fields, FieldsFault, kind}
+use Rattle.reading.specs.Fault.{Fault, Sound, OnlyFault, under, fails, ThenFault, first, second, SizedFault, sizes, crosses, fills, ManyFault, now, later, ExactFault, before, follows, IsFault, isnt, ByteFault, noByte, BigFault, fewer, NumFault, endless, long, BytesFault, TextFault, ValueFault, PropertyFault, noId, unknown, value, BlockFault, AckFault, reason, block, IdentFault, FiltersFault, noFilters, filter, PublishFault, qos, fields, FieldsFault}
 use Rattle.reading.specs.Rows.{Breaks}
 use Rattle.reading.specs.Demand.{ofFields}
 
@@ -75,7 +75,7 @@ kept-value pair = kept-then kept-text kept-text
 kept-property : (place : Place) → Kept (PropertyFault place)
 kept-property place _ _ noId = refl
 kept-property place _ _ (unknown e) = refl
-kept-property place _ k (value {kind = t} {s = s} e f) = kept-value t s k f
+kept-property place _ k (value {f = t} {s = s} e f) = kept-value t s k f
 
 kept-block : (place : Place) → Kept (BlockFault place)
 kept-block place = kept-sized (λ _ _. refl) (kept-num refl refl) (kept-many (kept-property place))

@@ -1,11 +1,11 @@
--- Each form's reader fills a frame just as its grammar does. Assumes nothing.
+-- The reader of each layout fills a frame just as its grammar does. Assumes nothing.
 use mathlib.Core.Path.{_≡_, refl}
-use mathlib.Core.Bool.{Bool, true, false, not}
+use mathlib.Core.Bool.{Bool, true, false, not, _||_}
 use mathlib.Core.Option.{Option, none, some}
 use mathlib.Core.List.{List, [], _∷_}
 use Prim.Native.Nat.{ℕ, zero, suc}
 use lib.Dec.{eqb}
-use Rattle.grammar.specs.Choice.{or, isIn, lookup, isEmpty}
+use Rattle.grammar.specs.Choice.{isIn, lookup, isEmpty}
 use Rattle.grammar.specs.Gram.{Gram, Only, only, Many, Solid}
 use Rattle.grammar.specs.Tables.{publishPlace, subscribePlace, ackPlace, Layout, aPublish, anAck, aSubscribe, aPing, kinds, reserved, isPing}
 use Rattle.grammar.specs.Record.{AckProps, kindOf, flagQos, mkPublish, mkAck, mkFilter, mkSubscribe, mkPing}
@@ -47,7 +47,7 @@ module _ (rs : List ℕ) (end : ℕ) where
       from-bind (ackBlockFit asBytes end r) (λ ps. got (c, ps)) λ ps e.
       from-got (λ z. AckRest rs z (c ∷ r)) (c, ps) (block-back c r h ps e)
 
-  pub fills-rest : Fills (ackRestFit asBytes rs end) (AckRest rs)
+  fills-rest : Fills (ackRestFit asBytes rs end) (AckRest rs)
   fills-rest = record { whole = rest-whole; back = rest-back }
 
 -- ---- Publish and Subscribe
@@ -74,7 +74,7 @@ reads-publish-block = reads-block publishPlace (publishAs asBytes) publishOf (λ
 pub reads-subscribe-block : (end : ℕ) → Reads (blockOf asBytes subscribePlace (subscribeAs asBytes) end) (Block subscribePlace subscribeOf)
 reads-subscribe-block = reads-block subscribePlace (subscribeAs asBytes) subscribeOf (λ _ _ _. refl)
 
--- ---- every form
+-- ---- every layout
 
 module _ {q : Filler Packet} {G : Gram Packet} (t : Bool) (k : Refusal) (S : Fills q G) where
   first-whole : (v : Packet) (b : List ℕ) → Only (λ _. t) G v b → (guard t k >> q b) ≡ got v
@@ -87,7 +87,7 @@ module _ {q : Filler Packet} {G : Gram Packet} (t : Bool) (k : Refusal) (S : Fil
   fills-first : Fills (λ b. guard t k >> q b) (Only (λ _. t) G)
   fills-first = record { whole = first-whole; back = first-back }
 
-pub fills-fields : (f : Layout) (x end : ℕ) → Fills (fieldsFit asBytes f x end) (Fields f x)
+fills-fields : (f : Layout) (x end : ℕ) → Fills (fieldsFit asBytes f x end) (Fields f x)
 unfolding fieldsFit messageFit
 fills-fields aPublish x end =
     fills-first (notThree (flagQos x)) _
@@ -110,23 +110,23 @@ held : {G : Gram Packet} → Solid G → (v : Packet) (b : List ℕ) → G v b �
 held S v [] g = absurd (S v [] g refl)
 held S v (y ∷ b) g = refl
 
--- a form that is no ping has bytes
-bytes-fine : (f : Layout) (x : ℕ) (v : Packet) (b : List ℕ) → Fields f x v b → or (isPing (some f)) (not (isEmpty b)) ≡ true
+-- a layout that is no ping has bytes
+bytes-fine : (f : Layout) (x : ℕ) (v : Packet) (b : List ℕ) → Fields f x v b → (isPing (some f) || not (isEmpty b)) ≡ true
 bytes-fine aPublish x v b g = held (solid-only (publishGood x) (solid-map (mkPublish x) (solid-then (solid-sized (big-solid 1))))) v b g
 bytes-fine (anAck rs) x v b g = held (solid-map (mkAck x) (solid-then (big-solid 1))) v b g
 bytes-fine aSubscribe x v b g = held (solid-map mkSubscribe (solid-then (big-solid 1))) v b g
 bytes-fine aPing x v b g = refl
 
--- a kind that has a form is neither 0 nor 15
+-- a kind that is carried is neither 0 nor 15
 pub kind-fine : (k : ℕ) (f : Layout) → lookup kinds k ≡ some f → not (isIn k reserved) ≡ true
 unfolding kinds
 kind-fine k f e = first (eqb k 0) refl
   where
-    second : (t : Bool) → eqb k 15 ≡ t → not (or t false) ≡ true
+    second : (t : Bool) → eqb k 15 ≡ t → not (t || false) ≡ true
     second true h = let i : k ≡ 15 = eq-of k 15 h in let z : none ≡ some f = rw i at e in cc
     second false h = refl
 
-    first : (t : Bool) → eqb k 0 ≡ t → not (or t (or (eqb k 15) false)) ≡ true
+    first : (t : Bool) → eqb k 0 ≡ t → not (t || (eqb k 15 || false)) ≡ true
     first true h = let i : k ≡ 0 = eq-of k 0 h in let z : none ≡ some f = rw i at e in cc
     first false h = second (eqb k 15) refl
 
@@ -144,7 +144,7 @@ module _ (x end : ℕ) where
   unfolding bodyFit
   body-back b =
       from-guard (not (isIn (kindOf x) reserved)) _ _ λ _.
-      from-guard (or (isPing (lookup kinds (kindOf x))) (not (isEmpty b))) _ _ λ _.
+      from-guard (isPing (lookup kinds (kindOf x)) || not (isEmpty b)) _ _ λ _.
       layout-back b (lookup kinds (kindOf x)) refl
 
   pub fills-body : Fills (bodyFit asBytes x end) (Body x)

@@ -1,7 +1,7 @@
 -- The answer with places, looked up in the stream, is the answer in bytes: a string is the part at its span, and the items of a list are
 -- what is read again at its span. Assumes nothing.
 use mathlib.Core.Path.{_≡_, refl, sym, ap, _∙_}
-use mathlib.Core.Bool.{Bool, true, false, not}
+use mathlib.Core.Bool.{Bool, true, false, not, _||_}
 use mathlib.Core.Option.{Option, none, some}
 use mathlib.Core.Logic.{_↔_}
 use mathlib.Core.List.{List, [], _∷_, _++_, map, append-assoc}
@@ -9,12 +9,12 @@ use Prim.Native.Nat.{ℕ, _+_, _-_, _≤_}
 use native.Mathlib.Omega.{arith}
 use lib.Dec.{eqb, leb, leb→le}
 use lib.ListN.{length, length-append}
-use Rattle.grammar.specs.Choice.{pick, or, isIn, lookup, isEmpty}
+use Rattle.grammar.specs.Choice.{pick, isIn, lookup, isEmpty}
 use Rattle.grammar.specs.Gram.{Gram, Only, both, sized, Many, is}
 use Rattle.grammar.specs.Number.{byte}
 use Rattle.grammar.specs.Tables.{Form, u8, u16, u32, number, text, bytes, pair, Place, publishPlace, subscribePlace, ackPlace, Layout, aPublish, anAck, aSubscribe, aPing, kinds, reserved, isPing}
 use Rattle.grammar.specs.Record.{Val, num, str, PropOf, lastFrom, lastOf, allOf, unlessEmpty, publishProps, subscribeProps, AckProps, ackProps, Filter, kindOf, flagQos, mkPublish, mkAck, mkFilter, mkSubscribe, mkPing}
-use Rattle.grammar.specs.Sentence.{Value, duoOf, Property, notThree, FilterOf, someOf, Packet, Frame}
+use Rattle.grammar.specs.Sentence.{Value, Prop, duoOf, Property, notThree, FilterOf, someOf, Packet, Frame}
 use Rattle.reading.specs.Refusal.{Refusal, nr, Answer, accepted, refused, cut, crossed}
 use Rattle.reading.specs.Reader.{Fit, got, bad, Filler, _>>_, guard, isFit}
 use Rattle.reading.specs.Read.{bigOf, byteOf, numOf, identOf, isText, anyBytes, asBytes, frameOf, bodyAnswer, stringFit, bytesOf, textOf, valueOf, valueAt, propertyOf, propertiesFit, blockOf, publishAs, subscribeAs, ackAs, ackBlockFit, ackRestFit, filterOf, filtersFit, messageFit, fieldsFit, layoutFit, bodyFit, wholeAnswer, frameAnswer, readAs, readOf}
@@ -39,14 +39,14 @@ module _ {A : Type 0} {q : ℕ → Filler A} {G : Gram A} (S : (e : ℕ) → Fil
   fills-there false h e = absurd (bad-got e)
 
   -- the place lies within the bytes, and v fills it
-  pub again-iff : (again q s p ≡ got v) ↔ ((p .start + p .len ≤ length s) × G v (partOf s p))
+  again-iff : (again q s p ≡ got v) ↔ ((p .start + p .len ≤ length s) × G v (partOf s p))
   unfolding again
   again-iff = (
     fills-there (leb (p .start + p .len) (length s)) refl,
     λ t. rw (leb-yes (p .start + p .len) (length s) (t .0), S (p .start + p .len) .whole v (partOf s p) (t .1)),
   )
 
-pub block-iff : (place : Place) (s : List ℕ) (p : Span) (ps : List (PropOf (List ℕ))) → (again (propertiesFit asBytes place) s p ≡ got ps) ↔ ((p .start + p .len ≤ length s) × Many (Property place) ps (partOf s p))
+pub block-iff : (place : Place) (s : List ℕ) (p : Span) (ps : List Prop) → (again (propertiesFit asBytes place) s p ≡ got ps) ↔ ((p .start + p .len ≤ length s) × Many (Property place) ps (partOf s p))
 block-iff place s p ps = again-iff (fills-properties place) s p ps
 
 pub run-iff : (s : List ℕ) (p : Span) (fs : List (Filter (List ℕ))) → (again (filtersFit asBytes) s p ≡ got fs) ↔ ((p .start + p .len ≤ length s) × Only someOf (Many FilterOf) fs (partOf s p))
@@ -58,7 +58,7 @@ again-right {s} {end} S b v w e =
     let (h, i) = stands-within b w in
     again-iff S s (spanOf b end) v .1 (omega arith, rw (stands-span b w) (S end .back b v e))
 
-values-right : {s : List ℕ} {end : ℕ} (place : Place) (i : ℕ) (b : List ℕ) (ps : List (PropOf (List ℕ))) → Stands s end b → propertiesFit asBytes place end b ≡ got ps
+values-right : {s : List ℕ} {end : ℕ} (place : Place) (i : ℕ) (b : List ℕ) (ps : List Prop) → Stands s end b → propertiesFit asBytes place end b ≡ got ps
     → valuesAt asBytes s (spanOf b end) place i ≡ got (allOf i ps)
 unfolding valuesAt
 values-right place i b ps w e = rw (again-right (fills-properties place) b ps w e)
@@ -70,7 +70,7 @@ module _ (s : List ℕ) where
   last-from i o [] = refl
   last-from i o (p ∷ ps) =
       last-from i (pick (eqb (p .0) i) (some (p .1)) o) ps
-      ∙ ap (λ (o′ : Option (Val (List ℕ))). lastFrom o′ i (map (sayProp s) ps)) (one (eqb (p .0) i))
+      ∙ ap (λ (o′ : Option Value). lastFrom o′ i (map (sayProp s) ps)) (one (eqb (p .0) i))
     where
       one : (t : Bool) → onSome (sayVal s) (pick t (some (p .1)) o) ≡ pick t (some (sayVal s (p .1))) (onSome (sayVal s) o)
       one true = refl
@@ -80,7 +80,7 @@ module _ (s : List ℕ) where
   unfolding lastOf
   last-says i ps = last-from i none ps
 
-  unless-says : {A B : Type 0} (g : A → Fit B) (f : List (PropOf Span) → A) (f′ : List (PropOf (List ℕ)) → B) (ps : List (PropOf Span)) → g (f ps) ≡ got (f′ (map (sayProp s) ps))
+  unless-says : {A B : Type 0} (g : A → Fit B) (f : List (PropOf Span) → A) (f′ : List Prop → B) (ps : List (PropOf Span)) → g (f ps) ≡ got (f′ (map (sayProp s) ps))
       → ifSome g (unlessEmpty f ps) ≡ got (unlessEmpty f′ (map (sayProp s) ps))
   unless-says g f f′ [] e = refl
   unless-says g f f′ (p ∷ ps) e = ap (onGot some) e
@@ -135,12 +135,12 @@ module _ (s : List ℕ) where
   properties-says place end = drops-many (property-says place end) (reads-property place end)
 
   -- what a block reader hands back, read at its places, is what it hands back in bytes
-  block-says : {A B : Type 0} (place : Place) (f : List (PropOf Span) → List ℕ → ℕ → A) (f′ : List (PropOf (List ℕ)) → List ℕ → ℕ → B) (h : A → Fit B)
+  block-says : {A B : Type 0} (place : Place) (f : List (PropOf Span) → List ℕ → ℕ → A) (f′ : List Prop → List ℕ → ℕ → B) (h : A → Fit B)
       → ((end : ℕ) (ps : List (PropOf Span)) (b : List ℕ) → Stands s end b → propertiesFit asBytes place end b ≡ got (map (sayProp s) ps) → h (f ps b end) ≡ got (f′ (map (sayProp s) ps) b end))
       → (end : ℕ) → Forgets s end (Reading h) (blockOf asPlaces place f end) (blockOf asBytes place f′ end)
   unfolding blockOf
   block-says {B = B} place f f′ h e end = forgets-sized (λ e′. drops-hand (properties-says place) e′ (Reading h) f f′ λ ps qs b w i r.
-      e e′ ps b w (i ∙ ap got (sym r)) ∙ ap (λ (l : List (PropOf (List ℕ))). got (f′ l b e′)) r) end crossed (reads-num cut 4)
+      e e′ ps b w (i ∙ ap got (sym r)) ∙ ap (λ (l : List Prop). got (f′ l b e′)) r) end crossed (reads-num cut 4)
 
   publish-as : (end : ℕ) (ps : List (PropOf Span)) (b : List ℕ) → Stands s end b → propertiesFit asBytes publishPlace end b ≡ got (map (sayProp s) ps)
       → ifSome (sayPublishProps s) (publishAs asPlaces ps b end) ≡ got (publishAs asBytes (map (sayProp s) ps) b end)
@@ -228,7 +228,7 @@ module _ (s : List ℕ) where
   unfolding bodyFit
   body-like x end l w =
       like-guard (not (isIn (kindOf x) reserved)) (nr 4 (kindOf x ∷ [])) _ _ λ _.
-      like-guard (or (isPing (lookup kinds (kindOf x))) (not (isEmpty l))) (nr 5 []) _ _ λ _.
+      like-guard (isPing (lookup kinds (kindOf x)) || not (isEmpty l)) (nr 5 []) _ _ λ _.
       layout-like (lookup kinds (kindOf x)) x end l w
 
   answer-like : (n : ℕ) (m : Fit Placed) (m′ : Fit Packet) → Like (Reading (say s)) m m′ → sayAnswer s (bodyAnswer n m) ≡ got (bodyAnswer n m′)

@@ -163,7 +163,7 @@ module _ {A B : Type 0} {q : ℕ → Filler A} {G : Gram A} (f : A → List ℕ 
   pub fills-hand : Fills (handFit f q end) (Map f′ G)
   fills-hand = record { whole = hand-whole; back = hand-back }
 
-pub fills-iff : {A : Type 0} {q : Filler A} {G H : Gram A} → ((a : A) (b : List ℕ) → G a b ↔ H a b) → Fills q G → Fills q H
+fills-iff : {A : Type 0} {q : Filler A} {G H : Gram A} → ((a : A) (b : List ℕ) → G a b ↔ H a b) → Fills q G → Fills q H
 fills-iff i S = record { whole = λ a b h. S .whole a b (i a b .1 h); back = λ b a e. i a b .0 (S .back b a e) }
 
 unmap : {A : Type 0} {G : Gram A} (a : A) (b : List ℕ) → Map (λ v. v) G a b → G a b
@@ -213,7 +213,7 @@ module _ {S A : Type 0} (step : S → A → S) {p : S → Reader A} {G : S → G
   unfolding chainFit
   chain-back σ b z e = run-back σ b b z e
 
-  pub fills-chain : (σ : S) → Fills (chainFit step p σ) (Chain step G σ)
+  fills-chain : (σ : S) → Fills (chainFit step p σ) (Chain step G σ)
   fills-chain σ = record { whole = chain-whole σ; back = chain-back σ }
 
 pub fills-many : {A : Type 0} {p : Reader A} {G : Gram A} → Reads p G → Solid G → Fills (manyFit p) (Many G)

@@ -1,7 +1,7 @@
 -- Rows 1 to 6 are given just when 01's words hold, and the rest just when the fields of a whole frame break; each number comes from one
 -- of the two. Assumes nothing.
 use mathlib.Core.Path.{_≡_, refl, sym, ap, _∙_, subst}
-use mathlib.Core.Bool.{Bool, true, false}
+use mathlib.Core.Bool.{Bool, true, false, _||_}
 use mathlib.Core.Option.{Option, none, some}
 use mathlib.Core.Logic.{_↔_, _⊎_, inl, inr}
 use mathlib.Core.List.{List, [], _∷_, _++_}
@@ -9,7 +9,7 @@ use Prim.Native.Nat.{ℕ, _+_, _-_, _<_}
 use native.Mathlib.Omega.{arith}
 use lib.Dec.{eqb}
 use lib.ListN.{length, length-append}
-use Rattle.grammar.specs.Choice.{pick, or, isIn}
+use Rattle.grammar.specs.Choice.{pick, isIn}
 use Rattle.grammar.specs.Gram.{Only, only, both}
 use Rattle.grammar.specs.Number.{Byte, byte, Spells}
 use Rattle.grammar.specs.Sentence.{Packet}
@@ -24,7 +24,7 @@ use Rattle.reading.proofs.Numbers.{field-numbers}
 
 -- ---- rows 1 to 3, from the fault of a frame
 
-abbrev pub Some : Option ℕ → List ℕ → ℕ → List ℕ → ℕ → Type 0
+abbrev Some : Option ℕ → List ℕ → ℕ → List ℕ → ℕ → Type 0
 Some limit s k vs t = (r : Framing) × (rowNumber r ≡ k) × Given limit r s vs t
 
 -- of a refusal
@@ -247,7 +247,7 @@ module _ (limit : Option ℕ) (s vs : List ℕ) where
   pub taken : (k t : ℕ) → readOf limit s ≡ refused k vs t → Taken limit s k t
   taken k t e = go (refused-rows k t .0 e)
     where
-      up : (a b c d : Bool) → d ≡ true → or a (or b (or c d)) ≡ true
+      up : (a b c d : Bool) → d ≡ true → (a || (b || (c || d))) ≡ true
       up true b c d w = refl
       up false true c d w = refl
       up false false true d w = refl

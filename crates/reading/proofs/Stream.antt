@@ -48,12 +48,12 @@ module _ (h : Shape) where
   -- ---- a limit changes one thing
 
   -- a whole header whose R is above the limit: 3, with R and the limit, and nothing taken
-  pub limit-refuses : (m x l : ℕ) (c r : List ℕ) → Spells l c → m < l → readAs h (some m) (x ∷ (c ++ r)) ≡ refused 3 (l ∷ m ∷ []) 0
+  limit-refuses : (m x l : ℕ) (c r : List ℕ) → Spells l c → m < l → readAs h (some m) (x ∷ (c ++ r)) ≡ refused 3 (l ∷ m ∷ []) 0
   unfolding within over
   limit-refuses m x l c r g o = too-large (some m) x l c r g (leb-no l m o)
 
 -- every length number that s begins with, after its first byte, is at most m
-abbrev pub AtMost : ℕ → List ℕ → Type 0
+abbrev AtMost : ℕ → List ℕ → Type 0
 AtMost m s = (x l : ℕ) (c r : List ℕ) → s ≡ x ∷ (c ++ r) → Spells l c → l ≤ m
 
 same-frame : (m end : ℕ) (s : List ℕ) → AtMost m s → frameOf (some m) end s ≡ frameOf none end s
@@ -68,7 +68,7 @@ same-frame m end (x ∷ s) h = go (numOf (nr 1 (1 ∷ [])) 4 s) refl
         rw (e, leb-yes (z .0) m (h x (z .0) c (z .1) (ap (λ (l : List ℕ). x ∷ l) e₁) g))
 
 -- otherwise the answer is that with no limit
-pub limit-passes : (h : Shape) (m : ℕ) (s : List ℕ) → AtMost m s → readAs h (some m) s ≡ readAs h none s
+limit-passes : (h : Shape) (m : ℕ) (s : List ℕ) → AtMost m s → readAs h (some m) s ≡ readAs h none s
 unfolding readAs
 limit-passes h m s o = rw (same-frame m (length s) s o)
 
@@ -157,7 +157,7 @@ module _ (limit : Option ℕ) where
 
   -- 01: "n is 2 less the bytes held if under two; 1 while the length number lacks its end; else F less the bytes held", of each strict
   -- front of a frame that the limit lets pass
-  pub front-lacks : (z : ℕ × List ℕ) (f u w : List ℕ) (y : ℕ) → Passing limit z f → f ≡ u ++ (y ∷ w) → readOf limit u ≡ refused 1 (lacks u (length f) ∷ []) 0
+  front-lacks : (z : ℕ × List ℕ) (f u w : List ℕ) (y : ℕ) → Passing limit z f → f ≡ u ++ (y ∷ w) → readOf limit u ≡ refused 1 (lacks u (length f) ∷ []) 0
   front-lacks _ _ u w y (both {a = x} byte (sized {b = b} {c = c} g (is i))) e = first-byte x y c b u w g e
 
 -- no limit lets every frame pass

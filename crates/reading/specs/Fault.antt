@@ -1,12 +1,12 @@
 -- What is wrong with bytes that are no sentence: a good front, then the first fault from the left. Nothing here knows of a reader.
 -- F s k says that s, read within its room, breaks with the refusal k. Assumes nothing.
 use mathlib.Core.Path.{_≡_}
-use mathlib.Core.Bool.{Bool, true, false, not}
+use mathlib.Core.Bool.{Bool, true, false, not, _||_}
 use mathlib.Core.Option.{Option, none, some}
 use mathlib.Core.List.{List, [], _∷_, _++_}
 use Prim.Native.Nat.{ℕ, zero, suc, _≤_, _<_}
 use lib.ListN.{length}
-use Rattle.grammar.specs.Choice.{or, isIn, lookup, isEmpty}
+use Rattle.grammar.specs.Choice.{isIn, lookup, isEmpty}
 use Rattle.grammar.specs.Gram.{Gram, Only}
 use Rattle.grammar.specs.Number.{Byte, Big, Spells}
 use Rattle.grammar.specs.Text.{Utf8}
@@ -102,7 +102,7 @@ ValueFault pair = ThenFault Text TextFault TextFault
 pub data PropertyFault (place : Place) : List ℕ → Refusal → Type 0 where
   noId : PropertyFault place [] (nr 7 [])
   unknown : {i : ℕ} {s : List ℕ} → lookup place i ≡ none → PropertyFault place (i ∷ s) (nr 10 (i ∷ []))
-  value : {i : ℕ} {kind : Form} {s : List ℕ} {k : Refusal} → lookup place i ≡ some kind → ValueFault kind s k → PropertyFault place (i ∷ s) k
+  value : {i : ℕ} {f : Form} {s : List ℕ} {k : Refusal} → lookup place i ≡ some f → ValueFault f s k → PropertyFault place (i ∷ s) k
 
 -- 01, rows 7, 2 and 8 for L, then the first property that breaks
 abbrev pub BlockFault : Place → Fault
@@ -150,7 +150,7 @@ pub data BodyFault (x : ℕ) : List ℕ → Refusal → Type 0 where
   kind : {b : List ℕ} → isIn (kindOf x) reserved ≡ true → BodyFault x b (nr 4 (kindOf x ∷ []))
   noBytes : isIn (kindOf x) reserved ≡ false → isPing (lookup kinds (kindOf x)) ≡ false → BodyFault x [] (nr 5 [])
   foreign : {y : ℕ} {b : List ℕ} → isIn (kindOf x) reserved ≡ false → lookup kinds (kindOf x) ≡ none → BodyFault x (y ∷ b) (nr 6 (kindOf x ∷ []))
-  content : {l : Layout} {b : List ℕ} {k : Refusal} → lookup kinds (kindOf x) ≡ some l → or (isPing (some l)) (not (isEmpty b)) ≡ true → FieldsFault l x b k → BodyFault x b k
+  content : {l : Layout} {b : List ℕ} {k : Refusal} → lookup kinds (kindOf x) ≡ some l → (isPing (some l) || not (isEmpty b)) ≡ true → FieldsFault l x b k → BodyFault x b k
 
 -- ---- framing: 01, rows 1 to 3, reading order "1 while the header is incomplete, or 2; then 3; then 1"
 

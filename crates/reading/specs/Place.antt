@@ -1,5 +1,6 @@
 -- The reader whose answer holds places, where strings and lists stand in the stream; items read at a place; and what a placed answer
--- says once its places are looked up. Assumes nothing.
+-- says once its places are looked up. A place in the stream is a `Span`; a place of the table of properties, whose row says what may
+-- stand in a block, is a `Place` (grammar). Assumes nothing.
 use mathlib.Core.Path.{_≡_}
 use mathlib.Core.Option.{Option, none, some}
 use mathlib.Core.List.{List, [], _∷_}
@@ -9,7 +10,7 @@ use lib.ListN.{length, take, drop}
 use Rattle.grammar.specs.Choice.{pick}
 use Rattle.grammar.specs.Tables.{Place, publishPlace, subscribePlace, ackPlace}
 use Rattle.grammar.specs.Record.{Val, num, str, duo, PropOf, allOf, PublishProps, SubscribeProps, AckProps, Publish, Filter, Subscribe, Ack, PacketOf, publish, ack, subscribe, ping}
-use Rattle.grammar.specs.Sentence.{Value, Packet}
+use Rattle.grammar.specs.Sentence.{Value, Prop, Packet}
 use Rattle.reading.specs.Refusal.{Refusal, nr, Answer, accepted, refused}
 use Rattle.reading.specs.Reader.{Fit, got, bad, Filler, _>>=_, _>>_, guard}
 use Rattle.reading.specs.Read.{Shape, asBytes, propertiesFit, filtersFit, readAs}
@@ -116,7 +117,7 @@ module _ (s : List ℕ) where
   sayVal (duo p q) = duo (heldOf s p) (heldOf s q)
 
   -- a property
-  abbrev pub sayProp : PropOf Span → PropOf (List ℕ)
+  abbrev pub sayProp : PropOf Span → Prop
   sayProp p = (p .0, sayVal (p .1))
 
   -- a filter

@@ -1,17 +1,17 @@
 -- The answer to every stream, in 01's reading order, with each refusal's number, values and bytes taken. It is defined once, for
 -- every way to hand strings and lists back. Assumes nothing.
-use mathlib.Core.Bool.{Bool, true, false, not}
+use mathlib.Core.Bool.{Bool, true, false, not, _||_}
 use mathlib.Core.Option.{Option, none, some}
 use mathlib.Core.List.{List, [], _∷_}
 use Prim.Native.Nat.{ℕ, zero, suc, _+_, _-_, _*_}
 use lib.Dec.{leb, ltb}
 use lib.ListN.{length, take, drop}
-use Rattle.grammar.specs.Choice.{or, isIn, lookup, isEmpty}
+use Rattle.grammar.specs.Choice.{isIn, lookup, isEmpty}
 use Rattle.grammar.specs.Number.{bigFrom}
 use Rattle.grammar.specs.Text.{Range, inRange, rows, rowAt, cons}
 use Rattle.grammar.specs.Tables.{Form, u8, u16, u32, number, text, bytes, pair, Place, publishPlace, subscribePlace, ackPlace, Layout, aPublish, anAck, aSubscribe, aPing, kinds, reserved, isPing}
 use Rattle.grammar.specs.Record.{Val, num, str, PropOf, unlessEmpty, PublishProps, publishProps, SubscribeProps, subscribeProps, AckProps, ackProps, Filter, PacketOf, kindOf, flagQos, mkPublish, mkAck, mkFilter, mkSubscribe, mkPing}
-use Rattle.grammar.specs.Sentence.{duoOf, notThree, notZero, qosFine, ruleFine, someOf}
+use Rattle.grammar.specs.Sentence.{duoOf, notThree, notZero, qosFine, ruleFine, someOf, Packet}
 use Rattle.reading.specs.Refusal.{Refusal, nr, Answer, accepted, refusedAs, cut, crossed, lacking, within, over}
 use Rattle.reading.specs.Reader.{Fit, got, bad, Reader, Filler, _>>=_, _>>_, guard, noneOf, neverOf, mapOf, onlyOf, thenOf, sizedOf, isFit, mapFit, handFit, onlyFit, thenFit, exactFit, manyFit, isGot}
 
@@ -203,7 +203,7 @@ module _ (h : Shape) where
   unfoldable pub bodyFit : ℕ → ℕ → Filler (PacketOf (h .Str) (h .Run))
   bodyFit x end b = do
     guard (not (isIn (kindOf x) reserved)) (nr 4 (kindOf x ∷ []))
-    guard (or (isPing (lookup kinds (kindOf x))) (not (isEmpty b))) (nr 5 [])
+    guard (isPing (lookup kinds (kindOf x)) || not (isEmpty b)) (nr 5 [])
     layoutFit (lookup kinds (kindOf x)) x end b
 
   -- ---- the answer; n bytes are the frame
@@ -224,5 +224,5 @@ module _ (h : Shape) where
 -- ---- demand 3 speaks of bytes
 
 -- demand 3: the answer in bytes; strings are bytes, and lists are lists
-abbrev pub readOf : Option ℕ → List ℕ → Answer (PacketOf (List ℕ) List)
+abbrev pub readOf : Option ℕ → List ℕ → Answer Packet
 readOf = readAs asBytes

@@ -1,13 +1,13 @@
 -- When each refusal of a read is given, in the words of 01, "When the desk says no", with values and bytes taken. Nothing here knows of a
 -- reader. Assumes nothing.
 use mathlib.Core.Path.{_≡_}
-use mathlib.Core.Bool.{Bool, true, false, not}
+use mathlib.Core.Bool.{Bool, true, false, not, _||_}
 use mathlib.Core.Option.{Option, none, some}
 use mathlib.Core.List.{List, [], _∷_, _++_}
 use Prim.Native.Nat.{ℕ, _+_, _-_, _<_}
 use lib.Dec.{leb, ltb}
 use lib.ListN.{length, drop}
-use Rattle.grammar.specs.Choice.{pick, or, isIn, lookup, isEmpty}
+use Rattle.grammar.specs.Choice.{pick, isIn, lookup, isEmpty}
 use Rattle.grammar.specs.Number.{Spells}
 use Rattle.grammar.specs.Tables.{Layout, kinds, reserved, isPing}
 use Rattle.grammar.specs.Record.{kindOf}
@@ -69,7 +69,7 @@ Given limit notCarried s vs t = (x : ℕ) × (y : ℕ) × (b : List ℕ) × Hold
 
 -- 01, rows 7 to 15, and 2 inside a frame: the frame is of a kind that is carried, and its fields break, first from the left, with k
 abbrev pub Breaks : Option ℕ → List ℕ → Refusal → ℕ → Type 0
-Breaks limit s k t = (x : ℕ) × (l : Layout) × (b : List ℕ) × Holds limit s x b t × (lookup kinds (kindOf x) ≡ some l) × (or (isPing (some l)) (not (isEmpty b)) ≡ true) × FieldsFault l x b k
+Breaks limit s k t = (x : ℕ) × (l : Layout) × (b : List ℕ) × Holds limit s x b t × (lookup kinds (kindOf x) ≡ some l) × ((isPing (some l) || not (isEmpty b)) ≡ true) × FieldsFault l x b k
 
 -- ---- 01: "n is 2 less the bytes held if under two; 1 while the length number lacks its end; else F less the bytes held"
 

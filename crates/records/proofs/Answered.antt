@@ -10,7 +10,7 @@ use Rattle.reading.specs.Place as place
 use Rattle.records.specs.Told.{toldError}
 use Rattle.records.specs.Answered.{told, toldSized, toldWritten, toldUser, toldIdentifier, toldFilterItem, toldGotReason, toldGotRule}
 use Rattle.records.proofs.Laws.{injective-by}
-use Rattle.records.proofs.Told.{backError, back-error, backReason, back-reason, backRule, back-rule, backSpan, back-span}
+use Rattle.records.proofs.Told.{backError, back-error, backFit, backReason, back-reason, backRule, back-rule, backSpan, back-span}
 use Rattle.records.proofs.Said.{backFilter, back-filter, backPacket, back-packet}
 use Rattle.records.specs.declared.answer.Read.{Read}
 use Rattle.records.specs.declared.answer.Sized.{Sized}
@@ -38,21 +38,17 @@ back-read (Read.Refused e n) = back-taken (toldError e) n ∙ ap (λ k. Read.Ref
 
 -- ---- sizes
 
-pub backSized : Fit ℕ → Sized
-backSized (got n) = Sized.Size n
-backSized (bad k) = Sized.Refused (backError k)
+abbrev pub backSized : Fit ℕ → Sized
+backSized = backFit Sized.Size Sized.Refused
 
 pub back-sized : (r : Sized) → backSized (toldSized r) ≡ r
-unfolding backSized
 back-sized (Sized.Size n) = refl
 back-sized (Sized.Refused e) = ap Sized.Refused (back-error e)
 
-pub backWritten : Fit ℕ → Written
-backWritten (got n) = Written.Size n
-backWritten (bad k) = Written.Refused (backError k)
+abbrev pub backWritten : Fit ℕ → Written
+backWritten = backFit Written.Size Written.Refused
 
 pub back-written : (r : Written) → backWritten (toldWritten r) ≡ r
-unfolding backWritten
 back-written (Written.Size n) = refl
 back-written (Written.Refused e) = ap Written.Refused (back-error e)
 
@@ -99,21 +95,17 @@ back-filter-item FilterItem.NoItem = refl
 
 -- ---- reasons and forward rules
 
-pub backGotReason : Fit ℕ → GotReason
-backGotReason (got n) = GotReason.Value (backReason n)
-backGotReason (bad k) = GotReason.Refused (backError k)
+abbrev pub backGotReason : Fit ℕ → GotReason
+backGotReason = backFit (λ n. GotReason.Value (backReason n)) GotReason.Refused
 
 pub back-got-reason : (r : GotReason) → backGotReason (toldGotReason r) ≡ r
-unfolding backGotReason
 back-got-reason (GotReason.Value a) = ap GotReason.Value (back-reason a)
 back-got-reason (GotReason.Refused e) = ap GotReason.Refused (back-error e)
 
-pub backGotRule : Fit ℕ → GotRule
-backGotRule (got n) = GotRule.Value (backRule n)
-backGotRule (bad k) = GotRule.Refused (backError k)
+abbrev pub backGotRule : Fit ℕ → GotRule
+backGotRule = backFit (λ n. GotRule.Value (backRule n)) GotRule.Refused
 
 pub back-got-rule : (r : GotRule) → backGotRule (toldGotRule r) ≡ r
-unfolding backGotRule
 back-got-rule (GotRule.Value a) = ap GotRule.Value (back-rule a)
 back-got-rule (GotRule.Refused e) = ap GotRule.Refused (back-error e)
 
@@ -127,18 +119,3 @@ sized-injective = injective-by toldSized backSized back-sized
 
 pub written-injective : {a b : Written} → toldWritten a ≡ toldWritten b → a ≡ b
 written-injective = injective-by toldWritten backWritten back-written
-
-pub user-injective : {a b : UserItem} → toldUser a ≡ toldUser b → a ≡ b
-user-injective = injective-by toldUser backUser back-user
-
-pub identifier-injective : {a b : IdentifierItem} → toldIdentifier a ≡ toldIdentifier b → a ≡ b
-identifier-injective = injective-by toldIdentifier backIdentifier back-identifier
-
-pub filter-item-injective : {a b : FilterItem} → toldFilterItem a ≡ toldFilterItem b → a ≡ b
-filter-item-injective = injective-by toldFilterItem backFilterItem back-filter-item
-
-pub got-reason-injective : {a b : GotReason} → toldGotReason a ≡ toldGotReason b → a ≡ b
-got-reason-injective = injective-by toldGotReason backGotReason back-got-reason
-
-pub got-rule-injective : {a b : GotRule} → toldGotRule a ≡ toldGotRule b → a ≡ b
-got-rule-injective = injective-by toldGotRule backGotRule back-got-rule

@@ -19,12 +19,11 @@ use Rattle.records.specs.declared.subscribe_record.Filter.{Filter}
 use Rattle.records.specs.declared.subscribe_record.Subscribe.{Subscribe}
 use Rattle.records.specs.declared.subscribe_record.SubscribeProperties.{SubscribeProperties}
 use Rattle.records.specs.declared.subscribe_record.MaybeSubscribeProperties.{MaybeSubscribeProperties}
-use Rattle.records.proofs.Laws.{injective-by}
 use Rattle.records.proofs.Told.{backBool, backQoS, backReason, backRule, backSpan, backU8, backU16, backU32, backString, back-bool, back-qos, back-reason, back-rule, back-span, back-u8, back-u16, back-u32, back-string}
 
 -- ---- property sets
 
-pub backPublishProperties : PublishProps place.Span (λ A. place.Span) → PublishProperties
+backPublishProperties : PublishProps place.Span (λ A. place.Span) → PublishProperties
 backPublishProperties p = record {
   «payload_format_indicator» = backU8 (p .format);
   «message_expiry_interval» = backU32 (p .expiry);
@@ -35,21 +34,21 @@ backPublishProperties p = record {
   block = backSpan (p .user);
 }
 
-pub back-publish-properties : (p : PublishProperties) → backPublishProperties (toldPublishProperties p) ≡ p
+back-publish-properties : (p : PublishProperties) → backPublishProperties (toldPublishProperties p) ≡ p
 unfolding backPublishProperties
 back-publish-properties p = simp (back-u8, back-u16, back-u32, back-string, back-span)
 
-pub backSubscribeProperties : SubscribeProps place.Span (λ A. place.Span) → SubscribeProperties
+backSubscribeProperties : SubscribeProps place.Span (λ A. place.Span) → SubscribeProperties
 backSubscribeProperties p = record { id = backU32 (p .ident); block = backSpan (p .user) }
 
-pub back-subscribe-properties : (p : SubscribeProperties) → backSubscribeProperties (toldSubscribeProperties p) ≡ p
+back-subscribe-properties : (p : SubscribeProperties) → backSubscribeProperties (toldSubscribeProperties p) ≡ p
 unfolding backSubscribeProperties
 back-subscribe-properties p = simp (back-u32, back-span)
 
-pub backPubAckProperties : AckProps place.Span (λ A. place.Span) → PubAckProperties
+backPubAckProperties : AckProps place.Span (λ A. place.Span) → PubAckProperties
 backPubAckProperties p = record { «reason_string» = backString (p .reason); block = backSpan (p .user) }
 
-pub back-puback-properties : (p : PubAckProperties) → backPubAckProperties (toldPubAckProperties p) ≡ p
+back-puback-properties : (p : PubAckProperties) → backPubAckProperties (toldPubAckProperties p) ≡ p
 unfolding backPubAckProperties
 back-puback-properties p = simp (back-string, back-span)
 
@@ -82,7 +81,7 @@ back-puback-block (MaybePubAckProperties.Present p) = ap MaybePubAckProperties.P
 
 -- ---- packets
 
-pub backPublish : record-of.Publish place.Span (λ A. place.Span) → Publish
+backPublish : record-of.Publish place.Span (λ A. place.Span) → Publish
 backPublish m = record {
   dup = backBool (m .dup);
   qos = backQoS (m .qos);
@@ -93,7 +92,7 @@ backPublish m = record {
   properties = backPublishBlock (m .props);
 }
 
-pub back-publish : (m : Publish) → backPublish (toldPublish m) ≡ m
+back-publish : (m : Publish) → backPublish (toldPublish m) ≡ m
 unfolding backPublish
 back-publish m = simp (back-bool, back-qos, back-span, back-publish-block)
 
@@ -110,17 +109,17 @@ pub back-filter : (f : Filter) → backFilter (toldFilter f) ≡ f
 unfolding backFilter
 back-filter f = simp (back-span, back-qos, back-bool, back-rule)
 
-pub backSubscribe : record-of.Subscribe place.Span (λ A. place.Span) → Subscribe
+backSubscribe : record-of.Subscribe place.Span (λ A. place.Span) → Subscribe
 backSubscribe m = record { pkid = m .ident; filters = backSpan (m .filters); properties = backSubscribeBlock (m .props) }
 
-pub back-subscribe : (m : Subscribe) → backSubscribe (toldSubscribe m) ≡ m
+back-subscribe : (m : Subscribe) → backSubscribe (toldSubscribe m) ≡ m
 unfolding backSubscribe
 back-subscribe m = simp (back-span, back-subscribe-block)
 
-pub backPubAck : record-of.Ack place.Span (λ A. place.Span) → PubAck
+backPubAck : record-of.Ack place.Span (λ A. place.Span) → PubAck
 backPubAck m = record { pkid = m .ident; reason = backReason (m .reason); properties = backPubAckBlock (m .props) }
 
-pub back-puback : (m : PubAck) → backPubAck (toldPubAck m) ≡ m
+back-puback : (m : PubAck) → backPubAck (toldPubAck m) ≡ m
 unfolding backPubAck
 back-puback m = simp (back-reason, back-puback-block)
 
@@ -137,38 +136,3 @@ back-packet (Packet.PubAck m) = ap Packet.PubAck (back-puback m)
 back-packet (Packet.Subscribe m) = ap Packet.Subscribe (back-subscribe m)
 back-packet Packet.PingReq = refl
 back-packet Packet.PingResp = refl
-
--- ---- one record only
-
-pub publish-properties-injective : {a b : PublishProperties} → toldPublishProperties a ≡ toldPublishProperties b → a ≡ b
-publish-properties-injective = injective-by toldPublishProperties backPublishProperties back-publish-properties
-
-pub subscribe-properties-injective : {a b : SubscribeProperties} → toldSubscribeProperties a ≡ toldSubscribeProperties b → a ≡ b
-subscribe-properties-injective = injective-by toldSubscribeProperties backSubscribeProperties back-subscribe-properties
-
-pub puback-properties-injective : {a b : PubAckProperties} → toldPubAckProperties a ≡ toldPubAckProperties b → a ≡ b
-puback-properties-injective = injective-by toldPubAckProperties backPubAckProperties back-puback-properties
-
-pub publish-block-injective : {a b : MaybePublishProperties} → toldPublishBlock a ≡ toldPublishBlock b → a ≡ b
-publish-block-injective = injective-by toldPublishBlock backPublishBlock back-publish-block
-
-pub subscribe-block-injective : {a b : MaybeSubscribeProperties} → toldSubscribeBlock a ≡ toldSubscribeBlock b → a ≡ b
-subscribe-block-injective = injective-by toldSubscribeBlock backSubscribeBlock back-subscribe-block
-
-pub puback-block-injective : {a b : MaybePubAckProperties} → toldPubAckBlock a ≡ toldPubAckBlock b → a ≡ b
-puback-block-injective = injective-by toldPubAckBlock backPubAckBlock back-puback-block
-
-pub publish-injective : {a b : Publish} → toldPublish a ≡ toldPublish b → a ≡ b
-publish-injective = injective-by toldPublish backPublish back-publish
-
-pub filter-injective : {a b : Filter} → toldFilter a ≡ toldFilter b → a ≡ b
-filter-injective = injective-by toldFilter backFilter back-filter
-
-pub subscribe-injective : {a b : Subscribe} → toldSubscribe a ≡ toldSubscribe b → a ≡ b
-subscribe-injective = injective-by toldSubscribe backSubscribe back-subscribe
-
-pub puback-injective : {a b : PubAck} → toldPubAck a ≡ toldPubAck b → a ≡ b
-puback-injective = injective-by toldPubAck backPubAck back-puback
-
-pub packet-injective : {a b : Packet} → toldPacket a ≡ toldPacket b → a ≡ b
-packet-injective = injective-by toldPacket backPacket back-packet

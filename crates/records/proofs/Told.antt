@@ -8,6 +8,7 @@ use lib.ListN.{getD}
 use Rattle.grammar.specs.Choice.{lookup}
 use Rattle.grammar.specs.Record.{Val, num, str, duo}
 use Rattle.reading.specs.Refusal.{Refusal, nr}
+use Rattle.reading.specs.Reader.{Fit, got, bad}
 use Rattle.reading.specs.Place as place
 use Rattle.records.specs.Told.{toldError, toldValues, limitOf, toldBool, toldQoS, toldReason, toldRule, toldSpan, toldU8, toldU16, toldU32, toldString}
 use Rattle.records.specs.declared.answer.Limit.{Limit}
@@ -82,6 +83,14 @@ back-error (Error.StringTooLong n) = refl
 back-error (Error.NoRoom n) = refl
 back-error Error.ListMismatch = refl
 back-error Error.NoItem = refl
+
+pub error-injective : {a b : Error} → toldError a ≡ toldError b → a ≡ b
+error-injective = injective-by toldError backError back-error
+
+-- back to an answer that is a value or a refusal
+abbrev pub backFit : {B R : Type 0} → (B → R) → (Error → R) → Fit B → R
+backFit value refused (got b) = value b
+backFit value refused (bad k) = refused (backError k)
 
 pub backValues : List ℕ → Values
 backValues [] = Values.None
@@ -220,41 +229,3 @@ pub back-string : (m : MaybeSpan) → backString (toldString m) ≡ m
 unfolding backString backSpan
 back-string MaybeSpan.Absent = refl
 back-string (MaybeSpan.Present p) = refl
-
--- ---- one value only
-
-pub error-injective : {a b : Error} → toldError a ≡ toldError b → a ≡ b
-error-injective = injective-by toldError backError back-error
-
-pub values-injective : {a b : Values} → toldValues a ≡ toldValues b → a ≡ b
-values-injective = injective-by toldValues backValues back-values
-
-pub limit-injective : {a b : Limit} → limitOf a ≡ limitOf b → a ≡ b
-limit-injective = injective-by limitOf backLimit back-limit
-
-pub bool-injective : {a b : Bool} → toldBool a ≡ toldBool b → a ≡ b
-bool-injective = injective-by toldBool backBool back-bool
-
-pub qos-injective : {a b : QoS} → toldQoS a ≡ toldQoS b → a ≡ b
-qos-injective = injective-by toldQoS backQoS back-qos
-
-pub reason-injective : {a b : PubAckReason} → toldReason a ≡ toldReason b → a ≡ b
-reason-injective = injective-by toldReason backReason back-reason
-
-pub rule-injective : {a b : RetainForwardRule} → toldRule a ≡ toldRule b → a ≡ b
-rule-injective = injective-by toldRule backRule back-rule
-
-pub span-injective : {a b : Span} → toldSpan a ≡ toldSpan b → a ≡ b
-span-injective = injective-by toldSpan backSpan back-span
-
-pub u8-injective : {a b : MaybeU8} → toldU8 a ≡ toldU8 b → a ≡ b
-u8-injective = injective-by toldU8 backU8 back-u8
-
-pub u16-injective : {a b : MaybeU16} → toldU16 a ≡ toldU16 b → a ≡ b
-u16-injective = injective-by toldU16 backU16 back-u16
-
-pub u32-injective : {a b : MaybeU32} → toldU32 a ≡ toldU32 b → a ≡ b
-u32-injective = injective-by toldU32 backU32 back-u32
-
-pub string-injective : {a b : MaybeSpan} → toldString a ≡ toldString b → a ≡ b
-string-injective = injective-by toldString backString back-string

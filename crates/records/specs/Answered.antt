@@ -58,8 +58,11 @@ toldGotReason (GotReason.Refused e) = bad (toldError e)
 
 -- 01, row 15, of the number k
 abbrev pub reasonOf : ℕ → Fit ℕ
-reasonOf k = guard (isIn k reasons) (nr 15 (k ∷ [])) >> got k
+reasonOf k = do
+  guard (isIn k reasons) (nr 15 (k ∷ []))
+  got k
 
+-- 01, row 14: "both rule bits set"
 abbrev pub toldGotRule : GotRule → Fit ℕ
 toldGotRule (GotRule.Value r) = got (toldRule r)
 toldGotRule (GotRule.Refused e) = bad (toldError e)

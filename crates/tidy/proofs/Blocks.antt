@@ -10,7 +10,7 @@ use Rattle.grammar.specs.Choice.{pick, lookup, isEmpty}
 use Rattle.grammar.specs.Tables.{Form, Place}
 use Rattle.grammar.specs.Record.{allOf, unlessEmpty}
 use Rattle.grammar.specs.Sentence.{Value, Prop}
-use Rattle.reading.proofs.Lists.{no-way, T-true, eq-of}
+use Rattle.reading.proofs.Lists.{no-way, T-true, eq-of, not-true}
 use Rattle.writing.specs.Lists.{Each, nil, _&_, flat, all, total}
 use Rattle.writing.specs.Handed.{Givens, items, tag, entries}
 use Rattle.writing.specs.Size.{most, withLength, propsSize}
@@ -18,7 +18,7 @@ use Rattle.writing.specs.Order.{propsFields}
 use Rattle.writing.specs.Refuse.{InBlock, Sound}
 use Rattle.writing.specs.Meant.{Filled}
 use Rattle.writing.proofs.Each.{each-imp, each-both, flat-each}
-use Rattle.writing.proofs.Tests.{and-left, and-right, not-true, nil-when, eq-when, eq-not}
+use Rattle.writing.proofs.Tests.{and-left, and-right, nil-when, eq-when, eq-not}
 use Rattle.writing.proofs.Sizes.{weigh}
 use Rattle.tidy.specs.Tidy.{withSet}
 use Rattle.tidy.proofs.Has.{withLength-mono, SuitsIn, propSize}

@@ -15,8 +15,8 @@ use Rattle.reading.proofs.Lists.{no-way}
 use Rattle.writing.specs.Lists.{Each, nil, _&_, Octets, flat, total, beside}
 use Rattle.writing.specs.Handed.{PublishHanded, SubscribeHanded, AckHanded, Handed, publish, ack, subscribe, ping, publishGiven, subscribeGiven, ackGiven, filters}
 use Rattle.writing.specs.Size.{most, withLength, propsSize, isPlain, restIs, sizeIs}
-use Rattle.writing.specs.Order.{stringField, filterField, fieldsOf, orNone}
-use Rattle.writing.specs.Refuse.{Sound, Small, Accepts}
+use Rattle.writing.specs.Order.{stringField, filterField, fieldsOf, orNone, numbersOf}
+use Rattle.writing.specs.Refuse.{Sound, Small, Countable, Unnamed, Unasked, Accepts}
 use Rattle.writing.specs.Meant.{publishSet, subscribeSet, ackSet, thePublish, theAck, meant, Below, Typed, Plain}
 use Rattle.writing.proofs.Each.{each-append, rows-of}
 use Rattle.writing.proofs.Values.{Suits, an-u8, an-u16, an-u32, a-number, a-text, a-bytes, low-qos, low-rule, low-filter}
@@ -63,6 +63,10 @@ pub record Good (v : Packet) (h : Handed) : Type 0 where
   pub typed : Typed h
   pub plain : Plain h
   pub means : meant h ≡ v
+
+-- with no limit, and as much room as is needed
+fitting : (h : Handed) → Countable h → (Unnamed h → ⊥) → Each Small (numbersOf h) → (Unasked h → ⊥) → Accepts none (sizeIs h) h
+fitting h c i n s = record { countable = c; within = tt; named = i; numbers = n; asked = s; fits = omega arith }
 
 -- ---- Publish
 
@@ -137,18 +141,11 @@ publish-good p w =
     let rows = publish-rows p ps (w .props .suits) s in
     let l = rows-light (publishGiven h) ps rows publish-distinct (w .size) (w .props .light) (omega (arith, w .light)) in
     record {
-      accepts = record {
-        countable = record {
-          belongs = rows-belong (publishGiven h) ps rows;
-          fields = w .topic & rows-sound (publishGiven h) ps rows;
-          rest = omega (arith, w .light);
-        };
-        within = tt;
-        named = λ t. w .named (t .0) (t .1);
-        numbers = numbers-back (s .subscriptions) .0;
-        asked = λ f. f;
-        fits = omega arith;
-      };
+      accepts = fitting (publish h) (record {
+        belongs = rows-belong (publishGiven h) ps rows;
+        fields = w .topic & rows-sound (publishGiven h) ps rows;
+        rest = omega (arith, w .light);
+      }) (λ t. w .named (t .0) (t .1)) (numbers-back (s .subscriptions) .0) (λ f. f);
       typed = record {
         dup = w .dup;
         qos = w .qos;
@@ -213,18 +210,11 @@ ack-good k p w =
     let rows = ack-rows p ps (w .props .suits) in
     let l = rows-light (ackGiven h) ps rows ack-distinct (w .size) (w .props .light) (omega (arith, w .light)) in
     record {
-      accepts = record {
-        countable = record {
-          belongs = rows-belong (ackGiven h) ps rows;
-          fields = rows-sound (ackGiven h) ps rows;
-          rest = plain-small (isPlain h) (withLength (propsSize ackPlace (ackGiven h))) (omega (arith, w .light));
-        };
-        within = tt;
-        named = λ f. f;
-        numbers = nil;
-        asked = λ f. f;
-        fits = omega arith;
-      };
+      accepts = fitting (ack k h) (record {
+        belongs = rows-belong (ackGiven h) ps rows;
+        fields = rows-sound (ackGiven h) ps rows;
+        rest = plain-small (isPlain h) (withLength (propsSize ackPlace (ackGiven h))) (omega (arith, w .light));
+      }) (λ f. f) nil (λ f. f);
       typed = record {
         reasons = w .reasons;
         kind = w .kind;
@@ -332,18 +322,11 @@ subscribe-good p w =
     let e : filters h ≡ beside (pathsOf (p .filters)) (map optionsOf (p .filters)) = ap (λ (ss : List (List ℕ)). beside ss (map optionsOf (p .filters))) (run-back (pathsOf (p .filters))) in
     let c : length (map length (pathsOf (p .filters))) ≡ length (map optionsOf (p .filters)) = simp length-map in
     record {
-      accepts = record {
-        countable = record {
-          belongs = (rows-belong (subscribeGiven h) ps rows, (run-adds (pathsOf (p .filters)), c));
-          fields = each-append (rows-sound (subscribeGiven h) ps rows) (rw e (b .sound));
-          rest = omega (arith, w .light, b .sum);
-        };
-        within = tt;
-        named = λ f. f;
-        numbers = num-back Small number-num (subscribe-ident p ps (w .props .suits)) .0;
-        asked = λ q. some-filters (p .filters) (w .asked) (sym e ∙ q);
-        fits = omega arith;
-      };
+      accepts = fitting (subscribe h) (record {
+        belongs = (rows-belong (subscribeGiven h) ps rows, (run-adds (pathsOf (p .filters)), c));
+        fields = each-append (rows-sound (subscribeGiven h) ps rows) (rw e (b .sound));
+        rest = omega (arith, w .light, b .sum);
+      }) (λ f. f) (num-back Small number-num (subscribe-ident p ps (w .props .suits)) .0) (λ q. some-filters (p .filters) (w .asked) (sym e ∙ q));
       typed = record { ident = w .ident; user = users-octets (subscribe-user p ps (w .props .suits)); filters = run-octets (b .octets) };
       plain = rows-filled (subscribeGiven h) ps rows (w .props .suits);
       means =
@@ -356,14 +339,7 @@ subscribe-good p w =
 ping-good : (k : ℕ) → Said (g.ping k) → Good (g.ping k) (ping k)
 unfolding restIs fieldsOf meant
 ping-good k w = record {
-  accepts = record {
-    countable = record { belongs = tt; fields = nil; rest = omega arith };
-    within = tt;
-    named = λ f. f;
-    numbers = nil;
-    asked = λ f. f;
-    fits = omega arith;
-  };
+  accepts = fitting (ping k) (record { belongs = tt; fields = nil; rest = omega arith }) (λ f. f) nil (λ f. f);
   typed = w;
   plain = tt;
   means = refl;

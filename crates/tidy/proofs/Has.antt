@@ -36,7 +36,7 @@ has-many P w h _ _ (more {a = a} {vs = vs} {b = b} {c = c} g m) o =
 
 -- ---- numbers
 
-pub has-byte : Has Byte (λ x n. Octet x × (n ≡ 1))
+has-byte : Has Byte (λ x n. Octet x × (n ≡ 1))
 has-byte _ _ byte o = (each-head o, refl)
 
 big-bound : (n : ℕ) (b : List ℕ) → Octets b → bigFrom n b < suc n * 256 ^ length b
@@ -79,7 +79,7 @@ has-string P a _ (sized {b = b} {c = c} n g) o = go a b n g (each-left c b o) (e
     go _ b n (is p) o q = let (h, e) = has-big 2 (length b) c n o in (omega arith, p, q, omega (arith, length-append c b))
 
 -- a value that its form can write, in no more bytes
-pub has-value : (f : Form) → Has (Spelt f) (λ v n. Suits f v × (length (value f v) ≤ n))
+has-value : (f : Form) → Has (Spelt f) (λ v n. Suits f v × (length (value f v) ≤ n))
 unfolding value numeral
 has-value u8 _ b (mapped {a = n} g) o = let (h, e) = has-byte n b g o in (an-u8 h, omega arith)
 has-value u16 _ b (mapped {a = n} g) o = let (h, e) = has-big 2 n b g o in (an-u16 {n = n} (omega arith), omega (arith, length-wide 2 n))

@@ -4,4 +4,4 @@ pub mod Rows
 pub mod Blocks
 pub mod Good
 pub mod Tidy
-pub mod Bench
+pub mod Worked

@@ -28,6 +28,7 @@ use Rattle.tidy.proofs.Has.{SuitsIn}
 
 -- ---- the values of a row
 
+-- P holds of what is there, if anything is
 pub data Perhaps {A : Type 0} (P : A → Type 0) : Option A → Type 0 where
   absent : Perhaps P none
   present : {a : A} → P a → Perhaps P (some a)
@@ -78,6 +79,7 @@ numbers-back (_&_ {l = vs} s ss) = go s (numbers-back ss)
     go : {v : Value} → Suits number v → Each Small (numsIn vs) × (map num (numsIn vs) ≡ vs) → Each Small (numsIn (v ∷ vs)) × (map num (numsIn (v ∷ vs)) ≡ v ∷ vs)
     go (a-number {n} h) (p, e) = (h & p, ap (λ (l : List Value). num n ∷ l) e)
 
+-- keys and values of pairs, one after the other, are the pairs again
 record PairsBack (vs : List Value) : Type 0 where
   octets : Each Octets (stringsIn vs)
   sound : Each Sound (map word (stringsIn vs))

@@ -23,8 +23,9 @@ use Rattle.writing.proofs.Each.{each-tail, each-left, each-right, lookup-each}
 use Rattle.writing.proofs.Tests.{eq-not, all-when}
 use Rattle.tidy.proofs.Has.{has-many, has-big, has-number, has-string, FromList, has-block}
 
--- ---- each kind; n is what the block may take
+-- ---- each kind; `size` is what the block may take
 
+-- a Publish
 pub record PublishSaid (p : Publish (List ℕ) List) : Type 0 where
   pub dup : p .dup < 2
   pub qos : p .qos < 3
@@ -39,6 +40,7 @@ pub record PublishSaid (p : Publish (List ℕ) List) : Type 0 where
   pub payload : Octets (p .payload)
   pub light : 2 + length (p .topic) + (identSize (p .qos) (p .ident) + (size + length (p .payload))) ≤ most
 
+-- an acknowledgement of the kind k
 pub record AckSaid (k : ℕ) (p : Ack (List ℕ) List) : Type 0 where
   pub reasons : List ℕ
   pub kind : lookup kinds k ≡ some (anAck reasons)
@@ -48,6 +50,7 @@ pub record AckSaid (k : ℕ) (p : Ack (List ℕ) List) : Type 0 where
   pub props : FromList ackPlace ackOf (p .props) size
   pub light : 3 + size ≤ most
 
+-- a filter; `options` is the byte that was read
 pub record FilterSaid (f : Filter (List ℕ)) : Type 0 where
   pub path : Short (f .path)
   pub text : Utf8 (f .path)
@@ -57,9 +60,11 @@ pub record FilterSaid (f : Filter (List ℕ)) : Type 0 where
   pub rule : ruleFine options ≡ true
   pub qos : qosFine options ≡ true
 
+-- two bytes of length, the text, and the options byte
 abbrev pub filterSize : Filter (List ℕ) → ℕ
 filterSize f = 3 + length (f .path)
 
+-- a Subscribe
 pub record SubscribeSaid (p : Subscribe (List ℕ) List) : Type 0 where
   pub ident : p .ident < 65536
   pub size : ℕ
@@ -68,6 +73,7 @@ pub record SubscribeSaid (p : Subscribe (List ℕ) List) : Type 0 where
   pub asked : someOf (p .filters) ≡ true
   pub light : 2 + (size + total filterSize (p .filters)) ≤ most
 
+-- each kind
 abbrev pub Said : Packet → Type 0
 Said (g.publish p) = PublishSaid p
 Said (g.ack k p) = AckSaid k p
@@ -76,6 +82,7 @@ Said (g.ping k) = lookup kinds k ≡ some aPing
 
 -- ---- Publish
 
+-- an identifier i at QoS q, in n bytes
 record Named (q i n : ℕ) : Type 0 where
   small : i < 65536
   unnamed : q ≡ 0 → i ≡ 0
@@ -135,6 +142,7 @@ kinds-zero : (k : ℕ) (l : Layout) → lookup kinds k ≡ some l → hasZero l 
 unfolding kinds reasons
 kinds-zero = lookup-each (λ r. hasZero (r .1) ≡ true) (all-when (λ r. hasZero (r .1)) (λ r. (λ e. e, λ e. e)) kinds .0 refl)
 
+-- reason and block of an acknowledgement, in n bytes
 record RestSaid (rs : List ℕ) (v : ℕ × Option (AckProps (List ℕ) List)) (n : ℕ) : Type 0 where
   reason : isIn (v .0) rs ≡ true
   size : ℕ

@@ -55,6 +55,7 @@ optionsOf f = f .qos + 4 * f .noLocal + 8 * f .preserve + 16 * f .rule
 
 -- ---- packets; b says whether a set of properties is present, s is the set
 
+-- 01, grammar: "Publish (3)"
 abbrev pub publishFrom : g.Publish (List ℕ) List → Bool → PublishProps (List ℕ) List → PublishHanded
 publishFrom p b s = record {
   dup = p .dup;
@@ -74,9 +75,11 @@ publishFrom p b s = record {
   payload = p .payload;
 }
 
+-- 01, grammar: "PubAck (4)"
 abbrev pub ackFrom : g.Ack (List ℕ) List → Bool → AckProps (List ℕ) List → AckHanded
 ackFrom p b s = record { ident = p .ident; reason = p .reason; block = b; text = lentIn (s .reason); user = runOf (stringsIn (s .user)) }
 
+-- 01, grammar: "Subscribe (8)"
 abbrev pub subscribeFrom : g.Subscribe (List ℕ) List → Bool → SubscribeProps (List ℕ) List → SubscribeHanded
 subscribeFrom p b s = record {
   ident = p .ident;
@@ -87,13 +90,15 @@ subscribeFrom p b s = record {
   options = map optionsOf (p .filters);
 }
 
--- sets with nothing in them
+-- a set with nothing in it
 abbrev pub noPublish : PublishProps (List ℕ) List
 noPublish = record { format = none; expiry = none; alias = none; response = none; correlation = none; user = []; subscriptions = []; content = none }
 
+-- the same of an acknowledgement
 abbrev pub noAck : AckProps (List ℕ) List
 noAck = record { reason = none; user = [] }
 
+-- the same of a Subscribe
 abbrev pub noSubscribe : SubscribeProps (List ℕ) List
 noSubscribe = record { ident = none; user = [] }
 

@@ -16,11 +16,7 @@ use Rattle.writing.specs.Meant.{meant, said, Typed, Plain}
 use Rattle.writing.proofs.Demand.{reads-said, reads-back}
 
 module _ (limit : Option ℕ) (room : ℕ) (h : Handed) (b : List ℕ) (t : Typed h) (e : writeOf limit room h ≡ got b) (r : List ℕ) where
-  -- the answer with places says what the bytes say
-  pub placed-said : sayAnswer (b ++ r) (readPlacedOf none (b ++ r)) ≡ got (accepted (said h) (length b))
-  placed-said = placed-says none (b ++ r) ∙ ap got (reads-said limit room h b t e r)
-
-  -- and so the record, where that is what they say
+  -- the answer with places says the record, where that is what the bytes say
   pub placed-back : Plain h → sayAnswer (b ++ r) (readPlacedOf none (b ++ r)) ≡ got (accepted (meant h) (length b))
   placed-back p = placed-says none (b ++ r) ∙ ap got (reads-back limit room h b t p e r)
 

@@ -1,4 +1,4 @@
--- 20, 12 and 13 are given exactly when their rows say; an absent block has nothing in it. Assumes nothing.
+-- 20, 12 and 13 are given exactly when their rows say; what a plain success is; an absent block has nothing in it. Assumes nothing.
 use mathlib.Core.Path.{_≡_, refl, sym}
 use mathlib.Core.Bool.{Bool, true, false, not, _||_}
 use mathlib.Core.Option.{none, some}
@@ -11,7 +11,8 @@ use Rattle.grammar.specs.Choice.{isEmpty}
 use Rattle.grammar.specs.Tables.{Place, publishPlace, subscribePlace, ackPlace}
 use Rattle.reading.proofs.Lists.{no-way, eq-of}
 use Rattle.writing.specs.Lists.{Each, nil, _&_, flat, sum}
-use Rattle.writing.specs.Handed.{Handed, publish, ack, subscribe, ping, Given, one, lent, pairs, several, Givens, publishGiven, subscribeGiven, ackGiven, items, tag, entries, filters, addsUp, sorted, nothing, blockBelongs, filtersBelong, belongs}
+use Rattle.writing.specs.Handed.{AckHanded, Handed, publish, ack, subscribe, ping, Given, one, lent, pairs, several, Givens, publishGiven, subscribeGiven, ackGiven, items, tag, entries, filters, addsUp, sorted, nothing, blockBelongs, filtersBelong, belongs}
+use Rattle.writing.specs.Size.{isPlain}
 use Rattle.writing.specs.Order.{named, asked}
 use Rattle.writing.specs.Refuse.{Sorted, Nothing, InBlock, Belongs, Unnamed, Unasked}
 use Rattle.writing.proofs.Tests.{and-when, or-when, not-when, nil-when, eq-when, eq-not, all-when}
@@ -75,6 +76,12 @@ unasked-when (subscribe h) = go (filters h)
     go [] = (λ _. refl, λ _. refl)
     go (f ∷ fs) = (λ e. absurd (no-way (sym e)), λ e. cc)
 unasked-when (ping k) = never
+
+-- ---- a plain success
+
+-- 01, grammar: "A successful PubAck with properties absent"
+pub plain-when : (h : AckHanded) → (isPlain h ≡ true) ↔ ((h .reason ≡ 0) × (h .block ≡ false))
+plain-when h = and-when (eqb (h .reason) 0) (not (h .block)) (eq-when (h .reason) 0) (not-when (h .block))
 
 -- ---- an absent block
 

@@ -32,7 +32,7 @@ use Rattle.writing.proofs.Packets.{says-handed}
 -- ---- an accepted write, of anything that is handed over
 
 -- the bytes b that were written
-pub record Wrote (limit : Option ℕ) (room : ℕ) (h : Handed) (b : List ℕ) : Type 0 where
+pub record WrittenBytes (limit : Option ℕ) (room : ℕ) (h : Handed) (b : List ℕ) : Type 0 where
   pub sentence : Sentence (said h) b
   pub octets : Octets b
   pub size : sizeOf h ≡ got (length b)
@@ -46,7 +46,7 @@ module _ (limit : Option ℕ) (room : ℕ) (h : Handed) (b : List ℕ) (e : writ
   written-size = sym (ap length (written limit room h b e) ∙ length-frame h (accepts limit room h b e .countable .belongs))
 
 module _ (limit : Option ℕ) (room : ℕ) (h : Handed) (b : List ℕ) (t : Typed h) (e : writeOf limit room h ≡ got b) where
-  pub writes : Wrote limit room h b
+  pub writes : WrittenBytes limit room h b
   writes =
       let p = accepts limit room h b e in
       let i : b ≡ frameBytes h = written limit room h b e in
@@ -154,7 +154,3 @@ module _ (limit : Option ℕ) (out : List ℕ) (h : Handed) where
       go : (m : Fit (List ℕ)) → writeOf limit (length out) h ≡ m → length (leaves out m) ≡ length out
       go (bad k) e = refl
       go (got b) e = let l = room-for b e in simp (length-append, length-drop) (omega arith)
-
-  -- the output, read back
-  pub out-reads-back : (b : List ℕ) → Typed h → Plain h → writeOf limit (length out) h ≡ got b → readOf none (outOf limit out h) ≡ accepted (meant h) (length b)
-  out-reads-back b t p e = rw (out-written b e) (reads-back limit (length out) h b t p e (drop (length b) out))

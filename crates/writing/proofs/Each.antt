@@ -30,12 +30,12 @@ module _ {A : Type 0} {P : A → Type 0} where
   each-right [] t p = p
   each-right (a ∷ s) t p = each-right s t (each-tail p)
 
-  pub each-take : (n : ℕ) {l : List A} → Each P l → Each P (take n l)
+  each-take : (n : ℕ) {l : List A} → Each P l → Each P (take n l)
   each-take zero p = nil
   each-take (suc n) nil = nil
   each-take (suc n) (p & ps) = p & each-take n ps
 
-  pub each-drop : (n : ℕ) {l : List A} → Each P l → Each P (drop n l)
+  each-drop : (n : ℕ) {l : List A} → Each P l → Each P (drop n l)
   each-drop zero p = p
   each-drop (suc n) nil = nil
   each-drop (suc n) (p & ps) = each-drop n ps
@@ -47,10 +47,6 @@ module _ {A : Type 0} {P : A → Type 0} where
   pub each-both : {Q : A → Type 0} {l : List A} → Each P l → Each Q l → Each (λ a. P a × Q a) l
   each-both nil nil = nil
   each-both (p & ps) (q & qs) = (p, q) & each-both ps qs
-
-  pub each-map : {B : Type 0} (f : B → A) {l : List B} → Each (λ b. P (f b)) l → Each P (map f l)
-  each-map f nil = nil
-  each-map f (p & ps) = p & each-map f ps
 
   pub map-each : {B : Type 0} (f : B → A) (l : List B) → Each P (map f l) → Each (λ b. P (f b)) l
   map-each f [] p = nil
@@ -71,7 +67,7 @@ each-piece (n ∷ ns) p = each-take n p & each-piece ns (each-drop n p)
 
 -- ---- tables
 
--- a fact of each row of a table, one after the other
+-- a proof for each row, one after the other, of the table l: names the table where the goal has it computed
 pub rows-of : {A : Type 0} (P : A → Type 0) (l : List A) → Each P l → Each P l
 rows-of P l p = p
 

@@ -12,13 +12,13 @@ use lib.Dec.{eqb, leb}
 use lib.ListN.{length, take, drop, getD, drop-of-length-le}
 use lib.Seq.{drop-cons, drop-drop, sets}
 use Rattle.grammar.specs.Choice.{pick}
-use Rattle.grammar.specs.Tables.{Form, u8, u16, u32, number, text, bytes, pair, publishPlace, subscribePlace, ackPlace}
+use Rattle.grammar.specs.Tables.{u8, u16, u32, number, text, bytes, pair, publishPlace, subscribePlace, ackPlace}
 use Rattle.reading.specs.Refusal.{Refusal}
 use Rattle.reading.specs.Reader.{Fit, got, bad, _>>_}
 use Rattle.reading.proofs.Lists.{leb-yes, leb-no, eq-of}
-use Rattle.writing.specs.Lists.{flat, sum, beside}
+use Rattle.writing.specs.Lists.{flat, sum}
 use Rattle.writing.specs.Handed.{Run, PublishHanded, SubscribeHanded, AckHanded, Handed, publish, ack, subscribe, ping, one, lent, pairs, several, publishGiven, subscribeGiven, ackGiven, strings, filters, rowBelongs, blockBelongs, filtersBelong, belongs}
-use Rattle.writing.specs.Spell.{wide, short, string, numeral, value, rowBytes, propsBytes, counted, block, filterBytes}
+use Rattle.writing.specs.Spell.{wide, short, string, propsBytes, counted, block, filterBytes}
 use Rattle.writing.specs.Size.{most, withLength, givenSize, propsSize, isPlain, restIs, sizeIs, cap}
 use Rattle.writing.specs.Order.{judge, Field, raw, word, fieldTests, filterField, fieldsOf, permit}
 use Rattle.writing.specs.Write.{firstByte, identBytes, bodyBytes, frameBytes, writeOf, answerOf, Written}
@@ -194,32 +194,6 @@ module _ (r : Run) (i p : ℕ) where
   pub strings-done : length (r .lengths) ≤ i → strings (runFrom r i p) ≡ []
   strings-done h = rw (drop-of-length-le (r .lengths) h)
 
--- the tests of a list of texts, one by one
-pub words-more : (s : List ℕ) (ss : List (List ℕ)) → judge (flat fieldTests (map word (s ∷ ss))) ≡ (judge (fieldTests (word s)) >> judge (flat fieldTests (map word ss)))
-words-more s ss = fields-more (word s) (map word ss)
-
--- a pair and the pairs after it
-pub pairs-more : (r : Run) (i p : ℕ) (f : Form) (j : ℕ) → i + 1 < length (r .lengths) → rowBytes (j, f) (pairs (runFrom r i p))
-    ≡ (j ∷ (string (stringAt r i p) ++ string (stringAt r (i + 1) (p + lengthAt r i p))))
-    ++ rowBytes (j, f) (pairs (runFrom r (i + 2) (p + lengthAt r i p + lengthAt r (i + 1) (p + lengthAt r i p))))
-unfolding value
-pairs-more r i p f j h =
-    let q : ℕ = p + lengthAt r i p in
-    let e : i + 1 + 1 ≡ i + 2 = omega arith in
-    let l : i < length (r .lengths) = omega arith in
-    rw (strings-more r i p l, strings-more r (i + 1) q h, e)
-
--- an identifier and those after it
-pub several-more : (i n : ℕ) (f : Form) (ns : List ℕ) → rowBytes (i, f) (several (n ∷ ns)) ≡ (i ∷ numeral f n) ++ rowBytes (i, f) (several ns)
-unfolding value
-several-more i n f ns = refl
-
--- a filter and those after it
-pub filters-more : (h : SubscribeHanded) (i p : ℕ) → i < length (h .filters .lengths) → i < length (h .options)
-    → beside (strings (runFrom (h .filters) i p)) (drop i (h .options))
-    ≡ (stringAt (h .filters) i p, getD (h .options) i 0) ∷ beside (strings (runFrom (h .filters) (i + 1) (p + lengthAt (h .filters) i p))) (drop (i + 1) (h .options))
-filters-more h i p a b = rw (strings-more (h .filters) i p a, drop-cons (h .options) i 0 b, add-one i)
-
 -- ---- sums that cannot overflow: lengths by subtraction, sizes cut off above the largest R
 
 -- a length is no more than what is left, and the others add up to the rest
@@ -242,13 +216,6 @@ cap-small n h = rw (leb-yes n most h)
 
 pub cap-large : (n : ℕ) → most < n → cap n ≡ most + 1
 cap-large n h = rw (leb-no n most h)
-
-pub cap-test : (n : ℕ) → leb (cap n) most ≡ leb n most
-cap-test n = go (le-or n most)
-  where
-    go : (n ≤ most) ⊎ (most < n) → leb (cap n) most ≡ leb n most
-    go (inl h) = ap (λ (k : ℕ). leb k most) (cap-small n h)
-    go (inr h) = ap (λ (k : ℕ). leb k most) (cap-large n h) ∙ sym (leb-no n most h)
 
 -- what was cut off stays so, whatever is added
 pub cap-add : (m n : ℕ) → cap (cap m + n) ≡ cap (m + n)

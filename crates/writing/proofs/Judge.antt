@@ -34,12 +34,6 @@ judge-append (t ∷ ts) us = go (t .0) (judge-append ts us)
 text-no : (s : List ℕ) → (Utf8 s → ⊥) → isText s ≡ false
 text-no s = fails-when (isText s) (text-fine s)
 
-pub field-pass : (f : Field) → Sound f → judge (fieldTests f) ≡ got tt
-unfolding judge
-field-pass (raw s) h = rw (leb-yes (length s) 65535 h)
-field-pass (word s) (h, u) = rw (leb-yes (length s) 65535 h, text-fine s .1 u)
-field-pass (filter s o) (h, u, p, q) = rw (leb-yes (length s) 65535 h, text-fine s .1 u, p, q)
-
 pub field-fault : {f : Field} {k : Refusal} → Faulty f k → judge (fieldTests f) ≡ bad k
 unfolding judge
 field-fault (long-raw {s} h) = rw (leb-no (length s) 65535 h)
@@ -49,6 +43,12 @@ field-fault (bad-word {s} h n) = rw (leb-yes (length s) 65535 h, text-no s n)
 field-fault (bad-filter {s} h n) = rw (leb-yes (length s) 65535 h, text-no s n)
 field-fault (bad-rule {s} h u p) = rw (leb-yes (length s) 65535 h, text-fine s .1 u, p)
 field-fault (bad-qos {s} h u p q) = rw (leb-yes (length s) 65535 h, text-fine s .1 u, p, q)
+
+pub field-pass : (f : Field) → Sound f → judge (fieldTests f) ≡ got tt
+unfolding judge
+field-pass (raw s) h = rw (leb-yes (length s) 65535 h)
+field-pass (word s) (h, u) = rw (leb-yes (length s) 65535 h, text-fine s .1 u)
+field-pass (filter s o) (h, u, p, q) = rw (leb-yes (length s) 65535 h, text-fine s .1 u, p, q)
 
 -- the first field, and then the others
 pub fields-more : (f : Field) (fs : List Field) → judge (flat fieldTests (f ∷ fs)) ≡ (judge (fieldTests f) >> judge (flat fieldTests fs))

@@ -7,7 +7,7 @@ use Prim.Native.Nat.{ℕ, zero, suc, _+_, _*_, _/_, _%_, _≤_, _<_}
 use native.Mathlib.Omega.{arith}
 use lib.Dec.{eqb, ltb, ltb→lt, eqb·suc-zero}
 use lib.ListN.{length, length-append}
-use Rattle.grammar.specs.Choice.{pick, or, isIn, lookup, isEmpty}
+use Rattle.grammar.specs.Choice.{pick, isIn, lookup, isEmpty}
 use Rattle.grammar.specs.Gram.{Only, both, sized, is}
 use Rattle.grammar.specs.Number.{byte, Big}
 use Rattle.grammar.specs.Tables.{publishPlace, subscribePlace, ackPlace, reasons, Layout, aPublish, anAck, aSubscribe, aPing, kinds}
@@ -23,11 +23,11 @@ use Rattle.writing.specs.Write.{firsts, firstOf, firstByte, identBytes, 
 use Rattle.writing.specs.Refuse.{InBlock, Belongs, Sound, Small, Accepts}
 use Rattle.writing.specs.Meant.{said, PublishTyped, AckTyped, SubscribeTyped, Typed}
 use Rattle.writing.proofs.Each.{each-head, each-tail, each-append, each-left, each-right, each-flat, each-piece, rows-of, lookup-each}
-use Rattle.writing.proofs.Tests.{and-left, and-right, not-true, all-when, passes-when}
+use Rattle.writing.proofs.Tests.{and-left, and-right, all-when, passes-when}
 use Rattle.writing.proofs.Says.{Says, says-nothing, says-map, says-only, says-then, says-is, says-wide, says-short}
 use Rattle.writing.proofs.Values.{says-bytes, an-u8, an-u16, an-u32, a-number, a-text, a-bytes, RightRow, says-block, one-suits, below-each, lent-suits, pairs-suit, several-suit, says-filters}
 use Rattle.writing.proofs.Sets.{publish-says, ack-says, subscribe-says}
-use Rattle.writing.proofs.Belong.{unnamed-when, unasked-when, nothing-entries}
+use Rattle.writing.proofs.Belong.{unnamed-when, unasked-when, plain-when, nothing-entries}
 use Rattle.writing.proofs.Sizes.{length-body}
 
 -- ---- the kinds that are carried, row by row
@@ -73,7 +73,7 @@ is-in : (P : ℕ → Type 0) (x : ℕ) {l : List ℕ} → Each P l → isIn x l 
 is-in P x nil e = absurd (no-way e)
 is-in P x (_&_ {a = y} {l = l} p ps) e = go (is-in P x ps) (eqb x y) refl e
   where
-    go : (isIn x l ≡ true → P x) → (t : Bool) → eqb x y ≡ t → or t (isIn x l) ≡ true → P x
+    go : (isIn x l ≡ true → P x) → (t : Bool) → eqb x y ≡ t → (t || isIn x l) ≡ true → P x
     go ih true q e′ = rw (eq-of x y q) p
     go ih false q e′ = ih e′
 
@@ -181,9 +181,8 @@ ack-rest : (k : ℕ) (h : AckHanded) (t : AckTyped k h) → Octets (t .reasons) 
     → Says (AckRest (t .reasons)) (h .reason, ackOf (map propOf (entries ackPlace (ackGiven h)))) (pick b [] (h .reason ∷ block ackPlace (ackGiven h)))
 unfolding propsFields block
 ack-rest k h t o w p true e l =
-    let absent : h .block ≡ false = not-true (h .block) (and-right (eqb (h .reason) 0) (not (h .block)) e) in
-    rw (nothing-entries ackPlace (h .block) (ackGiven h) w absent, eq-of (h .reason) 0 (and-left (eqb (h .reason) 0) (not (h .block)) e))
-    (record { spelled = plain; octets = nil })
+    let (success, absent) = plain-when h .0 e in
+    rw (nothing-entries ackPlace (h .block) (ackGiven h) w absent, success) (record { spelled = plain; octets = nil })
 ack-rest k h t o w p false e l =
     let s = says-block ackPlace ackOf (ackGiven h) (ack-rows k h t (each-flat _ ackPlace p)) (block-fits (propsBytes ackPlace (ackGiven h)) (omega arith)) in
     record { spelled = full (t .reason) (s .spelled); octets = is-in Octet (h .reason) o (t .reason) & s .octets }

@@ -1,20 +1,18 @@
 -- What 01 says of the bytes, and the sentence theorem leaves open: first bytes, shortest lengths (`Shortest`), the order of properties,
--- no identifier at QoS 0, bits 6-7 of options, a plain success, empty pings. Assumes nothing.
-use mathlib.Core.Path.{_≡_, refl, ap, _∙_}
-use mathlib.Core.Bool.{Bool, true, false, _||_}
-use mathlib.Core.Option.{Option, some}
-use mathlib.Core.List.{List, [], _∷_, _++_, map, append-nil}
-use Prim.Native.Nat.{ℕ, _+_, _*_, _/_, _%_}
+-- bits 6-7 of options, a plain success, empty pings. Assumes nothing.
+use mathlib.Core.Path.{_≡_, refl, _∙_}
+use mathlib.Core.Bool.{false}
+use mathlib.Core.Option.{Option}
+use mathlib.Core.List.{List, [], _∷_, _++_, map}
+use Prim.Native.Nat.{ℕ, _+_, _*_, _%_}
 use native.Mathlib.Omega.{arith}
-use lib.Dec.{eqb}
 use Rattle.grammar.specs.Choice.{pick}
-use Rattle.grammar.specs.Tables.{Form, u8, u16, u32, number, text, bytes, pair, publishPlace, subscribePlace, ackPlace}
-use Rattle.grammar.specs.Record.{str}
+use Rattle.grammar.specs.Tables.{u8, u16, u32, number, text, bytes, pair, publishPlace, subscribePlace, ackPlace}
 use Rattle.reading.specs.Reader.{got}
 use Rattle.writing.specs.Lists.{flat}
-use Rattle.writing.specs.Handed.{Lent, PublishHanded, SubscribeHanded, AckHanded, publish, ack, subscribe, ping, one, lent, pairs, several, publishGiven, subscribeGiven, ackGiven, strings, tag, filters}
-use Rattle.writing.specs.Spell.{wide, spellStep, spell, short, string, numeral, value, entry, rowBytes, propsBytes, counted, block, filterBytes}
-use Rattle.writing.specs.Size.{identSize, isPlain}
+use Rattle.writing.specs.Handed.{PublishHanded, SubscribeHanded, AckHanded, publish, ack, subscribe, ping, one, lent, pairs, several, publishGiven, subscribeGiven, ackGiven, strings, filters}
+use Rattle.writing.specs.Spell.{wide, spellStep, spell, short, string, rowBytes, propsBytes, counted, block, filterBytes}
+use Rattle.writing.specs.Size.{isPlain}
 use Rattle.writing.specs.Order.{raw, word, propsFields, filterField, fieldsOf}
 use Rattle.writing.specs.Write.{firsts, firstOf, firstByte, identBytes, bodyBytes, frameBytes, writeOf}
 use Rattle.writing.proofs.Verdict.{written}
@@ -44,20 +42,6 @@ subscribe-props h = refl
 pub ack-props : (h : AckHanded) → propsBytes ackPlace (ackGiven h) ≡ rowBytes (31, text) (lent (h .text)) ++ (rowBytes (38, pair) (pairs (h .user)) ++ [])
 unfolding propsBytes ackPlace ackGiven
 ack-props h = refl
-
--- an identifier byte and a number
-pub one-bytes : (i n : ℕ) (f : Form) → rowBytes (i, f) (one (some n)) ≡ i ∷ numeral f n
-unfolding value
-one-bytes i n f = ap (λ (l : List ℕ). i ∷ l) (append-nil (numeral f n))
-
--- an identifier byte and a string, if it is present
-pub lent-bytes : (i : ℕ) (f : Form) (l : Lent) → rowBytes (i, f) (lent l) ≡ pick (l .on) (i ∷ string (l .bytes)) []
-unfolding value
-lent-bytes i f l = go (l .on)
-  where
-    go : (t : Bool) → flat entry (tag (i, f) (pick t (str (l .bytes) ∷ []) [])) ≡ pick t (i ∷ string (l .bytes)) []
-    go true = ap (λ (s : List ℕ). i ∷ s) (append-nil (string (l .bytes)))
-    go false = refl
 
 -- ---- the fields that are tested, in the order in which they are written
 
@@ -118,23 +102,8 @@ pub first-bytes : (firstOf 4 ≡ 0x40) × (firstOf 8 ≡ 0x82) × (firstOf 12 �
 unfolding firstOf firsts
 first-bytes = (refl, refl, refl, refl)
 
--- ---- identifiers and options
-
--- 01, grammar: "QoS 0 writes no identifier"
-pub no-ident : (i : ℕ) → identBytes 0 i ≡ []
-no-ident i = refl
-
--- 01, writing order: "size leaves out a Publish identifier that is 0"
-pub zero-left-out : (q : ℕ) → identSize q 0 ≡ 0
-zero-left-out q = go (eqb q 0)
-  where
-    go : (t : Bool) → _≡_ {A = ℕ} (pick (t || true) 0 2) 0
-    go true = refl
-    go false = refl
+-- ---- options
 
 -- 01, "What must change shape": "bits 6-7 written as 0 and no part of the record"
-pub options-low : (o : ℕ) → o % 64 / 64 ≡ 0
-options-low o = omega arith
-
 pub options-same : (s : List ℕ) (o : ℕ) → filterBytes (s, o) ≡ filterBytes (s, o % 64)
 options-same s o = let e : o % 64 % 64 ≡ o % 64 = omega arith in rw e

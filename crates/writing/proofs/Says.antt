@@ -55,6 +55,14 @@ big-snoc : (n x : ℕ) (b : List ℕ) → bigFrom n (b ++ (x ∷ [])) ≡ bigFro
 big-snoc n x [] = refl
 big-snoc n x (y ∷ b) = big-snoc (n * 256 + y) x b
 
+wide-value : (k n : ℕ) → n < 256 ^ k → bigFrom 0 (wide k n) ≡ n
+unfolding wide
+wide-value zero n h = omega arith
+wide-value (suc k) n h =
+    let p : 256 ^ suc k ≡ 256 ^ k * 256 = pow-suc 256 k in
+    let e = wide-value k (n / 256) (omega arith) in
+    big-snoc 0 (n % 256) (wide k (n / 256)) ∙ omega arith
+
 pub length-wide : (k n : ℕ) → length (wide k n) ≡ k
 unfolding wide
 length-wide zero n = refl
@@ -64,14 +72,6 @@ wide-octets : (k n : ℕ) → Octets (wide k n)
 unfolding wide
 wide-octets zero n = nil
 wide-octets (suc k) n = each-append (wide-octets k (n / 256)) (omega arith & nil)
-
-wide-value : (k n : ℕ) → n < 256 ^ k → bigFrom 0 (wide k n) ≡ n
-unfolding wide
-wide-value zero n h = omega arith
-wide-value (suc k) n h =
-    let p : 256 ^ suc k ≡ 256 ^ k * 256 = pow-suc 256 k in
-    let e = wide-value k (n / 256) (omega arith) in
-    big-snoc 0 (n % 256) (wide k (n / 256)) ∙ omega arith
 
 -- a number of k bytes
 pub says-wide : (k n : ℕ) → n < 256 ^ k → Says (Big k) n (wide k n)
@@ -83,7 +83,7 @@ step-octets n b p true e = let h : n < 256 = omega (arith, ltb→lt n 128 (T-of 
 step-octets n b p false e = let h : n % 128 + 128 < 256 = omega arith in h & p
 
 -- bytes, whatever the number
-pub spell-octets : (k n : ℕ) → Octets (spell k n)
+spell-octets : (k n : ℕ) → Octets (spell k n)
 unfolding spell
 spell-octets zero n = nil
 spell-octets (suc k) n = step-octets n (spell k (n / 128)) (spell-octets k (n / 128)) (ltb n 128) refl

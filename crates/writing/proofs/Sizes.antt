@@ -1,11 +1,11 @@
 -- The size is the number of bytes written: a sum for each way that they are built. Assumes nothing.
 use mathlib.Core.Path.{_≡_, refl, ap, _∙_}
-use mathlib.Core.Bool.{Bool, true, false}
+use mathlib.Core.Bool.{Bool, true, false, _||_}
 use mathlib.Core.Option.{none, some}
 use mathlib.Core.List.{List, [], _∷_}
 use Prim.Native.Nat.{ℕ, suc, _+_, _*_, _/_, _%_, _≤_, _<_}
 use native.Mathlib.Omega.{arith}
-use lib.Dec.{ltb, ltb→lt}
+use lib.Dec.{eqb, ltb, ltb→lt}
 use lib.ListN.{length, take, drop, length-append, length-drop}
 use lib.Seq.{length-take-le}
 use Rattle.grammar.specs.Choice.{pick}
@@ -62,7 +62,7 @@ pub length-string : (s : List ℕ) → length (string s) ≡ 2 + length s
 unfolding string
 length-string s = length-append (wide 2 (length s)) s ∙ ap (λ (k : ℕ). k + length s) (length-wide 2 (length s))
 
-pub length-counted : (b : List ℕ) → length (counted b) ≡ withLength (length b)
+length-counted : (b : List ℕ) → length (counted b) ≡ withLength (length b)
 unfolding counted
 length-counted b = length-append (short (length b)) b ∙ ap (λ (k : ℕ). k + length b) (length-short (length b))
 
@@ -141,11 +141,23 @@ pub length-props : (place : Place) (b : Bool) (g : Givens) → Each (InBlock b g
 unfolding propsBytes propsSize
 length-props place b g rows = length-rows g rows
 
-pub length-block : (place : Place) (b : Bool) (g : Givens) → Each (InBlock b g) place → length (block place g) ≡ withLength (propsSize place g)
+length-block : (place : Place) (b : Bool) (g : Givens) → Each (InBlock b g) place → length (block place g) ≡ withLength (propsSize place g)
 unfolding block
 length-block place b g rows = length-counted (propsBytes place g) ∙ ap withLength (length-props place b g rows)
 
 -- ---- identifiers and filters
+
+-- 01, grammar: "QoS 0 writes no identifier"
+pub no-ident : (i : ℕ) → identBytes 0 i ≡ []
+no-ident i = refl
+
+-- 01, writing order: "size leaves out a Publish identifier that is 0"
+pub zero-left-out : (q : ℕ) → identSize q 0 ≡ 0
+zero-left-out q = go (eqb q 0)
+  where
+    go : (t : Bool) → _≡_ {A = ℕ} (pick (t || true) 0 2) 0
+    go true = refl
+    go false = refl
 
 length-ident : (q i : ℕ) → length (identBytes q i) ≡ identSize q i
 length-ident q i = go (noIdent q i)

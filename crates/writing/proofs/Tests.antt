@@ -4,9 +4,9 @@ use mathlib.Core.Bool.{Bool, true, false, not, _&&_, _||_}
 use mathlib.Core.Logic.{_↔_, _⊎_, inl, inr}
 use mathlib.Core.List.{List, [], _∷_}
 use Prim.Native.Nat.{ℕ, _≤_, _<_}
-use lib.Dec.{eqb, leb, eqb-refl, leb→le, nleb→lt}
+use lib.Dec.{eqb, leb, eqb-refl, leb→le}
 use Rattle.grammar.specs.Choice.{isEmpty}
-use Rattle.reading.proofs.Lists.{no-way, T-true, T-of, eq-of}
+use Rattle.reading.proofs.Lists.{no-way, T-true, T-of, leb-false, eq-of, not-true, nil-of}
 use Rattle.writing.specs.Lists.{Each, nil, _&_, all}
 use Rattle.writing.proofs.Each.{each-head, each-tail}
 
@@ -17,14 +17,6 @@ and-left false b e = e
 pub and-right : (a b : Bool) → (a && b) ≡ true → b ≡ true
 and-right true b e = e
 and-right false b e = absurd (no-way e)
-
-pub not-true : (a : Bool) → not a ≡ true → a ≡ false
-not-true true e = absurd (no-way e)
-not-true false e = refl
-
-nil-of : {A : Type 0} (l : List A) → isEmpty l ≡ true → l ≡ []
-nil-of [] e = refl
-nil-of (a ∷ l) e = absurd (no-way e)
 
 pub and-when : {P Q : Type 0} (a b : Bool) → (a ≡ true) ↔ P → (b ≡ true) ↔ Q → ((a && b) ≡ true) ↔ (P × Q)
 and-when a b p q = (λ e. (p .0 (and-left a b e), q .0 (and-right a b e)), λ t. rw (p .1 (t .0), q .1 (t .1)))
@@ -80,7 +72,7 @@ decide-by true p q = inl (p refl)
 decide-by false p q = inr (q refl)
 
 pub le-or : (m n : ℕ) → (m ≤ n) ⊎ (n < m)
-le-or m n = decide-by (leb m n) (λ e. leb→le m n (T-of (leb m n) e)) (λ e. nleb→lt m n (rw e tt))
+le-or m n = decide-by (leb m n) (λ e. leb→le m n (T-of (leb m n) e)) (leb-false m n)
 
 -- two tests that say the same
 pub same-test : (a b : Bool) → (a ≡ true → b ≡ true) → (b ≡ true → a ≡ true) → a ≡ b

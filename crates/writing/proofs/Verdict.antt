@@ -99,7 +99,7 @@ decide-limit (some m) n = go (le-or n m)
 
 module _ (limit : Option ℕ) (room : ℕ) (h : Handed) where
   -- a row applies, or none does
-  pub decide : Accepts limit room h ⊎ ((k : Refusal) × Refuses limit room h k)
+  decide : Accepts limit room h ⊎ ((k : Refusal) × Refuses limit room h k)
   decide = go (holds-or (belongs h) (belongs-when h)) (decide-fields (fieldsOf h)) (le-or (restIs h) most) (decide-limit limit (sizeIs h)) (fails-or (named h) (unnamed-when h))
       (decide-numbers (numbersOf h)) (fails-or (asked h) (unasked-when h)) (le-or (sizeIs h) room)
     where
@@ -205,13 +205,10 @@ module _ (limit : Option ℕ) (room : ℕ) (h : Handed) where
   unfolding answerOf
   unanswered-when = bad-when (given (sizeIs h)) (sizeIs h) (given-got (sizeIs h)) (given-bad (sizeIs h)) (decide limit room h)
 
--- inputs admit one result only: no two rows are given, and none where the write is accepted
+-- inputs admit one result only: no two rows are given
 module _ (limit : Option ℕ) (room : ℕ) (h : Handed) where
   pub one-refusal : (k k′ : Refusal) → Refuses limit room h k → Refuses limit room h k′ → k ≡ k′
   one-refusal k k′ p p′ = let e : _≡_ {A = Fit (Unit {0})} (bad k) (bad k′) = sym (refuses-bad limit room h k p) ∙ refuses-bad limit room h k′ p′ in cc
-
-  pub not-both : (k : Refusal) → Refuses limit room h k → Accepts limit room h → ⊥
-  not-both k p q = bad-got (sym (refuses-bad limit room h k p) ∙ accepts-got limit room h q)
 
 -- what was accepted, and its bytes
 module _ (limit : Option ℕ) (room : ℕ) (h : Handed) (b : List ℕ) (e : writeOf limit room h ≡ got b) where

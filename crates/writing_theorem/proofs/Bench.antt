@@ -42,7 +42,7 @@ run b ls = record { bytes = b; lengths = ls }
 abbrev a : List ℕ
 a = 0x61 ∷ []
 
--- quality of service, identifier and properties of a Publish with topic a/b and payload hi
+-- a Publish with topic a/b and payload hi, by its quality of service, identifier and properties
 abbrev message : ℕ → ℕ → Bool → Lent → Run → List ℕ → Handed
 message q i b t u ids = publish (record {
   dup = 0;
@@ -61,9 +61,6 @@ message q i b t u ids = publish (record {
   content = no;
   payload = 0x68 ∷ 0x69 ∷ [];
 })
-
-abbrev ab : Handed
-ab = message 0 0 false no (run [] []) []
 
 -- every property of Publish
 abbrev laden : Handed
@@ -85,12 +82,13 @@ laden = publish (record {
   payload = 9 ∷ [];
 })
 
-abbrev long : Handed
-long = publish (record {
+-- topic and payload alone
+abbrev plain : List ℕ → List ℕ → PublishHanded
+plain t b = record {
   dup = 0;
   qos = 0;
   retain = 0;
-  topic = replicate 65536 0x61;
+  topic = t;
   ident = 0;
   block = false;
   format = none;
@@ -101,8 +99,14 @@ long = publish (record {
   user = run [] [];
   subscriptions = [];
   content = no;
-  payload = [];
-})
+  payload = b;
+}
+
+abbrev ab : Handed
+ab = publish (plain (0x61 ∷ 0x2F ∷ 0x62 ∷ []) (0x68 ∷ 0x69 ∷ []))
+
+abbrev long : Handed
+long = publish (plain (replicate 65536 0x61) [])
 
 abbrev wish : Option ℕ → Run → List ℕ → Handed
 wish id fs os = subscribe (record { ident = 1; block = true; subscription = id; user = run [] []; filters = fs; options = os })
@@ -207,23 +211,7 @@ out-right = refl
 -- ---- 17 for R: a payload too long to be counted here one by one
 
 abbrev lengthy : ℕ → PublishHanded
-lengthy n = record {
-  dup = 0;
-  qos = 0;
-  retain = 0;
-  topic = a;
-  ident = 0;
-  block = false;
-  format = none;
-  expiry = none;
-  alias = none;
-  response = no;
-  correlation = no;
-  user = run [] [];
-  subscriptions = [];
-  content = no;
-  payload = replicate n 0;
-}
+lengthy n = plain a (replicate n 0)
 
 lengthy-belongs : (n : ℕ) → belongs (publish (lengthy n)) ≡ true
 unfolding belongs blockBelongs publishPlace publishGiven
