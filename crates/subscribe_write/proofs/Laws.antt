@@ -1,7 +1,6 @@
 -- What is found of a Subscribe, and its bytes. Assumes nothing.
 use mathlib.Core.Path.{_≡_, refl, sym, ap, _∙_}
 use mathlib.Core.Bool.{Bool, true, not, _&&_, and-true}
-use mathlib.Core.Option.{some}
 use mathlib.Core.List.{List, [], _∷_, _++_, map, append-assoc, append-nil}
 use Prim.Native.Nat.{ℕ, _+_, _*_, _≤_, _<_, min}
 use native.Mathlib.Omega.{arith}
@@ -12,7 +11,6 @@ use Rattle.grammar.specs.Choice.{isEmpty}
 use Rattle.grammar.specs.Tables.{number, pair, subscribePlace}
 use Rattle.reading.specs.Refusal.{nr}
 use Rattle.reading.specs.Reader.{Fit, got, bad, guard}
-use Rattle.reading.proofs.Lists.{leb-yes, leb-no}
 use Rattle.writing.specs.Lists.{flat}
 use Rattle.writing.specs.Handed.{SubscribeHanded, subscribe, one, pairs, addsUp, subscribeGiven, filters, filtersBelong, rowBelongs, belongs}
 use Rattle.writing.specs.Size.{most, withLength, givenSize, propsSize, restIs, cap}
@@ -23,23 +21,13 @@ use Rattle.writing.proofs.ForCode.{judgeAll, subscribe-belongs, subscribe-tests
 use Rattle.writing.proofs.Pins.{subscribe-props, first-bytes}
 use Rattle.numbers.proofs.Laws.Put.{length-wide}
 use Rattle.rows.specs.Given.{filtersOf}
-use Rattle.rows.specs.Tested.{first}
-use Rattle.rows.proofs.Laws.Size.{cap-left, cap-both, cap-last}
+use Rattle.row_tests.specs.Tested.{first}
+use Rattle.row_sizes.proofs.Laws.{cap-left, cap-both, cap-last}
 use Rattle.row_puts.specs.Put.{Put}
 use Rattle.row_puts.specs.Behind.{Behind}
 use Rattle.row_puts.proofs.Laws.{store-next, put-next, next-last, next-then}
 use Rattle.settle.specs.Found.{earlyOf, lateOf}
 use Rattle.settle.proofs.Laws.{early-fields}
-
--- ---- 17 for the identifier
-
-pub number-large : (n : ℕ) → most < n → bad (nr 17 []) ≡ judge (map small (orNone (some n)))
-unfolding judge
-number-large n h = rw (leb-no n most h)
-
-pub number-fine : (n : ℕ) → n ≤ most → got tt ≡ judge (map small (orNone (some n)))
-unfolding judge
-number-fine n h = rw (leb-yes n most h)
 
 -- ---- 13: there is a filter exactly if there are a length and an options byte
 
