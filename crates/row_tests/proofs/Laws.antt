@@ -2,12 +2,11 @@
 use mathlib.Core.Path.{_≡_, refl, sym, ap, _∙_}
 use mathlib.Core.Bool.{true, false}
 use mathlib.Core.List.{List, [], _∷_, map, append-nil}
-use Prim.Native.Nat.{ℕ, suc, _+_, _/_, _%_, _≤_, _<_}
+use Prim.Native.Nat.{ℕ, suc, _+_, _≤_, _<_}
 use native.Mathlib.Omega.{arith}
 use native.Mathlib.Numerals.{add-one}
 use lib.ListN.{length, take, drop, getD, length-take, length-drop, drop-of-length-le}
 use lib.Seq.{drop-cons}
-use Rattle.grammar.specs.Sentence.{qosFine, ruleFine}
 use Rattle.reading.specs.Refusal.{Refusal, nr}
 use Rattle.reading.specs.Reader.{Fit, got, bad, _>>_}
 use Rattle.reading.specs.Read.{isText}
@@ -15,8 +14,7 @@ use Rattle.reading.proofs.Lists.{leb-yes, leb-no}
 use Rattle.reading.proofs.Reading.{bad-got}
 use Rattle.writing.specs.Lists.{flat, pieces}
 use Rattle.writing.specs.Size.{most}
-use Rattle.writing.specs.Order.{Test, judge, Field, raw, word, filter, reads, fieldTests, small}
-use Rattle.writing.proofs.Tests.{eq-when, eq-not}
+use Rattle.writing.specs.Order.{judge, Field, raw, word, reads, fieldTests, small}
 use Rattle.writing.proofs.Judge.{judge-append, fields-more}
 use Rattle.utf8.specs.Text.{allAscii}
 use Rattle.utf8.proofs.Laws.Text.{and-both, ascii-split, ascii-text}
@@ -47,34 +45,6 @@ module _ (s : List ℕ) where
     pub word-broken : isText s ≡ false → bad (nr 9 []) ≡ judge (fieldTests (word s))
     unfolding judge
     word-broken e = sym (word-tests ∙ rw (sym h, e))
-
--- the tests after a filter's text
-abbrev optionsTests : ℕ → List Test
-optionsTests o = (ruleFine o, nr 14 (3 ∷ [])) ∷ (qosFine o, nr 11 (3 ∷ [])) ∷ []
-
-module _ (s : List ℕ) (o : ℕ) where
-  filter-tests : judge (fieldTests (filter s o)) ≡ (judge (fieldTests (word s)) >> judge (optionsTests o))
-  filter-tests = judge-append (fieldTests (word s)) (optionsTests o)
-
-  pub filter-bad : (k : Refusal) → bad k ≡ judge (fieldTests (word s)) → bad k ≡ judge (fieldTests (filter s o))
-  filter-bad k e = sym (filter-tests ∙ rw (sym e))
-
-  module _ (e : got tt ≡ judge (fieldTests (word s))) where
-    then-options : judge (fieldTests (filter s o)) ≡ judge (optionsTests o)
-    then-options = filter-tests ∙ rw (sym e)
-
-    pub filter-rule : o / 16 % 4 ≡ 3 → bad (nr 14 (3 ∷ [])) ≡ judge (fieldTests (filter s o))
-    unfolding judge
-    filter-rule h = sym (then-options ∙ rw (eq-when (o / 16 % 4) 3 .1 h))
-
-    module _ (n : o / 16 % 4 ≡ 3 → ⊥) where
-      pub filter-qos : o % 4 ≡ 3 → bad (nr 11 (3 ∷ [])) ≡ judge (fieldTests (filter s o))
-      unfolding judge
-      filter-qos h = sym (then-options ∙ rw (eq-not (o / 16 % 4) 3 .1 n, eq-when (o % 4) 3 .1 h))
-
-      pub filter-fine : (o % 4 ≡ 3 → ⊥) → got tt ≡ judge (fieldTests (filter s o))
-      unfolding judge
-      filter-fine m = sym (then-options ∙ rw (eq-not (o / 16 % 4) 3 .1 n, eq-not (o % 4) 3 .1 m))
 
 -- a field by itself
 pub field-alone : (f : Field) → judge (fieldTests f) ≡ judge (flat fieldTests (f ∷ []))

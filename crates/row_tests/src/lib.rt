@@ -13,8 +13,8 @@ ghost use mathlib.Core.List.{map};
 ghost use Rattle.grammar.specs.Tables.{text, bytes as bytesForm};
 ghost use Rattle.writing.specs.Lists.{flat};
 ghost use Rattle.writing.specs.Handed.{strings};
-ghost use Rattle.writing.specs.Order.{judge, raw, word, filter, fieldTests, givenFields, filterField, small, orNone};
-ghost use Rattle.rows.specs.Given.{numberU32, givenLent, run as runOf, filtersOf};
+ghost use Rattle.writing.specs.Order.{judge, raw, word, fieldTests, givenFields, small, orNone};
+ghost use Rattle.rows.specs.Given.{numberU32, givenLent, run as runOf};
 ghost use Rattle.row_tests.specs.Tested.{toldTested, first};
 
 pub enum Tested {
@@ -53,24 +53,6 @@ pub fn test_word(s: &[u8]) -> Tested
                 return Tested::Fine;
             }
             Tested::Refused(Error::TopicNotUtf8)
-        }
-    }
-}
-
-// A filter's text, then its options: 14, then 11.
-pub fn test_filter(s: &[u8], options: u8) -> Tested
-    ensures { λ r. ⌜ toldTested r ≡ judge (fieldTests (filter (now (s .entry)) options)) ⌝ }
-{
-    match test_word(s) {
-        Tested::Refused(e) => Tested::Refused(e),
-        Tested::Fine => {
-            if options / 16 % 4 == 3 {
-                return Tested::Refused(Error::InvalidRetainForwardRule(3));
-            }
-            if options % 4 == 3 {
-                return Tested::Refused(Error::InvalidQoS(3));
-            }
-            Tested::Fine
         }
     }
 }
@@ -123,25 +105,6 @@ pub fn test_words(bytes: &[u8], lengths: &[usize]) -> Tested
         }
     }
     test_each(bytes, lengths)
-}
-
-// Filters one after the other, as far as there are both lengths and options.
-pub fn test_filters(bytes: &[u8], lengths: &[usize], options: &[u8]) -> Tested
-    ensures { λ r. ⌜ toldTested r ≡ judge (flat fieldTests (map filterField (filtersOf (now (bytes .entry)) (now (lengths .entry)) (now (options .entry))))) ⌝ }
-{
-    let count = run::after(options.len(), 0, lengths.len());
-    let mut at: usize = 0;
-    let mut i: usize = 0;
-    while i < count {
-        let n = lengths[i];
-        match test_filter(run::piece(bytes, at, n), options[i]) {
-            Tested::Refused(e) => return Tested::Refused(e),
-            Tested::Fine => {}
-        }
-        at = run::after(bytes.len(), at, n);
-        i = i + 1;
-    }
-    Tested::Fine
 }
 
 // A subscription identifier, if it is given: 17.

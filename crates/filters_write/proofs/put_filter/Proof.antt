@@ -1,9 +1,9 @@
--- `row_puts::put_filter` is right since the string and the options byte behind it are one put. Assumes nothing.
+-- `filters_write::put_filter` is right since the string and the options byte behind it are one put. Assumes nothing.
 use borrow.Author.Needs.{needs}
 use denote.Ref.{now}
-use Rattle.row_puts.proofs.Laws.{put-filter}
-use Rattle.row_puts.proofs.put_filter.Statement.{statement}
-use Rattle.row_puts.proofs.put_filter.Tie as tie
+use Rattle.filters_write.proofs.Laws.{put-filter}
+use Rattle.filters_write.proofs.put_filter.Statement.{statement}
+use Rattle.filters_write.proofs.put_filter.Tie as tie
 
 put-string-requires : tie.Need-put-string-requires
 put-string-requires c κs = search needs

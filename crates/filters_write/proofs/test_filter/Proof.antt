@@ -1,11 +1,11 @@
--- `row_tests::test_filter` is right since the text is tested first, then the forward rule, then QoS. Assumes nothing.
+-- `filters_write::test_filter` is right since the text is tested first, then the forward rule, then QoS. Assumes nothing.
 use mathlib.Core.Path.{ap, sym, _∙_}
 use borrow.Author.Needs.{needs}
 use denote.Ref.{now}
 use Rattle.row_tests.specs.Tested.{toldTested}
-use Rattle.row_tests.proofs.Laws.{filter-bad, filter-rule, filter-qos, filter-fine}
-use Rattle.row_tests.proofs.test_filter.Statement.{statement}
-use Rattle.row_tests.proofs.test_filter.Tie as tie
+use Rattle.filters_write.proofs.Laws.{filter-bad, filter-rule, filter-qos, filter-fine}
+use Rattle.filters_write.proofs.test_filter.Statement.{statement}
+use Rattle.filters_write.proofs.test_filter.Tie as tie
 
 test-word-requires : tie.Need-test-word-requires
 test-word-requires c κs = search needs

@@ -1,4 +1,4 @@
--- `row_puts::put_filters` is right since after each turn the filters from the i-th on, their texts at the place `from` of the run, are left to put. Assumes nothing.
+-- `filters_write::put_filters` is right since after each turn the filters from the i-th on, their texts at the place `from` of the run, are left to put. Assumes nothing.
 use mathlib.Core.Path.{ap, sym, _∙_}
 use Prim.Native.Nat.{_+_, _*_, _-_, _≤_}
 use native.Mathlib.Omega.{arith}
@@ -9,11 +9,13 @@ use Rattle.writing.specs.Lists.{flat, beside}
 use Rattle.writing.specs.Handed.{strings}
 use Rattle.writing.specs.Spell.{filterBytes}
 use Rattle.writing.proofs.ForCode.{runFrom}
-use Rattle.rows.specs.Given.{run, filtersOf}
-use Rattle.rows.proofs.Laws.Run.{piece-ends, piece-within, filters-cut, filters-done}
-use Rattle.row_puts.proofs.Laws.{Putting, none-put, put-more, all-put, filter-count}
-use Rattle.row_puts.proofs.put_filters.Statement.{statement}
-use Rattle.row_puts.proofs.put_filters.Tie as tie
+use Rattle.rows.specs.Given.{run}
+use Rattle.rows.proofs.Laws.Run.{piece-ends, piece-within}
+use Rattle.row_puts.proofs.Laws.{Putting, none-put, put-more, all-put}
+use Rattle.filters_write.specs.Filters.{filtersOf}
+use Rattle.filters_write.proofs.Laws.{filters-cut, filters-done, filter-count}
+use Rattle.filters_write.proofs.put_filters.Statement.{statement}
+use Rattle.filters_write.proofs.put_filters.Tie as tie
 
 abbrev Inv-loop : tie.InvT-loop
 Inv-loop out₀ at bytes lengths options count n₀ from₀ i₀ out n from i =
@@ -23,8 +25,8 @@ Inv-loop out₀ at bytes lengths options count n₀ from₀ i₀ out n from i =
 abbrev μ-loop : tie.MeasureT-loop
 μ-loop out₀ at bytes lengths options count n₀ from₀ i₀ out n from i = count - i
 
-after-requires : tie.Need-after-requires Inv-loop μ-loop
-after-requires c κs = search needs
+how-many-requires : tie.Need-how-many-requires Inv-loop μ-loop
+how-many-requires c κs = search needs
 
 loop-holds : tie.Need-loop-holds Inv-loop μ-loop
 loop-holds c = (none-put _ _ _, omega arith, omega arith)
@@ -35,8 +37,8 @@ mul-k c = omega arith
 shared-slice-read-k : tie.Need-shared-slice-read-k Inv-loop μ-loop
 shared-slice-read-k c = omega arith
 
-after-requires-2 : tie.Need-after-requires-2 Inv-loop μ-loop
-after-requires-2 c κs = search needs
+after-requires : tie.Need-after-requires Inv-loop μ-loop
+after-requires c κs = search needs
 
 piece-requires : tie.Need-piece-requires Inv-loop μ-loop
 piece-requires c κs = search needs
@@ -53,10 +55,10 @@ add-n c =
     let l = c .before .before .before .before .before .before .before .before .before .loop in
     let k = filter-count _ _ _ _ _ _ (c .before .before .put-filter .ensures) in
     let w = piece-within (now (a .bytes)) (l .from) (getD (now (a .lengths)) (l .i) 0) (l .inv .2) in
-    omega (arith, k, w, ap length (c .before .before .before .before .piece .ensures), l .inv .1, c .before .before .before .before .before .before .before .before .before .before .after .ensures, c .before .before .before .before .before .before .before .before .loop-test .taken)
+    omega (arith, k, w, ap length (c .before .before .before .before .piece .ensures), l .inv .1, c .before .before .before .before .before .before .before .before .before .before .how-many .ensures, c .before .before .before .before .before .before .before .before .loop-test .taken)
 
-after-requires-3 : tie.Need-after-requires-3 Inv-loop μ-loop
-after-requires-3 c κs = search needs
+after-requires-2 : tie.Need-after-requires-2 Inv-loop μ-loop
+after-requires-2 c κs = search needs
 
 add-i : tie.Need-add-i Inv-loop μ-loop
 add-i c = omega arith
@@ -69,9 +71,9 @@ loop-again c =
     let a = c .before .before .before .before .before .before .before .before .before .before .before .before .before .before .before .before .args in
     let l = c .before .before .before .before .before .before .before .before .before .before .loop in
     let k = filter-count _ _ _ _ _ _ (c .before .before .before .put-filter .ensures) in
-    let w = piece-ends (now (a .bytes)) (l .from) _ (l .inv .2) _ (c .after3 .ensures) in
-    let e = ap (flat filterBytes) (filters-cut (run (now (a .bytes)) (now (a .lengths))) (l .i) (l .from) _ (c .after3 .ensures) (omega (arith, c .before .before .before .before .before .before .before .before .before .before .before .after .ensures, c .before .before .before .before .before .before .before .before .before .loop-test .taken)) (now (a .options)) (omega (arith, c .before .before .before .before .before .before .before .before .before .before .before .after .ensures, c .before .before .before .before .before .before .before .before .before .loop-test .taken))) in
-    (put-more (l .inv .0) _ _ (e ∙ rw (sym (c .before .before .before .before .before .piece .ensures))) _ (c .before .before .before .before .before .before .before .after2 .ensures) _ _ (c .before .before .before .put-filter .ensures), omega (arith, k, w, ap length (c .before .before .before .before .before .piece .ensures), l .inv .1), omega (arith, c .after3 .ensures))
+    let w = piece-ends (now (a .bytes)) (l .from) _ (l .inv .2) _ (c .after2 .ensures) in
+    let e = ap (flat filterBytes) (filters-cut (run (now (a .bytes)) (now (a .lengths))) (l .i) (l .from) _ (c .after2 .ensures) (now (a .options)) (omega (arith, c .before .before .before .before .before .before .before .before .before .before .before .how-many .ensures, c .before .before .before .before .before .before .before .before .before .loop-test .taken))) in
+    (put-more (l .inv .0) _ _ (e ∙ rw (sym (c .before .before .before .before .before .piece .ensures))) _ (c .before .before .before .before .before .before .before .after .ensures) _ _ (c .before .before .before .put-filter .ensures), omega (arith, k, w, ap length (c .before .before .before .before .before .piece .ensures), l .inv .1), omega (arith, c .after2 .ensures))
 
 same-length : tie.Need-same-length Inv-loop μ-loop
 same-length c = c .before .loop .inv .0 .same
@@ -88,16 +90,16 @@ put-filters-spec =
     (tie.spec
     Inv-loop
     μ-loop
-    after-requires
+    how-many-requires
     loop-holds
     mul-k
     shared-slice-read-k
-    after-requires-2
+    after-requires
     piece-requires
     shared-slice-read-put-filter
     put-filter-requires
     add-n
-    after-requires-3
+    after-requires-2
     add-i
     loop-less
     loop-again

@@ -1,8 +1,8 @@
--- `subscribe_write::filters_belong` is right since both tests are made. Assumes nothing.
+-- `filters_write::filters_belong` is right since both tests are made. Assumes nothing.
 use mathlib.Core.Path.{_∙_}
 use borrow.Author.Needs.{needs}
-use Rattle.subscribe_write.proofs.filters_belong.Statement.{statement}
-use Rattle.subscribe_write.proofs.filters_belong.Tie as tie
+use Rattle.filters_write.proofs.filters_belong.Statement.{statement}
+use Rattle.filters_write.proofs.filters_belong.Tie as tie
 
 adds-up-requires : tie.Need-adds-up-requires
 adds-up-requires c κs = search needs

@@ -1,4 +1,4 @@
--- `row_tests::test_filters` is right since the filters from the i-th on, their texts at the place `at` of the run, decide. Assumes nothing.
+-- `filters_write::test_filters` is right since the filters from the i-th on, their texts at the place `at` of the run, decide. Assumes nothing.
 use mathlib.Core.Path.{refl, ap, sym, _∙_}
 use mathlib.Core.List.{List, map}
 use Prim.Native.Nat.{ℕ, _-_}
@@ -10,12 +10,13 @@ use Rattle.writing.specs.Lists.{beside}
 use Rattle.writing.specs.Handed.{strings}
 use Rattle.writing.specs.Order.{judge, filter, fieldTests, filterField}
 use Rattle.writing.proofs.ForCode.{runFrom}
-use Rattle.rows.specs.Given.{run, filtersOf}
+use Rattle.rows.specs.Given.{run}
 use Rattle.row_tests.specs.Tested.{toldTested}
-use Rattle.rows.proofs.Laws.Run.{filters-cut, filters-done}
 use Rattle.row_tests.proofs.Laws.{Deciding, field-refused, field-passed, fields-done}
-use Rattle.row_tests.proofs.test_filters.Statement.{statement}
-use Rattle.row_tests.proofs.test_filters.Tie as tie
+use Rattle.filters_write.specs.Filters.{filtersOf}
+use Rattle.filters_write.proofs.Laws.{filters-cut, filters-done}
+use Rattle.filters_write.proofs.test_filters.Statement.{statement}
+use Rattle.filters_write.proofs.test_filters.Tie as tie
 
 abbrev Inv-loop : tie.InvT-loop
 Inv-loop bytes lengths options count at₀ i₀ at i = Deciding (map filterField (filtersOf bytes lengths options)) (map filterField (beside (strings (runFrom (run bytes lengths) i at)) (drop i options)))
@@ -23,8 +24,8 @@ Inv-loop bytes lengths options count at₀ i₀ at i = Deciding (map filterField
 abbrev μ-loop : tie.MeasureT-loop
 μ-loop bytes lengths options count at₀ i₀ at i = count - i
 
-after-requires : tie.Need-after-requires Inv-loop μ-loop
-after-requires c κs = search needs
+how-many-requires : tie.Need-how-many-requires Inv-loop μ-loop
+how-many-requires c κs = search needs
 
 loop-holds : tie.Need-loop-holds Inv-loop μ-loop
 loop-holds c = record { same = refl }
@@ -52,13 +53,13 @@ returns c =
     let a = c .before .before .before .before .before .before .before .before .before .before .before .before .before .args in
     let l = c .before .before .before .before .before .before .before .before .loop in
     let w = sym (ap toldTested (c .before .e .given .1)) ∙ c .before .before .before .test-filter .ensures ∙ ap (λ (s : List ℕ). judge (fieldTests (filter s (getD (now (a .options)) (l .i) 0)))) (c .before .before .before .before .before .piece .ensures) in
-    field-refused (l .inv) _ _ (ap (map filterField) (filters-cut (run (now (a .bytes)) (now (a .lengths))) (l .i) (l .at) _ refl (omega arith) (now (a .options)) (omega arith))) _ w
+    field-refused (l .inv) _ _ (ap (map filterField) (filters-cut (run (now (a .bytes)) (now (a .lengths))) (l .i) (l .at) _ refl (now (a .options)) (omega arith))) _ w
 
 enum-told : tie.Need-enum-told Inv-loop μ-loop
 enum-told c = search needs
 
-after-requires-2 : tie.Need-after-requires-2 Inv-loop μ-loop
-after-requires-2 c κs = search needs
+after-requires : tie.Need-after-requires Inv-loop μ-loop
+after-requires c κs = search needs
 
 add-i : tie.Need-add-i Inv-loop μ-loop
 add-i c = omega arith
@@ -71,7 +72,7 @@ loop-again c =
     let a = c .before .before .before .before .before .before .before .before .before .before .before .before .before .args in
     let l = c .before .before .before .before .before .before .before .before .loop in
     let w = sym (ap toldTested (c .before .enum-told .given .1)) ∙ c .before .before .before .test-filter .ensures ∙ ap (λ (s : List ℕ). judge (fieldTests (filter s (getD (now (a .options)) (l .i) 0)))) (c .before .before .before .before .before .piece .ensures) in
-    field-passed (l .inv) _ _ (ap (map filterField) (filters-cut (run (now (a .bytes)) (now (a .lengths))) (l .i) (l .at) _ (c .after2 .ensures) (omega arith) (now (a .options)) (omega arith))) w
+    field-passed (l .inv) _ _ (ap (map filterField) (filters-cut (run (now (a .bytes)) (now (a .lengths))) (l .i) (l .at) _ (c .after .ensures) (now (a .options)) (omega arith))) w
 
 returns-2 : tie.Need-returns-2 Inv-loop μ-loop
 returns-2 c =
@@ -85,7 +86,7 @@ test-filters-spec =
     (tie.spec
     Inv-loop
     μ-loop
-    after-requires
+    how-many-requires
     loop-holds
     mul-n
     shared-slice-read-n
@@ -95,7 +96,7 @@ test-filters-spec =
     enum-known-e
     returns
     enum-told
-    after-requires-2
+    after-requires
     add-i
     loop-less
     loop-again
