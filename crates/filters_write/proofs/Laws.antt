@@ -28,7 +28,7 @@ use Rattle.row_puts.specs.Put.{Put}
 use Rattle.row_puts.proofs.Laws.{sets-next}
 use Rattle.filters_write.specs.Filters.{filtersOf}
 
--- ---- the filter at index i, its text at place p; the rest of the run is from place q on
+-- ---- the i-th filter, its text at index p of the run; the rest of the run is from index q on
 
 pub filters-cut : (r : Run) (i p q : ℕ) → q ≡ min (p + getD (r .lengths) i 0) (length (r .bytes)) → (os : List ℕ) → i < min (length (r .lengths)) (length os)
     → beside (strings (runFrom r i p)) (drop i os) ≡ (stringAt r i p, getD os i 0) ∷ beside (strings (runFrom r (i + 1) q)) (drop (i + 1) os)

@@ -139,7 +139,7 @@ fn put(out: &mut [u8], m: PubAckHead, reason_string: &[u8], user: &[u8], user_le
     }
 }
 
-// The frame from place 0 on, and its size; a refused write leaves the output as it stood.
+// The frame from index 0 on, and its size; a refused write leaves the output as it stood.
 pub fn write(
     m: PubAckHead,
     reason_string: &[u8],

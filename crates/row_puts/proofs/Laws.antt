@@ -1,4 +1,4 @@
--- Puts one behind the other: what is put behind bytes that were put is one put of both, also where the place behind them is past the end.
+-- Puts one behind the other: what is put behind bytes that were put is one put of both, also where the index behind them is past the end.
 -- Assumes nothing.
 use mathlib.Core.Path.{_≡_, refl, sym, ap, _∙_}
 use mathlib.Core.Bool.{true}
@@ -22,7 +22,7 @@ use Rattle.rows.proofs.Laws.Run.{strings-cut}
 use Rattle.row_puts.specs.Put.{Put}
 use Rattle.row_puts.specs.Behind.{Behind}
 
--- a place past the end is as good as the end
+-- an index past the end is as good as the end
 pub sets-min : (l xs : List ℕ) (k : ℕ) → sets l (min k (length l)) xs ≡ sets l k xs
 sets-min l xs k = go (le-or k (length l))
   where
@@ -37,7 +37,7 @@ module _ (l l₁ l₂ xs ys : List ℕ) (at m : ℕ) (e : l₁ ≡ sets l at xs)
   pub sets-next : l₂ ≡ sets l at (xs ++ ys)
   sets-next = f ∙ rw (n, sets-min l₁ ys (at + length xs), e, sets-append xs ys l at)
 
--- stored, or put, and the place behind it
+-- stored, or put, and the index behind it
 pub store-next : (xs : List ℕ) {l l₁ : List ℕ} {at n m : ℕ} → l₁ ≡ sets l at xs → n ≡ length xs → m ≡ min (at + n) (length l₁) → Behind l at xs l₁ m
 store-next xs e f g = record { stores = e; place = g ∙ rw f }
 

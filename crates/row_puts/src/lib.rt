@@ -18,7 +18,7 @@ ghost use Rattle.writing.specs.Spell.{short, string, rowBytes};
 ghost use Rattle.rows.specs.Given.{givenU8, givenU16, givenU32, givenLent, givenPairs};
 ghost use Rattle.row_puts.specs.Put.{Put};
 
-// An identifier byte; gives the place after it.
+// An identifier byte; gives the index after it.
 fn put_id(out: &mut [u8], at: usize, id: u8) -> usize
     ensures { λ r. ⌜ (now (out .exit) ≡ sets (now (out .entry)) at (id ∷ [])) × (r ≡ min (at + 1) (length (now (out .exit)))) ⌝ }
 {

@@ -133,7 +133,7 @@ fn late(m: SubscribeHead, filter_lengths: &[usize], options: &[u8]) -> Tested
     )
 }
 
-// L and the properties; gives the place behind them.
+// L and the properties; gives the index behind them.
 fn put_block(
     out: &mut [u8],
     at: usize,
@@ -174,7 +174,7 @@ fn put(
     filters_write::put_filters(&mut *out, third, filters, filter_lengths, options);
 }
 
-// The frame from place 0 on, and its size; a refused write leaves the output as it stood.
+// The frame from index 0 on, and its size; a refused write leaves the output as it stood.
 pub fn write(
     m: SubscribeHead,
     user: &[u8],

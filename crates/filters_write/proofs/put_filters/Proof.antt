@@ -1,4 +1,4 @@
--- `filters_write::put_filters` is right since after each turn the filters from the i-th on, their texts at the place `from` of the run, are left to put. Assumes nothing.
+-- `filters_write::put_filters` is right since after each turn the filters from the i-th on, their texts at the index `from` of the run, are left to put. Assumes nothing.
 use mathlib.Core.Path.{ap, sym, _∙_}
 use Prim.Native.Nat.{_+_, _*_, _-_, _≤_}
 use native.Mathlib.Omega.{arith}

@@ -1,4 +1,4 @@
--- A run of bytes cut by lengths: the string at an index and the rest of the run, for every loop over a run. A place past the end is the
+-- A run of bytes cut by lengths: the i-th string and the rest of the run, for every loop over a run. An index past the end is the
 -- end. Assumes nothing.
 use mathlib.Core.Path.{_≡_, _∙_}
 use mathlib.Core.Logic.{_⊎_, inl, inr}
@@ -11,7 +11,7 @@ use Rattle.writing.specs.Handed.{Run, strings}
 use Rattle.writing.proofs.Tests.{le-or}
 use Rattle.writing.proofs.ForCode.{runFrom, stringAt, strings-more}
 
--- ---- places
+-- ---- indexes
 
 drop-min : (k : ℕ) (l : List ℕ) → drop (min k (length l)) l ≡ drop k l
 drop-min k l = go (le-or k (length l))
@@ -38,7 +38,7 @@ module _ (s : List ℕ) (at n : ℕ) where
     pub piece-within : at + length (take n (drop at s)) ≤ length s
     piece-within = omega (arith, length-take n (drop at s), length-drop at s)
 
--- ---- the string at index i and place p; the rest of the run is from place q on
+-- ---- the i-th string, at index p of the run; the rest of the run is from index q on
 
 module _ (r : Run) (i p q : ℕ) (e : q ≡ min (p + getD (r .lengths) i 0) (length (r .bytes))) (h : i < length (r .lengths)) where
   pub strings-cut : strings (runFrom r i p) ≡ stringAt r i p ∷ strings (runFrom r (i + 1) q)
