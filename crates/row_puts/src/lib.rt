@@ -1,5 +1,5 @@
-// The bytes of a row, after `write` of the properties in publish.rs, subscribe.rs and puback.rs, and of filters: each function puts them
-// at an index of an output and gives how many they are. What would lie past the end is not stored.
+// The bytes of a row, after `write` of the properties in publish.rs, subscribe.rs and puback.rs: each function puts them at an index of
+// an output and gives how many they are. What would lie past the end is not stored.
 use numbers::fixed;
 use numbers::length::put_length;
 use records::span::MaybeU8;

@@ -1,5 +1,5 @@
-// The tests of fields as they are written (01, writing order): 18, and 9 for text; 14, then 11 after a filter's text; 17 for identifiers.
-// The crate makes none of them before it writes.
+// The tests of fields as they are written (01, writing order): 18, and 9 for text; 17 for identifiers. Those of filters are in
+// `filters_write`. The crate makes none of them before it writes.
 use records::error::Error;
 use records::span::MaybeU32;
 use row_sizes::MOST;
