@@ -8,8 +8,8 @@ use Rattle.records.specs.declared.span.MaybeU8.{MaybeU8}
 use Rattle.records.specs.declared.span.MaybeU16.{MaybeU16}
 use Rattle.records.specs.declared.span.MaybeU32.{MaybeU32}
 use Rattle.rows.specs.Given.{numberU8, numberU16, numberU32}
-use Rattle.rows.specs.Tested.{toldTested}
-use Rattle.rows.specs.declared.test.Tested.{Tested}
+use Rattle.row_tests.specs.Tested.{toldTested}
+use Rattle.row_tests.specs.declared.Tested.{Tested}
 use Rattle.one_result.specs.OneResult.{OneResult}
 use Rattle.one_result.proofs.Laws.{one-by}
 

@@ -2,7 +2,7 @@
 use records::answer::Limit;
 use records::answer::Sized;
 use records::answer::Written;
-use rows::test::Tested;
+use row_tests::Tested;
 ghost use mathlib.Core.Path.{_≡_};
 ghost use Prim.Native.Nat.{ℕ};
 ghost use Rattle.writing.specs.Handed.{ping};

@@ -21,8 +21,8 @@ use Rattle.writing.proofs.Pins.{ack-props, first-bytes}
 use Rattle.records.specs.declared.puback_record.PubAckReason.{PubAckReason}
 use Rattle.records.specs.Told.{toldReason}
 use Rattle.numbers.proofs.Laws.Put.{length-wide, wide-one}
-use Rattle.rows.specs.Tested.{first}
-use Rattle.rows.proofs.Laws.Size.{cap-left, cap-last}
+use Rattle.row_tests.specs.Tested.{first}
+use Rattle.row_sizes.proofs.Laws.{cap-left, cap-last}
 use Rattle.row_puts.specs.Put.{Put}
 use Rattle.row_puts.proofs.Laws.{store-next, put-next, next-last}
 use Rattle.settle.specs.Found.{earlyOf, lateOf}

@@ -8,11 +8,9 @@ use records::answer::Written;
 use records::error::Error;
 use records::puback_record::PubAckReason;
 use records::puback_record::reason_code;
+use row_tests::Tested;
 use rows::belong;
 use rows::run;
-use rows::size;
-use rows::test;
-use rows::test::Tested;
 ghost use mathlib.Core.Path.{_≡_};
 ghost use mathlib.Core.Bool.{true};
 ghost use mathlib.Core.List.{[], _∷_, _++_};
@@ -25,7 +23,7 @@ ghost use Rattle.writing.specs.Size.{most, propsSize, isPlain, restIs, cap};
 ghost use Rattle.writing.specs.Write.{frameBytes, sizeOf, Written as WrittenOf};
 ghost use Rattle.records.specs.Told.{limitOf, toldReason};
 ghost use Rattle.records.specs.Answered.{toldSized, toldWritten};
-ghost use Rattle.rows.specs.Tested.{toldTested};
+ghost use Rattle.row_tests.specs.Tested.{toldTested};
 ghost use Rattle.settle.specs.Found.{earlyOf};
 ghost use Rattle.puback_write.specs.Handed.{handed};
 
@@ -53,9 +51,9 @@ fn belongs(m: PubAckHead, reason_string: &[u8], user: &[u8], user_lengths: &[usi
 fn block_length(m: PubAckHead, reason_string: &[u8], user: &[u8], user_lengths: &[usize]) -> usize
     ensures { λ r. ⌜ r ≡ cap (propsSize ackPlace (ackGiven (handed m (now («reason_string» .entry)) (now (user .entry)) (now («user_lengths» .entry))))) ⌝ }
 {
-    size::add(
-        size::lent_size(m.reason_string, reason_string),
-        size::pairs_size(user, user_lengths),
+    row_sizes::add(
+        row_sizes::lent_size(m.reason_string, reason_string),
+        row_sizes::pairs_size(user, user_lengths),
     )
 }
 
@@ -76,8 +74,8 @@ fn rest(m: PubAckHead, reason_string: &[u8], user: &[u8], user_lengths: &[usize]
     if is_plain(m) {
         return 2;
     }
-    size::add(
-        size::with_length(block_length(m, reason_string, user, user_lengths)),
+    row_sizes::add(
+        row_sizes::with_length(block_length(m, reason_string, user, user_lengths)),
         3,
     )
 }
@@ -99,9 +97,9 @@ fn early(m: PubAckHead, reason_string: &[u8], user: &[u8], user_lengths: &[usize
     if !belongs(m, reason_string, user, user_lengths) {
         return Tested::Refused(Error::ListMismatch);
     }
-    test::then(
-        test::test_text(m.reason_string, reason_string),
-        test::test_words(user, user_lengths),
+    row_tests::then(
+        row_tests::test_text(m.reason_string, reason_string),
+        row_tests::test_words(user, user_lengths),
     )
 }
 
@@ -141,7 +139,7 @@ fn put(out: &mut [u8], m: PubAckHead, reason_string: &[u8], user: &[u8], user_le
     }
 }
 
-// The frame from place 0 on, and its size; a refused write leaves the output as it stood.
+// The frame from index 0 on, and its size; a refused write leaves the output as it stood.
 pub fn write(
     m: PubAckHead,
     reason_string: &[u8],

@@ -2,12 +2,12 @@
 use crate::head::PublishHead;
 use records::error::Error;
 use records::qos::qos_number;
+use row_sizes as size;
+use row_tests as test;
+use row_tests::Tested;
+use row_tests::then;
 use rows::belong;
 use rows::belong::both;
-use rows::size;
-use rows::test;
-use rows::test::Tested;
-use rows::test::then;
 ghost use mathlib.Core.Path.{_≡_};
 ghost use mathlib.Core.Bool.{_||_};
 ghost use mathlib.Core.List.{List};
@@ -19,7 +19,7 @@ ghost use Rattle.writing.specs.Lists.{flat};
 ghost use Rattle.writing.specs.Handed.{publish, publishGiven, belongs};
 ghost use Rattle.writing.specs.Size.{propsSize, noIdent, identSize, restIs, cap};
 ghost use Rattle.writing.specs.Order.{judge, fieldTests, fieldsOf};
-ghost use Rattle.rows.specs.Tested.{toldTested};
+ghost use Rattle.row_tests.specs.Tested.{toldTested};
 ghost use Rattle.settle.specs.Found.{earlyOf, lateOf};
 ghost use Rattle.publish_write.specs.Handed.{handed};
 

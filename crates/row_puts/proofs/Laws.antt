@@ -1,28 +1,28 @@
--- Puts one behind the other: what is put behind bytes that were put is one put of both, also where the place behind them is past the end.
+-- Puts one behind the other: what is put behind bytes that were put is one put of both, also where the index behind them is past the end.
 -- Assumes nothing.
 use mathlib.Core.Path.{_≡_, refl, sym, ap, _∙_}
 use mathlib.Core.Bool.{true}
 use mathlib.Core.Logic.{_⊎_, inl, inr}
 use mathlib.Core.Option.{some}
 use mathlib.Core.List.{List, [], _∷_, _++_, append-nil}
-use Prim.Native.Nat.{ℕ, _+_, _%_, _≤_, _<_, min}
+use Prim.Native.Nat.{ℕ, _+_, _≤_, _<_, min}
 use native.Mathlib.Omega.{arith}
 use native.Mathlib.Numerals.{add-one}
 use lib.ListN.{length, drop, getD, length-append, drop-of-length-le}
 use lib.Seq.{sets, length-sets, drop-cons}
 use Rattle.grammar.specs.Tables.{Form, number, pair}
 use Rattle.writing.specs.Handed.{Run, one, pairs, several}
-use Rattle.writing.specs.Spell.{wide, short, string, numeral, value, rowBytes, filterBytes}
+use Rattle.writing.specs.Spell.{wide, short, string, numeral, value, rowBytes}
 use Rattle.writing.proofs.Tests.{le-or}
 use Rattle.writing.proofs.Sizes.{length-string}
 use Rattle.writing.proofs.ForCode.{runFrom, stringAt, strings-done}
-use Rattle.numbers.proofs.Laws.Put.{sets-append, sets-out, length-wide, wide-one}
+use Rattle.numbers.proofs.Laws.Put.{sets-append, sets-out, length-wide}
 use Rattle.rows.specs.Given.{givenLent}
 use Rattle.rows.proofs.Laws.Run.{strings-cut}
 use Rattle.row_puts.specs.Put.{Put}
 use Rattle.row_puts.specs.Behind.{Behind}
 
--- a place past the end is as good as the end
+-- an index past the end is as good as the end
 pub sets-min : (l xs : List ℕ) (k : ℕ) → sets l (min k (length l)) xs ≡ sets l k xs
 sets-min l xs k = go (le-or k (length l))
   where
@@ -37,7 +37,7 @@ module _ (l l₁ l₂ xs ys : List ℕ) (at m : ℕ) (e : l₁ ≡ sets l at xs)
   pub sets-next : l₂ ≡ sets l at (xs ++ ys)
   sets-next = f ∙ rw (n, sets-min l₁ ys (at + length xs), e, sets-append xs ys l at)
 
--- stored, or put, and the place behind it
+-- stored, or put, and the index behind it
 pub store-next : (xs : List ℕ) {l l₁ : List ℕ} {at n m : ℕ} → l₁ ≡ sets l at xs → n ≡ length xs → m ≡ min (at + n) (length l₁) → Behind l at xs l₁ m
 store-next xs e f g = record { stores = e; place = g ∙ rw f }
 
@@ -155,20 +155,3 @@ module _ (ns : List ℕ) (i : ℕ) where
 
   pub ids-done : length ns ≤ i → rowBytes (11, number) (several (drop i ns)) ≡ []
   ids-done h = rw (drop-of-length-le ns h)
-
--- ---- filters
-
-module _ (s : List ℕ) (o : ℕ) where
-  filter-length : length (filterBytes (s, o)) ≡ 3 + length s
-  filter-length = omega (arith, length-append (string s) (o % 64 ∷ []), length-string s)
-
-  pub filter-count : (l : List ℕ) (at : ℕ) (l₁ : List ℕ) (k : ℕ) → Put l at (filterBytes (s, o)) l₁ k → k ≡ 3 + length s
-  filter-count l at l₁ k p = p .count ∙ filter-length
-
-  pub put-filter : (l l₁ l₂ : List ℕ) (at m : ℕ) → l₁ ≡ sets l at (string s) → m ≡ min (at + (2 + length s)) (length l₁) → l₂ ≡ sets l₁ m (wide 1 (o % 64)) → Put l at (filterBytes (s, o)) l₂ (3 + length s)
-  put-filter l l₁ l₂ at m e n f =
-      let w : wide 1 (o % 64) ≡ o % 64 ∷ [] = sym (wide-one (omega arith)) in
-      record {
-        stores = sets-next l l₁ l₂ (string s) (o % 64 ∷ []) at m e (n ∙ rw (sym (length-string s))) (f ∙ rw w);
-        count = sym filter-length;
-      }

@@ -1,5 +1,5 @@
-// The bytes of a row, after `write` of the properties in publish.rs, subscribe.rs and puback.rs, and of filters: each function puts them
-// at an index of an output and gives how many they are. What would lie past the end is not stored.
+// The bytes of a row, after `write` of the properties in publish.rs, subscribe.rs and puback.rs: each function puts them at an index of
+// an output and gives how many they are. What would lie past the end is not stored.
 use numbers::fixed;
 use numbers::length::put_length;
 use records::span::MaybeU8;
@@ -13,13 +13,12 @@ ghost use Prim.Native.Nat.{_+_, _^_, _≤_, _<_, min};
 ghost use lib.ListN.{length};
 ghost use lib.Seq.{sets};
 ghost use Rattle.grammar.specs.Tables.{Form, u8, u16, u32, number, pair};
-ghost use Rattle.writing.specs.Lists.{flat};
 ghost use Rattle.writing.specs.Handed.{several};
-ghost use Rattle.writing.specs.Spell.{short, string, rowBytes, filterBytes};
-ghost use Rattle.rows.specs.Given.{givenU8, givenU16, givenU32, givenLent, givenPairs, filtersOf};
+ghost use Rattle.writing.specs.Spell.{short, string, rowBytes};
+ghost use Rattle.rows.specs.Given.{givenU8, givenU16, givenU32, givenLent, givenPairs};
 ghost use Rattle.row_puts.specs.Put.{Put};
 
-// An identifier byte; gives the place after it.
+// An identifier byte; gives the index after it.
 fn put_id(out: &mut [u8], at: usize, id: u8) -> usize
     ensures { λ r. ⌜ (now (out .exit) ≡ sets (now (out .entry)) at (id ∷ [])) × (r ≡ min (at + 1) (length (now (out .exit)))) ⌝ }
 {
@@ -144,39 +143,6 @@ pub fn put_ids(out: &mut [u8], at: usize, ids: &[u32]) -> usize
     while i < ids.len() {
         let to = run::after(out.len(), at, n);
         n = n + put_number(&mut *out, to, 11, ids[i]);
-        i = i + 1;
-    }
-    n
-}
-
-fn put_filter(out: &mut [u8], at: usize, s: &[u8], options: u8) -> usize
-    ensures { λ r. ⌜ Put (now (out .entry)) at (filterBytes (now (s .entry), options)) (now (out .exit)) r ⌝ }
-{
-    put_string(&mut *out, at, s);
-    let next = run::after(out.len(), at, 2 + s.len());
-    fixed::put_u8(&mut *out, next, options % 64);
-    3 + s.len()
-}
-
-// Filters one after the other, as far as there are both lengths and options.
-pub fn put_filters(
-    out: &mut [u8],
-    at: usize,
-    bytes: &[u8],
-    lengths: &[usize],
-    options: &[u8],
-) -> usize
-    ensures { λ r. ⌜ Put (now (out .entry)) at (flat filterBytes (filtersOf (now (bytes .entry)) (now (lengths .entry)) (now (options .entry)))) (now (out .exit)) r ⌝ }
-{
-    let count = run::after(options.len(), 0, lengths.len());
-    let mut n: usize = 0;
-    let mut from: usize = 0;
-    let mut i: usize = 0;
-    while i < count {
-        let k = lengths[i];
-        let to = run::after(out.len(), at, n);
-        n = n + put_filter(&mut *out, to, run::piece(bytes, from, k), options[i]);
-        from = run::after(bytes.len(), from, k);
         i = i + 1;
     }
     n

@@ -1,4 +1,2 @@
 pub mod Belong
-pub mod Size
 pub mod Run
-pub mod Test

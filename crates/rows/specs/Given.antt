@@ -3,8 +3,7 @@ use mathlib.Core.Bool.{Bool}
 use mathlib.Core.Option.{Option, none, some}
 use mathlib.Core.List.{List}
 use Prim.Native.Nat.{ℕ}
-use Rattle.writing.specs.Lists.{beside}
-use Rattle.writing.specs.Handed.{Run, Given, one, lent, pairs, strings}
+use Rattle.writing.specs.Handed.{Run, Given, one, lent, pairs}
 use Rattle.records.specs.declared.span.MaybeU8.{MaybeU8}
 use Rattle.records.specs.declared.span.MaybeU16.{MaybeU16}
 use Rattle.records.specs.declared.span.MaybeU32.{MaybeU32}
@@ -45,7 +44,3 @@ run bytes lengths = record { bytes = bytes; lengths = lengths }
 -- 01, table of properties: text pairs
 abbrev pub givenPairs : List ℕ → List ℕ → Given
 givenPairs bytes lengths = pairs (run bytes lengths)
-
--- 01, "What must change shape": "an options byte for each filter"
-abbrev pub filtersOf : List ℕ → List ℕ → List ℕ → List (List ℕ × ℕ)
-filtersOf bytes lengths options = beside (strings (run bytes lengths)) options

@@ -1,6 +1,5 @@
-// What is handed over for one row of the table of properties, and for filters: whether it belongs together, the refusals of its fields,
-// and its size; its bytes are put by `row_puts`. Writers are straight lines over both.
+// What is handed over for one row of the table of properties: whether it belongs together, and the strings that lengths cut a run into.
+// Its size is counted by `row_sizes`, its fields are tested by `row_tests`, its bytes are put by `row_puts`; writers are straight lines
+// over all four.
 pub mod belong;
 pub mod run;
-pub mod size;
-pub mod test;

@@ -1,9 +1,9 @@
-// Places in a run of bytes or in an output: a place past the end is the end, so that no sum can wrap.
+// Indexes in a run of bytes or in an output: an index past the end is the end, so that no sum can wrap.
 ghost use mathlib.Core.Path.{_≡_};
 ghost use Prim.Native.Nat.{_+_, min};
 ghost use lib.ListN.{take, drop};
 
-// The place n bytes after `at`, where there are `room` in all.
+// The index n bytes after `at`, where there are `room` in all.
 pub fn after(room: usize, at: usize, n: usize) -> usize
     ensures { λ r. ⌜ r ≡ min (at + n) room ⌝ }
 {
@@ -16,7 +16,7 @@ pub fn after(room: usize, at: usize, n: usize) -> usize
     at + n
 }
 
-// The n bytes at a place of the run, or as many as there are.
+// The n bytes at an index of the run, or as many as there are.
 pub fn piece<'a>(run: &'a [u8], at: usize, n: usize) -> &'a [u8]
     ensures { λ r. ⌜ now r ≡ take n (drop at (now (run .entry))) ⌝ }
 {

@@ -7,8 +7,9 @@ use records::answer::Limit;
 use records::answer::Sized;
 use records::answer::Written;
 use records::error::Error;
+use row_sizes::MOST;
+use row_tests::Tested;
 use rows::run;
-use rows::test::Tested;
 ghost use mathlib.Core.Path.{_≡_};
 ghost use mathlib.Core.List.{_∷_};
 ghost use Prim.Native.Nat.{_+_, _≤_};
@@ -17,11 +18,9 @@ ghost use Rattle.writing.specs.Spell.{short};
 ghost use Rattle.writing.specs.Order.{judge, limitTests};
 ghost use Rattle.records.specs.Told.{limitOf};
 ghost use Rattle.records.specs.Answered.{toldSized, toldWritten};
-ghost use Rattle.rows.specs.Tested.{toldTested};
+ghost use Rattle.row_tests.specs.Tested.{toldTested};
 ghost use Rattle.row_puts.specs.Put.{Put};
 ghost use Rattle.settle.specs.Found.{roomOf, settledOf, sizedOf};
-
-const MOST: usize = 268435455;
 
 // One byte, R, and R bytes.
 fn frame_size(rest: usize) -> usize

@@ -1,9 +1,8 @@
 -- What is found of a Subscribe, and its bytes. Assumes nothing.
-use mathlib.Core.Path.{_≡_, refl, sym, ap, _∙_}
+use mathlib.Core.Path.{_≡_, sym, ap, _∙_}
 use mathlib.Core.Bool.{Bool, true, not, _&&_, and-true}
-use mathlib.Core.Option.{some}
 use mathlib.Core.List.{List, [], _∷_, _++_, map, append-assoc, append-nil}
-use Prim.Native.Nat.{ℕ, _+_, _*_, _≤_, _<_, min}
+use Prim.Native.Nat.{ℕ, _+_, _*_, _≤_, min}
 use native.Mathlib.Omega.{arith}
 use lib.Dec.{eqb}
 use lib.ListN.{length}
@@ -11,8 +10,7 @@ use lib.Seq.{sets}
 use Rattle.grammar.specs.Choice.{isEmpty}
 use Rattle.grammar.specs.Tables.{number, pair, subscribePlace}
 use Rattle.reading.specs.Refusal.{nr}
-use Rattle.reading.specs.Reader.{Fit, got, bad, guard}
-use Rattle.reading.proofs.Lists.{leb-yes, leb-no}
+use Rattle.reading.specs.Reader.{Fit, guard}
 use Rattle.writing.specs.Lists.{flat}
 use Rattle.writing.specs.Handed.{SubscribeHanded, subscribe, one, pairs, addsUp, subscribeGiven, filters, filtersBelong, rowBelongs, belongs}
 use Rattle.writing.specs.Size.{most, withLength, givenSize, propsSize, restIs, cap}
@@ -22,47 +20,14 @@ use Rattle.writing.specs.Write.{firstByte, frameBytes}
 use Rattle.writing.proofs.ForCode.{judgeAll, subscribe-belongs, subscribe-tests, subscribe-sum, subscribe-frame, cap-small, cap-length}
 use Rattle.writing.proofs.Pins.{subscribe-props, first-bytes}
 use Rattle.numbers.proofs.Laws.Put.{length-wide}
-use Rattle.rows.specs.Given.{filtersOf}
-use Rattle.rows.specs.Tested.{first}
-use Rattle.rows.proofs.Laws.Size.{cap-left, cap-both, cap-last}
+use Rattle.row_tests.specs.Tested.{first}
+use Rattle.row_sizes.proofs.Laws.{cap-left, cap-both, cap-last}
 use Rattle.row_puts.specs.Put.{Put}
 use Rattle.row_puts.specs.Behind.{Behind}
 use Rattle.row_puts.proofs.Laws.{store-next, put-next, next-last, next-then}
+use Rattle.filters_write.specs.Filters.{filtersOf}
 use Rattle.settle.specs.Found.{earlyOf, lateOf}
 use Rattle.settle.proofs.Laws.{early-fields}
-
--- ---- 17 for the identifier
-
-pub number-large : (n : ℕ) → most < n → bad (nr 17 []) ≡ judge (map small (orNone (some n)))
-unfolding judge
-number-large n h = rw (leb-no n most h)
-
-pub number-fine : (n : ℕ) → n ≤ most → got tt ≡ judge (map small (orNone (some n)))
-unfolding judge
-number-fine n h = rw (leb-yes n most h)
-
--- ---- 13: there is a filter exactly if there are a length and an options byte
-
-pub no-lengths : (run ns os : List ℕ) → length ns ≡ 0 → bad (nr 13 []) ≡ guard (not (isEmpty (filtersOf run ns os))) (nr 13 [])
-no-lengths run [] os e = refl
-no-lengths run (n ∷ ns) os e = absurd (omega arith)
-
-pub no-options : (run ns os : List ℕ) → length os ≡ 0 → bad (nr 13 []) ≡ guard (not (isEmpty (filtersOf run ns os))) (nr 13 [])
-no-options run [] [] e = refl
-no-options run (n ∷ ns) [] e = refl
-no-options run ns (o ∷ os) e = absurd (omega arith)
-
-pub some-filter : (run ns os : List ℕ) → (length ns ≡ 0 → ⊥) → (length os ≡ 0 → ⊥) → got tt ≡ guard (not (isEmpty (filtersOf run ns os))) (nr 13 [])
-some-filter run [] os e f = absurd (e refl)
-some-filter run (n ∷ ns) [] e f = absurd (f refl)
-some-filter run (n ∷ ns) (o ∷ os) e f = refl
-
--- ---- the filters' bytes
-
-pub filters-sum : (m n a b c : ℕ) → a ≡ cap (n + n) → b ≡ cap (a + n) → c ≡ cap (b + m) → c ≡ cap (m + 3 * n)
-filters-sum m n a b c e f g =
-    let i : n + n + n + m ≡ m + 3 * n = omega arith in
-    g ∙ cap-left b (n + n + n) m (f ∙ cap-left a (n + n) n e) ∙ ap cap i
 
 first-byte : (h : SubscribeHanded) → firstByte (subscribe h) ≡ 0x82
 unfolding firstByte

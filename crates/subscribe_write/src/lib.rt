@@ -7,31 +7,22 @@ use records::answer::Sized;
 use records::answer::Written;
 use records::error::Error;
 use records::span::MaybeU32;
+use row_tests::Tested;
 use rows::belong;
 use rows::run;
-use rows::size;
-use rows::test;
-use rows::test::Tested;
 ghost use mathlib.Core.Path.{_≡_};
-ghost use mathlib.Core.Bool.{true, not, _&&_};
-ghost use mathlib.Core.List.{List, [], _++_, map};
-ghost use Prim.Native.Nat.{ℕ, _≤_, _+_, _*_};
-ghost use lib.Dec.{eqb};
-ghost use lib.ListN.{length};
+ghost use mathlib.Core.Bool.{true};
+ghost use mathlib.Core.List.{List, _++_};
+ghost use Prim.Native.Nat.{ℕ, _≤_};
 ghost use lib.Seq.{sets};
 ghost use Rattle.grammar.specs.Tables.{subscribePlace};
-ghost use Rattle.grammar.specs.Choice.{isEmpty};
-ghost use Rattle.reading.specs.Refusal.{nr};
-ghost use Rattle.reading.specs.Reader.{guard};
-ghost use Rattle.writing.specs.Handed.{subscribe, subscribeGiven, addsUp, belongs as belongsOf};
+ghost use Rattle.writing.specs.Handed.{subscribe, subscribeGiven, belongs as belongsOf};
 ghost use Rattle.writing.specs.Spell.{short, propsBytes};
 ghost use Rattle.writing.specs.Size.{most, propsSize, restIs, cap};
-ghost use Rattle.writing.specs.Order.{judge, small, orNone};
 ghost use Rattle.writing.specs.Write.{frameBytes, sizeOf, Written as WrittenOf};
 ghost use Rattle.records.specs.Told.{limitOf};
 ghost use Rattle.records.specs.Answered.{toldSized, toldWritten};
-ghost use Rattle.rows.specs.Given.{numberU32, run as runOf, filtersOf};
-ghost use Rattle.rows.specs.Tested.{toldTested};
+ghost use Rattle.row_tests.specs.Tested.{toldTested};
 ghost use Rattle.row_puts.specs.Behind.{Behind};
 ghost use Rattle.settle.specs.Found.{earlyOf, lateOf};
 ghost use Rattle.subscribe_write.specs.Handed.{handed};
@@ -42,13 +33,6 @@ pub struct SubscribeHead {
     // whether there are properties
     pub block: bool,
     pub id: MaybeU32,
-}
-
-fn filters_belong(filters: &[u8], filter_lengths: &[usize], options: &[u8]) -> bool
-    ensures { λ r. ⌜ r ≡ (addsUp (runOf (now (filters .entry)) (now («filter_lengths» .entry))) && eqb (length (now («filter_lengths» .entry))) (length (now (options .entry)))) ⌝ }
-{
-    let same = filter_lengths.len() == options.len();
-    belong::both(belong::adds_up(filters, filter_lengths), same)
 }
 
 // 20
@@ -67,7 +51,10 @@ fn belongs(
         belong::u32_belongs(m.block, id),
         belong::pairs_belong(m.block, user, user_lengths),
     );
-    belong::both(block, filters_belong(filters, filter_lengths, options))
+    belong::both(
+        block,
+        filters_write::filters_belong(filters, filter_lengths, options),
+    )
 }
 
 // L, cut off where it is too large.
@@ -75,18 +62,10 @@ fn block_length(m: SubscribeHead, user: &[u8], user_lengths: &[usize]) -> usize
     ensures { λ r. ⌜ ((fs ns os : List ℕ) → r ≡ cap (propsSize subscribePlace (subscribeGiven (handed m (now (user .entry)) (now («user_lengths» .entry)) fs ns os)))) ⌝ }
 {
     let id = m.id;
-    size::add(
-        size::one_size_number(id),
-        size::pairs_size(user, user_lengths),
+    row_sizes::add(
+        row_sizes::one_size_number(id),
+        row_sizes::pairs_size(user, user_lengths),
     )
-}
-
-// A filter has two bytes of length and its options byte.
-fn filters_size(filters: &[u8], options: &[u8]) -> usize
-    ensures { λ r. ⌜ r ≡ cap (length (now (filters .entry)) + 3 * length (now (options .entry))) ⌝ }
-{
-    let n = options.len();
-    size::add(size::add(size::add(n, n), n), filters.len())
 }
 
 // R, cut off where it is too large.
@@ -99,8 +78,11 @@ fn rest(
 ) -> usize
     ensures { λ r. ⌜ ((ns : List ℕ) → r ≡ cap (restIs (subscribe (handed m (now (user .entry)) (now («user_lengths» .entry)) (now (filters .entry)) ns (now (options .entry)))))) ⌝ }
 {
-    let block = size::with_length(block_length(m, user, user_lengths));
-    size::add(size::add(block, filters_size(filters, options)), 2)
+    let block = row_sizes::with_length(block_length(m, user, user_lengths));
+    row_sizes::add(
+        row_sizes::add(block, filters_write::filters_size(filters, options)),
+        2,
+    )
 }
 
 // How many bytes the frame is: refused with 20, then 17 for R.
@@ -134,38 +116,10 @@ fn early(
     if !belongs(m, user, user_lengths, filters, filter_lengths, options) {
         return Tested::Refused(Error::ListMismatch);
     }
-    test::then(
-        test::test_words(user, user_lengths),
-        test::test_filters(filters, filter_lengths, options),
+    row_tests::then(
+        row_tests::test_words(user, user_lengths),
+        filters_write::test_filters(filters, filter_lengths, options),
     )
-}
-
-// 17 for the identifier.
-fn test_id(id: MaybeU32) -> Tested
-    ensures { λ r. ⌜ toldTested r ≡ judge (map small (orNone (numberU32 id))) ⌝ }
-{
-    match id {
-        MaybeU32::Absent => Tested::Fine,
-        MaybeU32::Present(n) => {
-            if 268435455 < n {
-                return Tested::Refused(Error::PayloadTooLong);
-            }
-            Tested::Fine
-        }
-    }
-}
-
-// 13
-fn test_asked(filter_lengths: &[usize], options: &[u8]) -> Tested
-    ensures { λ r. ⌜ ((run : List ℕ) → toldTested r ≡ guard (not (isEmpty (filtersOf run (now («filter_lengths» .entry)) (now (options .entry))))) (nr 13 [])) ⌝ }
-{
-    if filter_lengths.len() == 0 {
-        return Tested::Refused(Error::EmptySubscription);
-    }
-    if options.len() == 0 {
-        return Tested::Refused(Error::EmptySubscription);
-    }
-    Tested::Fine
 }
 
 // 17 for the identifier, then 13.
@@ -173,10 +127,13 @@ fn late(m: SubscribeHead, filter_lengths: &[usize], options: &[u8]) -> Tested
     ensures { λ r. ⌜ ((user lengths filters : List ℕ) → toldTested r ≡ lateOf (subscribe (handed m user lengths filters (now («filter_lengths» .entry)) (now (options .entry))))) ⌝ }
 {
     let id = m.id;
-    test::then(test_id(id), test_asked(filter_lengths, options))
+    row_tests::then(
+        row_tests::test_number(id),
+        filters_write::test_asked(filter_lengths, options),
+    )
 }
 
-// L and the properties; gives the place behind them.
+// L and the properties; gives the index behind them.
 fn put_block(
     out: &mut [u8],
     at: usize,
@@ -214,10 +171,10 @@ fn put(
     fixed::put_u16(&mut *out, first, m.pkid);
     let second = run::after(out.len(), first, 2);
     let third = put_block(&mut *out, second, m, user, user_lengths);
-    row_puts::put_filters(&mut *out, third, filters, filter_lengths, options);
+    filters_write::put_filters(&mut *out, third, filters, filter_lengths, options);
 }
 
-// The frame from place 0 on, and its size; a refused write leaves the output as it stood.
+// The frame from index 0 on, and its size; a refused write leaves the output as it stood.
 pub fn write(
     m: SubscribeHead,
     user: &[u8],

@@ -21,8 +21,8 @@ use Rattle.writing.specs.Write.{firstByte, identBytes, frameBytes}
 use Rattle.writing.proofs.Tests.{eq-when, eq-not}
 use Rattle.writing.proofs.ForCode.{publish-belongs, judge-if, publish-tests, publish-sum, publish-frame, cap-small, cap-length}
 use Rattle.rows.specs.Given.{givenU8, givenU16, givenU32, givenLent, givenPairs}
-use Rattle.rows.specs.Tested.{first}
-use Rattle.rows.proofs.Laws.Size.{cap-left, cap-both}
+use Rattle.row_tests.specs.Tested.{first}
+use Rattle.row_sizes.proofs.Laws.{cap-left, cap-both}
 use Rattle.settle.specs.Found.{lateOf}
 use Rattle.publish_write.specs.Handed.{handed}
 use Rattle.publish_write.specs.declared.head.PublishHead.{PublishHead}

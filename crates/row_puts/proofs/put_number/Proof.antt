@@ -7,7 +7,7 @@ use denote.Ref.{now}
 use Rattle.writing.specs.Spell.{short}
 use Rattle.writing.specs.Size.{lenLen}
 use Rattle.writing.proofs.Sizes.{length-short}
-use Rattle.rows.proofs.Laws.Size.{len-len-most}
+use Rattle.row_sizes.proofs.Laws.{len-len-most}
 use Rattle.row_puts.proofs.Laws.{put-row}
 use Rattle.row_puts.proofs.put_number.Statement.{statement}
 use Rattle.row_puts.proofs.put_number.Tie as tie

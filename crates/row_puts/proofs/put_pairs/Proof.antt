@@ -1,4 +1,4 @@
--- `row_puts::put_pairs` is right since after each turn the pairs from the i-th length on, at the place `from` of the run, are left to put. Assumes nothing.
+-- `row_puts::put_pairs` is right since after each turn the pairs from the i-th length on, at the index `from` of the run, are left to put. Assumes nothing.
 use mathlib.Core.Path.{ap, sym, _∙_}
 use Prim.Native.Nat.{_+_, _*_, _-_, _≤_}
 use native.Mathlib.Omega.{arith}

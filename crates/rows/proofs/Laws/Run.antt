@@ -1,19 +1,17 @@
--- A run of bytes cut by lengths: the string at an index and the rest of the run, for every loop over a run. A place past the end is the
+-- A run of bytes cut by lengths: the i-th string and the rest of the run, for every loop over a run. An index past the end is the
 -- end. Assumes nothing.
-use mathlib.Core.Path.{_≡_, refl, _∙_}
+use mathlib.Core.Path.{_≡_, _∙_}
 use mathlib.Core.Logic.{_⊎_, inl, inr}
 use mathlib.Core.List.{List, [], _∷_}
 use Prim.Native.Nat.{ℕ, _+_, _-_, _≤_, _<_, min}
 use native.Mathlib.Omega.{arith}
-use native.Mathlib.Numerals.{add-one}
 use lib.ListN.{length, take, drop, getD, length-take, length-drop, drop-of-length-le}
-use lib.Seq.{take-all, take-nil, drop-cons}
-use Rattle.writing.specs.Lists.{beside}
+use lib.Seq.{take-all, take-nil}
 use Rattle.writing.specs.Handed.{Run, strings}
 use Rattle.writing.proofs.Tests.{le-or}
-use Rattle.writing.proofs.ForCode.{runFrom, stringAt, strings-more, strings-done}
+use Rattle.writing.proofs.ForCode.{runFrom, stringAt, strings-more}
 
--- ---- places
+-- ---- indexes
 
 drop-min : (k : ℕ) (l : List ℕ) → drop (min k (length l)) l ≡ drop k l
 drop-min k l = go (le-or k (length l))
@@ -40,23 +38,8 @@ module _ (s : List ℕ) (at n : ℕ) where
     pub piece-within : at + length (take n (drop at s)) ≤ length s
     piece-within = omega (arith, length-take n (drop at s), length-drop at s)
 
--- ---- the string at index i and place p; the rest of the run is from place q on
+-- ---- the i-th string, at index p of the run; the rest of the run is from index q on
 
 module _ (r : Run) (i p q : ℕ) (e : q ≡ min (p + getD (r .lengths) i 0) (length (r .bytes))) (h : i < length (r .lengths)) where
   pub strings-cut : strings (runFrom r i p) ≡ stringAt r i p ∷ strings (runFrom r (i + 1) q)
   strings-cut = strings-more r i p h ∙ rw (e, drop-min (p + getD (r .lengths) i 0) (r .bytes))
-
-  pub filters-cut : (os : List ℕ) → i < length os → beside (strings (runFrom r i p)) (drop i os) ≡ (stringAt r i p, getD os i 0) ∷ beside (strings (runFrom r (i + 1) q)) (drop (i + 1) os)
-  filters-cut os l = rw (strings-cut, drop-cons os i 0 l, add-one i)
-
--- no filter is left
-pub filters-done : (r : Run) (i p : ℕ) (os : List ℕ) → min (length (r .lengths)) (length os) ≤ i → beside (strings (runFrom r i p)) (drop i os) ≡ []
-filters-done r i p os h = go (le-or (length (r .lengths)) i)
-  where
-    none : (ss : List (List ℕ)) → beside {B = ℕ} ss [] ≡ []
-    none [] = refl
-    none (s ∷ ss) = refl
-
-    go : (length (r .lengths) ≤ i) ⊎ (i < length (r .lengths)) → beside (strings (runFrom r i p)) (drop i os) ≡ []
-    go (inl l) = rw (strings-done r i p l)
-    go (inr l) = rw (drop-of-length-le os {i = i} (omega arith)) (none (strings (runFrom r i p)))

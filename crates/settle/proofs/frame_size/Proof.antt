@@ -5,7 +5,7 @@ use native.Mathlib.Omega.{arith}
 use borrow.Author.Needs.{needs}
 use Rattle.writing.specs.Size.{lenLen}
 use Rattle.writing.proofs.Sizes.{length-short}
-use Rattle.rows.proofs.Laws.Size.{len-len-most}
+use Rattle.row_sizes.proofs.Laws.{len-len-most}
 use Rattle.settle.proofs.frame_size.Statement.{statement}
 use Rattle.settle.proofs.frame_size.Tie as tie
 

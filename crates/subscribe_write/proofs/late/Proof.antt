@@ -6,8 +6,8 @@ use Rattle.subscribe_write.proofs.Laws.{late-all}
 use Rattle.subscribe_write.proofs.late.Statement.{statement}
 use Rattle.subscribe_write.proofs.late.Tie as tie
 
-test-id-requires : tie.Need-test-id-requires
-test-id-requires c κs = search needs
+test-number-requires : tie.Need-test-number-requires
+test-number-requires c κs = search needs
 
 test-asked-requires : tie.Need-test-asked-requires
 test-asked-requires c κs = search needs
@@ -18,7 +18,7 @@ then-requires c κs = search needs
 returns : tie.Need-returns
 returns c =
     let a = c .before .before .before .before .before .args in
-    λ us ls fs. late-all (handed (a .m) us ls fs (now (a .filter-lengths)) (now (a .options))) (c .before .before .test-id .ensures) (c .before .test-asked .ensures fs) (c .then .ensures)
+    λ us ls fs. late-all (handed (a .m) us ls fs (now (a .filter-lengths)) (now (a .options))) (c .before .before .test-number .ensures) (c .before .test-asked .ensures fs) (c .then .ensures)
 
 pub late-spec : {M : Type 1} → statement M
-late-spec = tie.close (tie.spec test-id-requires test-asked-requires then-requires returns)
+late-spec = tie.close (tie.spec test-number-requires test-asked-requires then-requires returns)

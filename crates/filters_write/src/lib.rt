@@ -1,0 +1,130 @@
+// The filters of a Subscribe as they are written, after subscribe.rs: whether they belong together, their size, their tests (01, writing
+// order: 14, then 11 after a filter's text) and their bytes. An empty list is refused (D6).
+use numbers::fixed;
+use records::error::Error;
+use row_tests::Tested;
+use row_tests::test_word;
+use rows::belong;
+use rows::run;
+use wire::string::put_string;
+ghost use mathlib.Core.Path.{_≡_};
+ghost use mathlib.Core.Bool.{not, _&&_};
+ghost use mathlib.Core.List.{List, [], map};
+ghost use Prim.Native.Nat.{ℕ, _+_, _*_, min};
+ghost use lib.Dec.{eqb};
+ghost use lib.ListN.{length};
+ghost use Rattle.grammar.specs.Choice.{isEmpty};
+ghost use Rattle.reading.specs.Refusal.{nr};
+ghost use Rattle.reading.specs.Reader.{guard};
+ghost use Rattle.writing.specs.Lists.{flat};
+ghost use Rattle.writing.specs.Handed.{addsUp};
+ghost use Rattle.writing.specs.Spell.{filterBytes};
+ghost use Rattle.writing.specs.Size.{cap};
+ghost use Rattle.writing.specs.Order.{judge, filter, fieldTests, filterField};
+ghost use Rattle.rows.specs.Given.{run as runOf};
+ghost use Rattle.row_tests.specs.Tested.{toldTested};
+ghost use Rattle.row_puts.specs.Put.{Put};
+ghost use Rattle.filters_write.specs.Filters.{filtersOf};
+
+// How many there are: one for each length that has an options byte.
+fn how_many(lengths: &[usize], options: &[u8]) -> usize
+    ensures { λ r. ⌜ r ≡ min (length (now (lengths .entry))) (length (now (options .entry))) ⌝ }
+{
+    run::after(options.len(), 0, lengths.len())
+}
+
+// 20: lengths that add up, and an options byte for each.
+pub fn filters_belong(bytes: &[u8], lengths: &[usize], options: &[u8]) -> bool
+    ensures { λ r. ⌜ r ≡ (addsUp (runOf (now (bytes .entry)) (now (lengths .entry))) && eqb (length (now (lengths .entry))) (length (now (options .entry)))) ⌝ }
+{
+    let same = lengths.len() == options.len();
+    belong::both(belong::adds_up(bytes, lengths), same)
+}
+
+// Their bytes, cut off where they are too many: a filter has two bytes of length and its options byte.
+pub fn filters_size(bytes: &[u8], options: &[u8]) -> usize
+    ensures { λ r. ⌜ r ≡ cap (length (now (bytes .entry)) + 3 * length (now (options .entry))) ⌝ }
+{
+    let n = options.len();
+    row_sizes::add(row_sizes::add(row_sizes::add(n, n), n), bytes.len())
+}
+
+// A filter's text, then its options: 14, then 11.
+fn test_filter(s: &[u8], options: u8) -> Tested
+    ensures { λ r. ⌜ toldTested r ≡ judge (fieldTests (filter (now (s .entry)) options)) ⌝ }
+{
+    match test_word(s) {
+        Tested::Refused(e) => Tested::Refused(e),
+        Tested::Fine => {
+            if options / 16 % 4 == 3 {
+                return Tested::Refused(Error::InvalidRetainForwardRule(3));
+            }
+            if options % 4 == 3 {
+                return Tested::Refused(Error::InvalidQoS(3));
+            }
+            Tested::Fine
+        }
+    }
+}
+
+// Filters one after the other, as far as there are both lengths and options.
+pub fn test_filters(bytes: &[u8], lengths: &[usize], options: &[u8]) -> Tested
+    ensures { λ r. ⌜ toldTested r ≡ judge (flat fieldTests (map filterField (filtersOf (now (bytes .entry)) (now (lengths .entry)) (now (options .entry))))) ⌝ }
+{
+    let count = how_many(lengths, options);
+    let mut at: usize = 0;
+    let mut i: usize = 0;
+    while i < count {
+        let n = lengths[i];
+        match test_filter(run::piece(bytes, at, n), options[i]) {
+            Tested::Refused(e) => return Tested::Refused(e),
+            Tested::Fine => {}
+        }
+        at = run::after(bytes.len(), at, n);
+        i = i + 1;
+    }
+    Tested::Fine
+}
+
+// 13
+pub fn test_asked(lengths: &[usize], options: &[u8]) -> Tested
+    ensures { λ r. ⌜ ((bytes : List ℕ) → toldTested r ≡ guard (not (isEmpty (filtersOf bytes (now (lengths .entry)) (now (options .entry))))) (nr 13 [])) ⌝ }
+{
+    if how_many(lengths, options) == 0 {
+        return Tested::Refused(Error::EmptySubscription);
+    }
+    Tested::Fine
+}
+
+fn put_filter(out: &mut [u8], at: usize, s: &[u8], options: u8) -> usize
+    ensures { λ r. ⌜ Put (now (out .entry)) at (filterBytes (now (s .entry), options)) (now (out .exit)) r ⌝ }
+{
+    put_string(&mut *out, at, s);
+    let next = run::after(out.len(), at, 2 + s.len());
+    fixed::put_u8(&mut *out, next, options % 64);
+    3 + s.len()
+}
+
+// Filters one after the other, as far as there are both lengths and options.
+pub fn put_filters(
+    out: &mut [u8],
+    at: usize,
+    bytes: &[u8],
+    lengths: &[usize],
+    options: &[u8],
+) -> usize
+    ensures { λ r. ⌜ Put (now (out .entry)) at (flat filterBytes (filtersOf (now (bytes .entry)) (now (lengths .entry)) (now (options .entry)))) (now (out .exit)) r ⌝ }
+{
+    let count = how_many(lengths, options);
+    let mut n: usize = 0;
+    let mut from: usize = 0;
+    let mut i: usize = 0;
+    while i < count {
+        let k = lengths[i];
+        let to = run::after(out.len(), at, n);
+        n = n + put_filter(&mut *out, to, run::piece(bytes, from, k), options[i]);
+        from = run::after(bytes.len(), from, k);
+        i = i + 1;
+    }
+    n
+}
