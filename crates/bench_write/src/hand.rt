@@ -1,10 +1,10 @@
 // What is handed over to `packet_write` for each row: the parts that rows differ in, the others empty.
 use crate::show;
-use packet_write::head::PacketHead;
-use packet_write::write::size;
-use packet_write::write::write;
+use packet_parts::head::PacketHead;
+use packet_write::size;
+use packet_write::write;
 use puback_write::PubAckHead;
-use publish_write::head::PublishHead;
+use publish_plan::head::PublishHead;
 use records::answer::Limit;
 use records::puback_record::PubAckReason;
 use records::qos::QoS;
