@@ -1,5 +1,5 @@
 -- The writer of a kind as the writer of the union. Assumes nothing.
-use mathlib.Core.Path.{_≡_, refl, sym}
+use mathlib.Core.Path.{_≡_, refl, sym, _∙_}
 use mathlib.Core.Bool.{true, false}
 use mathlib.Core.Option.{Option}
 use mathlib.Core.List.{List, []}
@@ -19,9 +19,9 @@ module _ (m : PacketHead) (p : Parts) where
     unfolding unionOf
     alone = rw e
 
-    pub sized-alone : sizeOf (own m p) ≡ sizeOfUnion (unionOf m p)
+    pub sized-alone : {told : Fit ℕ} → told ≡ sizeOf (own m p) → told ≡ sizeOfUnion (unionOf m p)
     unfolding sizeOfUnion
-    sized-alone = sym (rw alone)
+    sized-alone s = s ∙ sym (rw alone)
 
     pub written-alone : (limit : Option ℕ) (before after : List ℕ) (told : Fit ℕ) → Written limit (own m p) before after told → WrittenOfUnion limit (unionOf m p) before after told
     unfolding answerOfUnion outOfUnion outOf

@@ -6,55 +6,10 @@ use records::answer::Sized;
 use records::answer::Written;
 use records::error::Error;
 ghost use mathlib.Core.Path.{_≡_};
-ghost use Rattle.writing.specs.Write.{sizeOf, Written as Writes};
 ghost use Rattle.records.specs.Told.{limitOf};
 ghost use Rattle.records.specs.Answered.{toldSized, toldWritten};
 ghost use Rattle.packet_parts.specs.Parts.{parts};
-ghost use Rattle.packet_write.specs.Union.{own, unionOf, sizeOfUnion, WrittenOfUnion};
-
-// By the kind.
-fn size_own(
-    head: PacketHead,
-    topic: &[u8],
-    response_topic: &[u8],
-    correlation_data: &[u8],
-    user: &[u8],
-    user_lengths: &[usize],
-    subscription_identifiers: &[u32],
-    content_type: &[u8],
-    payload: &[u8],
-    reason_string: &[u8],
-    filters: &[u8],
-    filter_lengths: &[usize],
-    options: &[u8],
-) -> Sized
-    ensures { λ r. ⌜ toldSized r ≡ sizeOf (own head (parts (now (topic .entry)) (now («response_topic» .entry)) (now («correlation_data» .entry)) (now (user .entry)) (now («user_lengths» .entry)) (now («subscription_identifiers» .entry)) (now («content_type» .entry)) (now (payload .entry)) (now («reason_string» .entry)) (now (filters .entry)) (now («filter_lengths» .entry)) (now (options .entry)))) ⌝ }
-{
-    match head {
-        PacketHead::Publish(m) => publish_write::size(
-            m,
-            topic,
-            response_topic,
-            correlation_data,
-            user,
-            user_lengths,
-            subscription_identifiers,
-            content_type,
-            payload,
-        ),
-        PacketHead::PubAck(m) => puback_write::size(m, reason_string, user, user_lengths),
-        PacketHead::Subscribe(m) => subscribe_write::size(
-            m,
-            user,
-            user_lengths,
-            filters,
-            filter_lengths,
-            options,
-        ),
-        PacketHead::PingReq => ping::ping_size(),
-        PacketHead::PingResp => ping::ping_size(),
-    }
-}
+ghost use Rattle.packet_write.specs.Union.{unionOf, sizeOfUnion, WrittenOfUnion};
 
 // How many bytes the frame is: refused with 20, for what does not belong to the record too, then 17 for R.
 pub fn size(
@@ -92,45 +47,8 @@ pub fn size(
     if !alone {
         return Sized::Refused(Error::ListMismatch);
     }
-    size_own(
-        head,
-        topic,
-        response_topic,
-        correlation_data,
-        user,
-        user_lengths,
-        subscription_identifiers,
-        content_type,
-        payload,
-        reason_string,
-        filters,
-        filter_lengths,
-        options,
-    )
-}
-
-// By the kind.
-fn write_own(
-    head: PacketHead,
-    topic: &[u8],
-    response_topic: &[u8],
-    correlation_data: &[u8],
-    user: &[u8],
-    user_lengths: &[usize],
-    subscription_identifiers: &[u32],
-    content_type: &[u8],
-    payload: &[u8],
-    reason_string: &[u8],
-    filters: &[u8],
-    filter_lengths: &[usize],
-    options: &[u8],
-    limit: Limit,
-    out: &mut [u8],
-) -> Written
-    ensures { λ r. ⌜ Writes (limitOf limit) (own head (parts (now (topic .entry)) (now («response_topic» .entry)) (now («correlation_data» .entry)) (now (user .entry)) (now («user_lengths» .entry)) (now («subscription_identifiers» .entry)) (now («content_type» .entry)) (now (payload .entry)) (now («reason_string» .entry)) (now (filters .entry)) (now («filter_lengths» .entry)) (now (options .entry)))) (now (out .entry)) (now (out .exit)) (toldWritten r) ⌝ }
-{
     match head {
-        PacketHead::Publish(m) => publish_write::write(
+        PacketHead::Publish(m) => publish_write::size(
             m,
             topic,
             response_topic,
@@ -140,24 +58,18 @@ fn write_own(
             subscription_identifiers,
             content_type,
             payload,
-            limit,
-            &mut *out,
         ),
-        PacketHead::PubAck(m) => {
-            puback_write::write(m, reason_string, user, user_lengths, limit, &mut *out)
-        }
-        PacketHead::Subscribe(m) => subscribe_write::write(
+        PacketHead::PubAck(m) => puback_write::size(m, reason_string, user, user_lengths),
+        PacketHead::Subscribe(m) => subscribe_write::size(
             m,
             user,
             user_lengths,
             filters,
             filter_lengths,
             options,
-            limit,
-            &mut *out,
         ),
-        PacketHead::PingReq => ping::write_ping_req(&mut *out, limit),
-        PacketHead::PingResp => ping::write_ping_resp(&mut *out, limit),
+        PacketHead::PingReq => ping::ping_size(),
+        PacketHead::PingResp => ping::ping_size(),
     }
 }
 
@@ -199,21 +111,34 @@ pub fn write(
     if !alone {
         return Written::Refused(Error::ListMismatch);
     }
-    write_own(
-        head,
-        topic,
-        response_topic,
-        correlation_data,
-        user,
-        user_lengths,
-        subscription_identifiers,
-        content_type,
-        payload,
-        reason_string,
-        filters,
-        filter_lengths,
-        options,
-        limit,
-        &mut *out,
-    )
+    match head {
+        PacketHead::Publish(m) => publish_write::write(
+            m,
+            topic,
+            response_topic,
+            correlation_data,
+            user,
+            user_lengths,
+            subscription_identifiers,
+            content_type,
+            payload,
+            limit,
+            &mut *out,
+        ),
+        PacketHead::PubAck(m) => {
+            puback_write::write(m, reason_string, user, user_lengths, limit, &mut *out)
+        }
+        PacketHead::Subscribe(m) => subscribe_write::write(
+            m,
+            user,
+            user_lengths,
+            filters,
+            filter_lengths,
+            options,
+            limit,
+            &mut *out,
+        ),
+        PacketHead::PingReq => ping::write_ping_req(&mut *out, limit),
+        PacketHead::PingResp => ping::write_ping_resp(&mut *out, limit),
+    }
 }
