@@ -1,9 +1,10 @@
 // What is handed over to `packet_write` for each row: the parts that rows differ in, the others empty.
 use crate::show;
-use packet_write::head::PacketHead;
-use packet_write::write::write;
+use packet_parts::head::PacketHead;
+use packet_write::size;
+use packet_write::write;
 use puback_write::PubAckHead;
-use publish_write::head::PublishHead;
+use publish_plan::head::PublishHead;
 use records::answer::Limit;
 use records::puback_record::PubAckReason;
 use records::qos::QoS;
@@ -11,6 +12,61 @@ use records::span::MaybeU8;
 use records::span::MaybeU16;
 use records::span::MaybeU32;
 use subscribe_write::SubscribeHead;
+
+// The size asked alone, then the write.
+fn put(
+    rows: u64,
+    what: &[u8],
+    head: PacketHead,
+    topic: &[u8],
+    response: &[u8],
+    correlation: &[u8],
+    user: &[u8],
+    user_lengths: &[usize],
+    ids: &[u32],
+    content: &[u8],
+    payload: &[u8],
+    reason: &[u8],
+    filters: &[u8],
+    filter_lengths: &[usize],
+    options: &[u8],
+    limit: Limit,
+    out: &mut [u8],
+) -> u64 {
+    let s = size(
+        head,
+        topic,
+        response,
+        correlation,
+        user,
+        user_lengths,
+        ids,
+        content,
+        payload,
+        reason,
+        filters,
+        filter_lengths,
+        options,
+    );
+    let w = write(
+        head,
+        topic,
+        response,
+        correlation,
+        user,
+        user_lengths,
+        ids,
+        content,
+        payload,
+        reason,
+        filters,
+        filter_lengths,
+        options,
+        limit,
+        &mut *out,
+    );
+    show::row(rows, what, limit, s, w, &*out)
+}
 
 // A Publish with no property by value; `response` says whether there is a response topic.
 fn head(qos: QoS, pkid: u16, block: bool, response: bool) -> PublishHead {
@@ -33,9 +89,50 @@ pub fn plain(qos: QoS, pkid: u16) -> PublishHead {
     head(qos, pkid, false, false)
 }
 
-// With a property set.
-pub fn with_block(response: bool) -> PublishHead {
-    head(QoS::AtMostOnce, 0, true, response)
+// At QoS 0, and whether with a property set.
+fn at_most_once(block: bool, response: bool) -> PublishHead {
+    head(QoS::AtMostOnce, 0, block, response)
+}
+
+// With every property.
+fn full() -> PublishHead {
+    PublishHead {
+        dup: true,
+        qos: QoS::ExactlyOnce,
+        retain: true,
+        pkid: 258,
+        block: true,
+        payload_format_indicator: MaybeU8::Present(1),
+        message_expiry_interval: MaybeU32::Present(3),
+        topic_alias: MaybeU16::Present(4),
+        response_topic: true,
+        correlation_data: true,
+        content_type: true,
+    }
+}
+
+fn wish_head(id: MaybeU32) -> SubscribeHead {
+    SubscribeHead {
+        pkid: 1,
+        block: true,
+        id,
+    }
+}
+
+fn reason(matching: bool) -> PubAckReason {
+    if matching {
+        return PubAckReason::Success;
+    }
+    PubAckReason::NoMatchingSubscribers
+}
+
+fn ack_head(matching: bool, block: bool, reason_string: bool) -> PubAckHead {
+    PubAckHead {
+        pkid: 10,
+        reason: reason(matching),
+        block,
+        reason_string,
+    }
 }
 
 // Topic a/b and payload hi.
@@ -50,124 +147,131 @@ fn message(
     reason: &[u8],
     limit: Limit,
 ) -> u64 {
+    let none: &[u8] = b"";
     let mut out = [0xAA; 18];
-    let w = write(
+    put(
+        rows,
+        what,
         PacketHead::Publish(m),
         b"a/b",
         response,
-        b"",
+        none,
         user,
         lengths,
         ids,
-        b"",
+        none,
         b"hi",
         reason,
-        b"",
+        none,
         &[],
-        b"",
+        none,
         limit,
         &mut out,
-    );
-    show::row(rows, what, limit, w, &out)
+    )
 }
 
 pub fn bare(rows: u64, what: &[u8], m: PublishHead, limit: Limit) -> u64 {
-    message(rows, what, m, b"", b"", &[], &[], b"", limit)
+    let none: &[u8] = b"";
+    message(rows, what, m, none, none, &[], &[], none, limit)
 }
 
-pub fn with_ids(rows: u64, what: &[u8], m: PublishHead, ids: &[u32], limit: Limit) -> u64 {
-    message(rows, what, m, b"", b"", &[], ids, b"", limit)
+pub fn with_ids(rows: u64, what: &[u8], block: bool, ids: &[u32], limit: Limit) -> u64 {
+    let none: &[u8] = b"";
+    let m = at_most_once(block, false);
+    message(rows, what, m, none, none, &[], ids, none, limit)
 }
 
-pub fn with_user(
-    rows: u64,
-    what: &[u8],
-    m: PublishHead,
-    user: &[u8],
-    lengths: &[usize],
-    limit: Limit,
-) -> u64 {
-    message(rows, what, m, b"", user, lengths, &[], b"", limit)
+pub fn with_user(rows: u64, what: &[u8], user: &[u8], lengths: &[usize], limit: Limit) -> u64 {
+    let none: &[u8] = b"";
+    let m = at_most_once(true, false);
+    message(rows, what, m, none, user, lengths, &[], none, limit)
 }
 
-pub fn with_strings(
-    rows: u64,
-    what: &[u8],
-    m: PublishHead,
-    response: &[u8],
-    reason: &[u8],
-    limit: Limit,
-) -> u64 {
-    message(rows, what, m, response, b"", &[], &[], reason, limit)
+// A response topic in a property set, `present` or not.
+pub fn with_response(rows: u64, what: &[u8], present: bool, response: &[u8], limit: Limit) -> u64 {
+    let none: &[u8] = b"";
+    let m = at_most_once(true, present);
+    message(rows, what, m, response, none, &[], &[], none, limit)
+}
+
+// The reason string of a PubAck.
+pub fn with_reason(rows: u64, what: &[u8], reason: &[u8]) -> u64 {
+    let none: &[u8] = b"";
+    let m = at_most_once(false, false);
+    message(
+        rows,
+        what,
+        m,
+        none,
+        none,
+        &[],
+        &[],
+        reason,
+        Limit::Unlimited,
+    )
 }
 
 // The same into an output that is too short.
-pub fn tight(rows: u64, what: &[u8], m: PublishHead) -> u64 {
+pub fn tight(rows: u64, what: &[u8]) -> u64 {
+    let none: &[u8] = b"";
+    let no_lengths: &[usize] = &[];
     let mut out = [0xAA; 9];
-    let limit = Limit::Unlimited;
-    let w = write(
-        PacketHead::Publish(m),
+    put(
+        rows,
+        what,
+        PacketHead::Publish(at_most_once(false, false)),
         b"a/b",
-        b"",
-        b"",
-        b"",
+        none,
+        none,
+        none,
+        no_lengths,
         &[],
-        &[],
-        b"",
+        none,
         b"hi",
-        b"",
-        b"",
-        &[],
-        b"",
-        limit,
+        none,
+        none,
+        no_lengths,
+        none,
+        Limit::Unlimited,
         &mut out,
-    );
-    show::row(rows, what, limit, w, &out)
+    )
 }
 
 // A topic that is too long.
-pub fn long(rows: u64, what: &[u8], m: PublishHead, limit: Limit) -> u64 {
+pub fn long(rows: u64, what: &[u8], limit: Limit) -> u64 {
+    let none: &[u8] = b"";
+    let no_lengths: &[usize] = &[];
     let topic = [0x61; 65536];
     let mut out = [0xAA; 4];
-    let w = write(
-        PacketHead::Publish(m),
+    put(
+        rows,
+        what,
+        PacketHead::Publish(at_most_once(false, false)),
         &topic,
-        b"",
-        b"",
-        b"",
+        none,
+        none,
+        none,
+        no_lengths,
         &[],
-        &[],
-        b"",
-        b"",
-        b"",
-        b"",
-        &[],
-        b"",
+        none,
+        none,
+        none,
+        none,
+        no_lengths,
+        none,
         limit,
         &mut out,
-    );
-    show::row(rows, what, limit, w, &out)
+    )
 }
 
 // Every property of a Publish.
 pub fn laden(rows: u64, what: &[u8]) -> u64 {
+    let none: &[u8] = b"";
     let mut out = [0xAA; 44];
-    let limit = Limit::Unlimited;
-    let m = PublishHead {
-        dup: true,
-        qos: QoS::ExactlyOnce,
-        retain: true,
-        pkid: 258,
-        block: true,
-        payload_format_indicator: MaybeU8::Present(1),
-        message_expiry_interval: MaybeU32::Present(3),
-        topic_alias: MaybeU16::Present(4),
-        response_topic: true,
-        correlation_data: true,
-        content_type: true,
-    };
-    let w = write(
-        PacketHead::Publish(m),
+    put(
+        rows,
+        what,
+        PacketHead::Publish(full()),
         b"a",
         b"b",
         b"\xFF",
@@ -176,14 +280,13 @@ pub fn laden(rows: u64, what: &[u8]) -> u64 {
         &[5, 128],
         b"c",
         b"\x09",
-        b"",
-        b"",
+        none,
+        none,
         &[],
-        b"",
-        limit,
+        none,
+        Limit::Unlimited,
         &mut out,
-    );
-    show::row(rows, what, limit, w, &out)
+    )
 }
 
 pub fn wish(
@@ -194,67 +297,78 @@ pub fn wish(
     lengths: &[usize],
     options: &[u8],
 ) -> u64 {
+    let none: &[u8] = b"";
     let mut out = [0xAA; 10];
-    let limit = Limit::Unlimited;
-    let w = write(
-        PacketHead::Subscribe(SubscribeHead {
-            pkid: 1,
-            block: true,
-            id,
-        }),
-        b"",
-        b"",
-        b"",
-        b"",
+    put(
+        rows,
+        what,
+        PacketHead::Subscribe(wish_head(id)),
+        none,
+        none,
+        none,
+        none,
         &[],
         &[],
-        b"",
-        b"",
-        b"",
+        none,
+        none,
+        none,
         filters,
         lengths,
         options,
-        limit,
+        Limit::Unlimited,
         &mut out,
-    );
-    show::row(rows, what, limit, w, &out)
+    )
+}
+
+// A wish for filter a.
+pub fn wish_a(rows: u64, what: &[u8], options: u8) -> u64 {
+    let given = [options];
+    wish(rows, what, MaybeU32::Absent, b"a", &[1], &given)
+}
+
+// A wish for nothing.
+pub fn no_wish(rows: u64, what: &[u8], id: MaybeU32) -> u64 {
+    let none: &[u8] = b"";
+    wish(rows, what, id, none, &[], none)
 }
 
 pub fn acked(
     rows: u64,
     what: &[u8],
-    reason: PubAckReason,
+    matching: bool,
     block: bool,
     with_string: bool,
     reason_string: &[u8],
     payload: &[u8],
 ) -> u64 {
+    let none: &[u8] = b"";
+    let no_lengths: &[usize] = &[];
     let mut out = [0xAA; 11];
-    let limit = Limit::Unlimited;
-    let m = PubAckHead {
-        pkid: 10,
-        reason,
-        block,
-        reason_string: with_string,
-    };
-    let w = write(
-        PacketHead::PubAck(m),
-        b"",
-        b"",
-        b"",
-        b"",
+    put(
+        rows,
+        what,
+        PacketHead::PubAck(ack_head(matching, block, with_string)),
+        none,
+        none,
+        none,
+        none,
+        no_lengths,
         &[],
-        &[],
-        b"",
+        none,
         payload,
         reason_string,
-        b"",
-        &[],
-        b"",
-        limit,
+        none,
+        no_lengths,
+        none,
+        Limit::Unlimited,
         &mut out,
-    );
-    show::row(rows, what, limit, w, &out)
+    )
+}
+
+// With no string.
+pub fn ack(rows: u64, what: &[u8], matching: bool, block: bool) -> u64 {
+    let none: &[u8] = b"";
+    acked(rows, what, matching, block, false, none, none)
 }
 
 fn ping_head(request: bool) -> PacketHead {
@@ -265,23 +379,26 @@ fn ping_head(request: bool) -> PacketHead {
 }
 
 pub fn ping(rows: u64, what: &[u8], request: bool, topic: &[u8], limit: Limit) -> u64 {
+    let none: &[u8] = b"";
+    let no_lengths: &[usize] = &[];
     let mut out = [0xAA; 3];
-    let w = write(
+    put(
+        rows,
+        what,
         ping_head(request),
         topic,
-        b"",
-        b"",
-        b"",
+        none,
+        none,
+        none,
+        no_lengths,
         &[],
-        &[],
-        b"",
-        b"",
-        b"",
-        b"",
-        &[],
-        b"",
+        none,
+        none,
+        none,
+        none,
+        no_lengths,
+        none,
         limit,
         &mut out,
-    );
-    show::row(rows, what, limit, w, &out)
+    )
 }

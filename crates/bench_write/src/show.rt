@@ -1,5 +1,6 @@
-// A write and its answer in 01's words, on standard output.
+// A size, a write and their answers in 01's words, on standard output.
 use records::answer::Limit;
+use records::answer::Sized;
 use records::answer::Written;
 use records::error;
 use records::error::Error;
@@ -52,18 +53,44 @@ fn refusal(e: Error) {
     }
 }
 
-// What was handed over, the answer, and the output afterwards; gives the count of rows.
-pub fn row(rows: u64, what: &[u8], most: Limit, w: Written, out: &[u8]) -> u64 {
+fn count(n: usize) {
+    io::print_decimal(1, n as u64);
+}
+
+fn sized(s: Sized) {
+    match s {
+        Sized::Size(n) => {
+            io::write_all(1, b"size ");
+            count(n);
+        }
+        Sized::Refused(e) => {
+            io::write_all(1, b"size refused ");
+            refusal(e);
+        }
+    }
+}
+
+fn written(w: Written) {
+    match w {
+        Written::Size(n) => {
+            io::write_all(1, b"wrote ");
+            count(n);
+        }
+        Written::Refused(e) => {
+            io::write_all(1, b"refused ");
+            refusal(e);
+        }
+    }
+}
+
+// What was handed over, the size asked alone, the answer, and the output afterwards; gives the count of rows.
+pub fn row(rows: u64, what: &[u8], most: Limit, s: Sized, w: Written, out: &[u8]) -> u64 {
     io::write_all(1, what);
     limit(most);
     io::write_all(1, b": ");
-    match w {
-        Written::Size(n) => {
-            io::write_all(1, b"size ");
-            io::print_decimal(1, n as u64);
-        }
-        Written::Refused(e) => refusal(e),
-    }
+    sized(s);
+    io::write_all(1, b"; ");
+    written(w);
     io::write_all(1, b": ");
     bytes(out);
     end(rows)

@@ -6,8 +6,7 @@ use crate::given::maybe_u16;
 use crate::given::maybe_u32;
 use layout::answer;
 use layout::store::store;
-use publish_write::head::PublishHead;
-use publish_write::write;
+use publish_plan::head::PublishHead;
 use records::answer::Written;
 use records::qos::QoS;
 use wire::qos;
@@ -20,7 +19,7 @@ ghost use Rattle.writing.specs.Handed.{publish};
 ghost use Rattle.records.specs.Told.{toldQoS};
 ghost use Rattle.records.specs.Answered.{toldWritten};
 ghost use Rattle.wire.specs.Qos.{qosOf};
-ghost use Rattle.publish_write.specs.Handed.{handed};
+ghost use Rattle.publish_plan.specs.Handed.{handed};
 ghost use Rattle.layout.specs.Record.{limitGiven};
 ghost use Rattle.layout.specs.Item.{fitNumber};
 ghost use Rattle.layout.specs.Answer.{answerNumbers};
@@ -92,7 +91,7 @@ fn sized(
 {
     match qos::qos(qos) {
         GotQos::Refused(e) => Written::Refused(e),
-        GotQos::Value(q) => answer::as_written(write::size(
+        GotQos::Value(q) => answer::as_written(publish_write::size(
             head(
                 q,
                 dup,
@@ -211,7 +210,7 @@ fn written(
 {
     match qos::qos(qos) {
         GotQos::Refused(e) => Written::Refused(e),
-        GotQos::Value(q) => write::write(
+        GotQos::Value(q) => publish_write::write(
             head(
                 q,
                 dup,

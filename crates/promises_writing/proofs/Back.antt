@@ -48,8 +48,9 @@ use Rattle.promises.proofs.Reading.{sentence-read}
 use Rattle.promises.proofs.Reading as promises
 use Rattle.promises.proofs.Parts.{publish-parts, puback-parts}
 use Rattle.promises.proofs.Items.{publish-items, puback-items, subscribe-items, filter-items}
-use Rattle.packet_write.specs.Union.{Parts, foreign, own, unionOf, Wrote}
-use Rattle.packet_write.specs.declared.head.PacketHead.{PacketHead}
+use Rattle.packet_parts.specs.Parts.{Parts, foreign}
+use Rattle.packet_write.specs.Union.{own, unionOf, WrittenOfUnion}
+use Rattle.packet_parts.specs.declared.head.PacketHead.{PacketHead}
 use Rattle.promises_writing.specs.Writing.{Meets, Widths, Lent}
 use Rattle.promises_writing.proofs.Writing as writing
 
@@ -236,7 +237,7 @@ subscribe-no-set h e = rw e
 
 -- ---- all of it, of `packet_write::write`
 
-pub packet-reads-back : (limit : Limit) (m : PacketHead) (p : Parts) (before after : List ℕ) (w : Written) → Wrote (limitOf limit) (unionOf m p) before after (toldWritten w) → Widths m → Lent p
+pub packet-reads-back : (limit : Limit) (m : PacketHead) (p : Parts) (before after : List ℕ) (w : Written) → WrittenOfUnion (limitOf limit) (unionOf m p) before after (toldWritten w) → Widths m → Lent p
     → (n : ℕ) → w ≡ Written.Size n → Plain (own m p) → (r : Read) → reading.Meets Limit.Unlimited after r → Reads after r (meant (own m p)) n
 packet-reads-back limit m p before after w c b l n i q r j =
     let d = writing.of-packet limit m p before after w c in

@@ -32,8 +32,9 @@ use Rattle.records.specs.declared.answer.Limit.{Limit}
 use Rattle.records.specs.declared.answer.Sized.{Sized}
 use Rattle.records.specs.declared.answer.Written.{Written}
 use Rattle.records.specs.declared.error.Error.{Error}
-use Rattle.packet_write.specs.Union.{Parts, foreign, own, unionOf, sizeOfUnion, answerOfUnion, outOfUnion, Wrote}
-use Rattle.packet_write.specs.declared.head.PacketHead.{PacketHead}
+use Rattle.packet_parts.specs.Parts.{Parts, foreign}
+use Rattle.packet_write.specs.Union.{own, unionOf, sizeOfUnion, answerOfUnion, outOfUnion, WrittenOfUnion}
+use Rattle.packet_parts.specs.declared.head.PacketHead.{PacketHead}
 use Rattle.promises_writing.specs.Writing.{Meets, Counts, Refusing, writerRows}
 use Rattle.promises_writing.specs.Writing as refusing
 
@@ -41,7 +42,7 @@ use Rattle.promises_writing.specs.Writing as refusing
 
 -- of `packet_write::write`
 pub of-packet : (limit : Limit) (m : PacketHead) (p : Parts) (before after : List ℕ) (w : Written)
-    → Wrote (limitOf limit) (unionOf m p) before after (toldWritten w) → Meets limit (all isEmpty (foreign m p)) (own m p) before after w
+    → WrittenOfUnion (limitOf limit) (unionOf m p) before after (toldWritten w) → Meets limit (all isEmpty (foreign m p)) (own m p) before after w
 unfolding unionOf
 of-packet limit m p before after w c = c
 

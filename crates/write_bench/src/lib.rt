@@ -1,7 +1,7 @@
 // Writing a Publish, for the benchmark in oracle/, as a function that Rust calls.
-use packet_write::head::PacketHead;
-use packet_write::write::write;
-use publish_write::head::PublishHead;
+use packet_parts::head::PacketHead;
+use packet_write::write;
+use publish_plan::head::PublishHead;
 use records::answer::Limit;
 use records::answer::Written;
 use records::qos::QoS;
@@ -10,7 +10,7 @@ use records::span::MaybeU16;
 use records::span::MaybeU32;
 ghost use mathlib.Core.Path.{_≡_};
 ghost use mathlib.Core.List.{[]};
-ghost use Rattle.packet_write.specs.Union.{parts};
+ghost use Rattle.packet_parts.specs.Parts.{parts};
 ghost use Rattle.write_bench.specs.Count.{qosFor, headOf, Counted};
 
 fn qos(pkid: u16) -> QoS
