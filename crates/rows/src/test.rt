@@ -2,10 +2,10 @@
 // The crate makes none of them before it writes.
 use crate::run;
 use records::error::Error;
+use string_puts::GotStringLength;
+use string_puts::string_length;
 use utf8::is_all_ascii;
 use utf8::is_utf8;
-use wire::string::GotStringLength;
-use wire::string::string_length;
 ghost use mathlib.Core.Path.{_≡_};
 ghost use mathlib.Core.List.{map};
 ghost use Rattle.grammar.specs.Tables.{text, bytes as bytesForm};

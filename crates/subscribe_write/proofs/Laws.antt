@@ -21,7 +21,7 @@ use Rattle.writing.specs.Order.{judge, fieldTests, filterField, small, orNone}
 use Rattle.writing.specs.Write.{firstByte, frameBytes}
 use Rattle.writing.proofs.ForCode.{judgeAll, subscribe-belongs, subscribe-tests, subscribe-sum, subscribe-frame, cap-small, cap-length}
 use Rattle.writing.proofs.Pins.{subscribe-props, first-bytes}
-use Rattle.numbers.proofs.Laws.Put.{length-wide}
+use Rattle.number_puts.proofs.Laws.Put.{length-wide}
 use Rattle.rows.specs.Given.{filtersOf}
 use Rattle.rows.specs.Tested.{first}
 use Rattle.rows.proofs.Laws.Size.{cap-left, cap-both, cap-last}
