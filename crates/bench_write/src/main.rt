@@ -3,7 +3,7 @@
 mod hand;
 mod show;
 
-use numbers::length::put_length;
+use number_puts::length::put_length;
 use records::answer::Limit;
 use records::qos::QoS;
 use records::span::MaybeU32;

@@ -1,4 +1,5 @@
 // The name of a refusal by its number.
+use byte_puts::put_bytes;
 use layout::name;
 use layout::name::Row;
 use records::span::Span;
@@ -21,7 +22,7 @@ pub extern "C" fn ecch_name(number: u32, into: &mut [u8]) -> usize
             let bytes = name.bytes;
             let len = name.len;
             let name = string::part(&bytes, Span { start: 0, len });
-            string::put_bytes(&mut *into, 0, name);
+            put_bytes(&mut *into, 0, name);
             len
         }
     }

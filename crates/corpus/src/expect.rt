@@ -1,6 +1,6 @@
 // What the file says of an answer and of an output, held to what the port gave.
 use crate::file;
-use wire::string;
+use byte_puts::put_bytes;
 
 // The numbers of a stored answer, each at its index, and 0 at every other.
 fn stored(f: &[u8], at: usize) -> [u64; 256] {
@@ -78,6 +78,6 @@ pub fn is_output(out: &[u8], put: &[u8], b: u8) -> bool {
         return false;
     }
     let mut expected = filled(b);
-    string::put_bytes(&mut expected, 0, put);
+    put_bytes(&mut expected, 0, put);
     same_bytes(out, &expected)
 }

@@ -1,5 +1,6 @@
 // What is put into the lent output before it is written: words, numbers and quoted bytes, each from place `at` on, and the place after it.
 // A full output is written to standard output. A place past the end of the output says that something could not be written.
+use byte_puts::put_bytes;
 use libc::STDOUT_FILENO;
 use wire::string;
 ghost use mathlib.Core.Path.{_≡_};
@@ -57,7 +58,7 @@ pub fn word(out: &mut [u8], at: usize, w: &[u8]) -> usize
     ensures { λ r. ⌜ Put (now (out .entry)) (now (w .entry)) (now (out .exit)) r ⌝ }
 {
     let from = room(&*out, at, w.len());
-    string::put_bytes(&mut *out, from, w);
+    put_bytes(&mut *out, from, w);
     after(&*out, from, w.len())
 }
 

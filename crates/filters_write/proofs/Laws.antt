@@ -21,7 +21,7 @@ use Rattle.writing.proofs.Tests.{eq-when, eq-not, le-or}
 use Rattle.writing.proofs.Judge.{judge-append}
 use Rattle.writing.proofs.Sizes.{length-string}
 use Rattle.writing.proofs.ForCode.{runFrom, stringAt, strings-done}
-use Rattle.numbers.proofs.Laws.Put.{wide-one}
+use Rattle.number_puts.proofs.Laws.Put.{wide-one}
 use Rattle.rows.proofs.Laws.Run.{strings-cut}
 use Rattle.row_sizes.proofs.Laws.{cap-left}
 use Rattle.row_puts.specs.Put.{Put}

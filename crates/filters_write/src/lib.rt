@@ -1,12 +1,12 @@
 // The filters of a Subscribe as they are written, after subscribe.rs: whether they belong together, their size, their tests (01, writing
 // order: 14, then 11 after a filter's text) and their bytes. An empty list is refused (D6).
-use numbers::fixed;
+use number_puts::fixed;
 use records::error::Error;
 use row_tests::Tested;
 use row_tests::test_word;
 use rows::belong;
 use rows::run;
-use wire::string::put_string;
+use string_puts::put_string;
 ghost use mathlib.Core.Path.{_≡_};
 ghost use mathlib.Core.Bool.{not, _&&_};
 ghost use mathlib.Core.List.{List, [], map};

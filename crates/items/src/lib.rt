@@ -6,6 +6,7 @@ use records::answer::IdentifierItem;
 use records::answer::UserItem;
 use records::span::Span;
 use wire::property::PropertyPlace;
+use wire::string;
 ghost use Rattle.records.specs.Told.{toldSpan};
 ghost use Rattle.wire.specs.Property.{placeOf};
 ghost use Rattle.items.specs.Nth.{SeekOn, SeekIn, NthRead, NthUser, NthIdentifier};
@@ -58,16 +59,13 @@ fn seek_in(place: PropertyPlace, id: u8, s: &[u8], start: usize, n: usize) -> Se
 fn nth_value(place: PropertyPlace, id: u8, s: &[u8], p: Span, n: usize) -> Seek
     ensures { λ r. ⌜ NthRead (placeOf place) id (now (s .entry)) (toldSpan p) n r ⌝ }
 {
-    let start = p.start;
-    let len = p.len;
-    if s.len() < start {
-        return Seek::Left(n);
+    if string::within(s, p) {
+        let start = p.start;
+        let len = p.len;
+        let end = start + len;
+        return seek_in(place, id, &s[..end], start, n);
     }
-    if s.len() - start < len {
-        return Seek::Left(n);
-    }
-    let end = start + len;
-    seek_in(place, id, &s[..end], start, n)
+    Seek::Left(n)
 }
 
 // The n-th user property of the block at a place.

@@ -11,7 +11,8 @@ use Rattle.reading.specs.Place.{heldOf}
 use Rattle.records.specs.Told.{rowOf, valuesOf}
 use Rattle.names.specs.Names.{padded}
 use Rattle.names.specs.declared.shown.Name.{Name}
-use Rattle.wire.proofs.Laws.Strings.{Putting, putting-next, held-within}
+use Rattle.byte_puts.proofs.Laws.{Putting, putting-next}
+use Rattle.wire.proofs.Laws.Strings.{held-within}
 use Rattle.layout.specs.Item.{fitNumber}
 use Rattle.layout.specs.Answer.{answerNumbers}
 use Rattle.layout.specs.Next.{badNumbers}

@@ -1,5 +1,5 @@
 // A bit, and big-endian numbers of one, two and four bytes, after `read_u8`, `read_u16` and `read_u32` of v5/mod.rs.
-// A read refuses where a byte is lacking; of a put, what would lie past the end is not stored.
+// A read refuses where a byte is lacking.
 use crate::got::GotU8;
 use crate::got::GotU16;
 use crate::got::GotU32;
@@ -7,11 +7,9 @@ use records::error::Error;
 ghost use mathlib.Core.Path.{_≡_};
 ghost use Prim.Native.Nat.{_+_, _-_, _*_, _%_, _<_};
 ghost use lib.ListN.{length};
-ghost use lib.Seq.{sets};
 ghost use Rattle.reading.specs.Refusal.{cut};
 ghost use Rattle.reading.specs.Read.{byteOf, bigOf};
 ghost use Rattle.positions.specs.Position.{fromAt};
-ghost use Rattle.writing.specs.Spell.{wide};
 ghost use Rattle.records.specs.Told.{toldBool};
 ghost use Rattle.numbers.specs.Told.{toldGotU8, toldGotU16, toldGotU32};
 
@@ -73,33 +71,4 @@ pub fn read_u32(s: &[u8], at: usize) -> GotU32
         ),
         at + 4,
     )
-}
-
-// The byte n at index `at`.
-pub fn put_u8(out: &mut [u8], at: usize, n: u8)
-    ensures { λ r. ⌜ now (out .exit) ≡ sets (now (out .entry)) at (wide 1 n) ⌝ }
-{
-    if at < out.len() {
-        out[at] = n;
-    }
-}
-
-// The two bytes of n from index `at` on.
-pub fn put_u16(out: &mut [u8], at: usize, n: u16)
-    ensures { λ r. ⌜ now (out .exit) ≡ sets (now (out .entry)) at (wide 2 n) ⌝ }
-{
-    if at < out.len() {
-        put_u8(&mut *out, at, (n / 256) as u8);
-        put_u8(&mut *out, at + 1, (n % 256) as u8);
-    }
-}
-
-// The four bytes of n from index `at` on.
-pub fn put_u32(out: &mut [u8], at: usize, n: u32)
-    ensures { λ r. ⌜ now (out .exit) ≡ sets (now (out .entry)) at (wide 4 n) ⌝ }
-{
-    if at < out.len() {
-        put_u16(&mut *out, at, (n / 65536) as u16);
-        put_u16(&mut *out, at + 2, (n % 65536) as u16);
-    }
 }

@@ -1,15 +1,11 @@
-// The variable length number, after `length`, `len_len` and `write_remaining_length` of v5/mod.rs: one to four bytes, seven bits each, low group first.
-use crate::fixed;
+// The variable length number, after `length` of v5/mod.rs: one to four bytes, seven bits each, low group first.
 use crate::got::GotU32;
 use records::error::Error;
 ghost use mathlib.Core.Path.{_≡_};
 ghost use Prim.Native.Nat.{_<_};
-ghost use lib.ListN as list;
-ghost use lib.Seq.{sets};
 ghost use Rattle.reading.specs.Refusal.{Refusal, cut};
 ghost use Rattle.reading.specs.Read.{numOf};
 ghost use Rattle.positions.specs.Position.{fromAt};
-ghost use Rattle.writing.specs.Spell.{short};
 ghost use Rattle.numbers.specs.Told.{toldGotU32};
 ghost use Rattle.numbers.specs.Length.{toldLength};
 
@@ -65,51 +61,5 @@ pub fn read_length(s: &[u8], at: usize) -> GotU32
         }
         GotLength::Cut => GotU32::Refused(Error::MalformedPacket),
         GotLength::Long => GotU32::Refused(Error::MalformedRemainingLength),
-    }
-}
-
-// How many bytes the shortest spelling has; four where the number is too large to spell.
-pub fn len_len(n: usize) -> usize
-    ensures { λ r. ⌜ r ≡ list.length (short n) ⌝ }
-{
-    if n < 128 {
-        1
-    } else if n < 16384 {
-        2
-    } else if n < 2097152 {
-        3
-    } else {
-        4
-    }
-}
-
-fn put_groups(out: &mut [u8], at: usize, n: usize) -> usize
-    requires { ⌜ at < list.length (now out) ⌝ }
-    ensures { λ r. ⌜ (now (out .exit) ≡ sets (now (out .entry)) at (short n)) × (r ≡ list.length (short n)) ⌝ }
-{
-    let mut rest = n;
-    let mut i: usize = 0;
-    loop {
-        if rest < 128 {
-            fixed::put_u8(&mut *out, at + i, rest as u8);
-            break i + 1;
-        }
-        fixed::put_u8(&mut *out, at + i, (rest % 128 + 128) as u8);
-        rest = rest / 128;
-        i = i + 1;
-        if 4 <= i {
-            break i;
-        }
-    }
-}
-
-// Puts the shortest spelling, and gives how many bytes it has. A number too large to spell takes four bytes that no reader accepts.
-pub fn put_length(out: &mut [u8], at: usize, n: usize) -> usize
-    ensures { λ r. ⌜ (now (out .exit) ≡ sets (now (out .entry)) at (short n)) × (r ≡ list.length (short n)) ⌝ }
-{
-    if at < out.len() {
-        put_groups(&mut *out, at, n)
-    } else {
-        len_len(n)
     }
 }

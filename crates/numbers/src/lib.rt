@@ -1,5 +1,4 @@
-// Numbers of the codec, after the helpers of v5/mod.rs: of a fixed width and of variable length, read at an index of a slice and put
-// at an index of an output.
+// Numbers of the codec, after the helpers of v5/mod.rs: of a fixed width and of variable length, read at an index of a slice.
 pub mod fixed;
 pub mod got;
 pub mod length;

@@ -23,11 +23,11 @@ use Rattle.numbers.specs.declared.got.GotU16.{GotU16}
 use Rattle.numbers.specs.declared.got.GotU32.{GotU32}
 use Rattle.numbers.specs.declared.length.GotLength.{GotLength}
 use Rattle.wire.specs.Told.{toldPart}
-use Rattle.wire.specs.Written.{toldStringLength}
+use Rattle.string_puts.specs.Written.{toldStringLength}
 use Rattle.wire.specs.Qos.{toldGotQos}
 use Rattle.wire.specs.Property.{toldForm}
 use Rattle.wire.specs.declared.got.GotSpan.{GotSpan}
-use Rattle.wire.specs.declared.string.GotStringLength.{GotStringLength}
+use Rattle.string_puts.specs.declared.GotStringLength.{GotStringLength}
 use Rattle.wire.specs.declared.qos.GotQos.{GotQos}
 use Rattle.wire.specs.declared.property.PropertyForm.{PropertyForm}
 use Rattle.framing.specs.Told.{toldKind, toldHeader, toldChecked, frameAt}

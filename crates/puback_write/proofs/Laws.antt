@@ -20,7 +20,7 @@ use Rattle.writing.proofs.ForCode.{judgeAll, judge-if, ack-belongs, ack-tests, 
 use Rattle.writing.proofs.Pins.{ack-props, first-bytes}
 use Rattle.records.specs.declared.puback_record.PubAckReason.{PubAckReason}
 use Rattle.records.specs.Told.{toldReason}
-use Rattle.numbers.proofs.Laws.Put.{length-wide, wide-one}
+use Rattle.number_puts.proofs.Laws.Put.{length-wide, wide-one}
 use Rattle.row_tests.specs.Tested.{first}
 use Rattle.row_sizes.proofs.Laws.{cap-left, cap-last}
 use Rattle.row_puts.specs.Put.{Put}

@@ -1,7 +1,7 @@
 // A PubAck, written, after `write` and `size` of puback.rs: first every refusal and the size, touching nothing, then the bytes. A plain
 // success is four bytes.
-use numbers::fixed;
-use numbers::length::put_length;
+use number_puts::fixed;
+use number_puts::length::put_length;
 use records::answer::Limit;
 use records::answer::Sized;
 use records::answer::Written;

@@ -1,12 +1,13 @@
 // The bytes of a Publish, after `write` of publish.rs: each function puts its part at an index and gives the place behind it.
 // What would lie past the end is not stored.
-use numbers::fixed;
-use numbers::length::put_length;
+use byte_puts::put_bytes;
+use number_puts::fixed;
+use number_puts::length::put_length;
 use publish_plan::head::PublishHead;
 use publish_plan::size::no_pkid;
 use records::qos::qos_number;
 use rows::run::after;
-use wire::string;
+use string_puts::put_string;
 ghost use mathlib.Core.Path.{_≡_};
 ghost use mathlib.Core.List.{List, _∷_, _++_};
 ghost use Prim.Native.Nat.{ℕ, _≤_};
@@ -139,7 +140,7 @@ fn put_front(out: &mut [u8], head: PublishHead, rest: usize, topic: &[u8]) -> us
     let qos = head.qos;
     let n = settle::put_header(&mut *out, first_byte(head), rest);
     let second = after(out.len(), 0, n);
-    string::put_string(&mut *out, second, topic);
+    put_string(&mut *out, second, topic);
     let third = after(out.len(), second, 2 + topic.len());
     let m = put_pkid(&mut *out, third, qos_number(qos), head.pkid);
     after(out.len(), third, m)
@@ -174,7 +175,7 @@ fn put_back(
         subscription_identifiers,
         content_type,
     );
-    string::put_bytes(&mut *out, third, payload);
+    put_bytes(&mut *out, third, payload);
 }
 
 // The frame, from place 0 on, where R and L are given.

@@ -8,7 +8,7 @@ use native.Mathlib.Numerals.{add-one}
 use lib.ListN.{length, take, drop, getD, set, length-append, drop-of-length-le}
 use lib.Seq.{sets, length-sets, drop-cons}
 use borrow.Author.Tests.{lt-ltb, le-ltb, le-leb, lt-leb, ne-eqb}
-use Rattle.numbers.proofs.Laws.Put.{sets-append}
+use Rattle.byte_puts.proofs.Laws.{sets-append}
 use Rattle.render.specs.Shown.{hexDigit, hexOf, isMarked, isPlain, shownOf, shownSize, shown, fitting, Shows}
 
 -- ---- digits

@@ -1,6 +1,6 @@
 // Bytes and numbers as people read them, put into a lent output: decimal, two hexadecimal digits, and bytes as they stand between double
 // quotes. What would lie past the end of the output is not stored.
-use wire::string;
+use byte_puts::put_bytes;
 ghost use mathlib.Core.Path.{_≡_};
 ghost use mathlib.Core.List.{_∷_, []};
 ghost use Prim.Native.Nat.{_+_, _-_, _%_, _≤_};
@@ -51,7 +51,7 @@ pub fn put_decimal(out: &mut [u8], at: usize, n: u64) -> usize
 {
     let mut text = [0u8; 20];
     let k = io::decimal(n, &mut text);
-    string::put_bytes(&mut *out, at, &text[..k]);
+    put_bytes(&mut *out, at, &text[..k]);
     k
 }
 

@@ -16,7 +16,8 @@ use Rattle.writing.specs.Spell.{wide, short, string, numeral, value, rowBytes}
 use Rattle.writing.proofs.Tests.{le-or}
 use Rattle.writing.proofs.Sizes.{length-string}
 use Rattle.writing.proofs.ForCode.{runFrom, stringAt, strings-done}
-use Rattle.numbers.proofs.Laws.Put.{sets-append, sets-out, length-wide}
+use Rattle.byte_puts.proofs.Laws.{sets-append, sets-out}
+use Rattle.number_puts.proofs.Laws.Put.{length-wide}
 use Rattle.rows.specs.Given.{givenLent}
 use Rattle.rows.proofs.Laws.Run.{strings-cut}
 use Rattle.row_puts.specs.Put.{Put}

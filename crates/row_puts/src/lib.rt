@@ -1,12 +1,12 @@
 // The bytes of a row, after `write` of the properties in publish.rs, subscribe.rs and puback.rs: each function puts them at an index of
 // an output and gives how many they are. What would lie past the end is not stored.
-use numbers::fixed;
-use numbers::length::put_length;
+use number_puts::fixed;
+use number_puts::length::put_length;
 use records::span::MaybeU8;
 use records::span::MaybeU16;
 use records::span::MaybeU32;
 use rows::run;
-use wire::string::put_string;
+use string_puts::put_string;
 ghost use mathlib.Core.Path.{_≡_};
 ghost use mathlib.Core.List.{_∷_, [], _++_};
 ghost use Prim.Native.Nat.{_+_, _^_, _≤_, _<_, min};

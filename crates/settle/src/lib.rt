@@ -1,8 +1,8 @@
 // How every kind is written (01, writing order): the refusals in their order from what a kind has found, its size, and the first bytes
 // of its frame. The crate's `write` of each kind repeats these lines, and tests the limit first (D7).
-use numbers::fixed;
-use numbers::length::len_len;
-use numbers::length::put_length;
+use number_puts::fixed;
+use number_puts::length::len_len;
+use number_puts::length::put_length;
 use records::answer::Limit;
 use records::answer::Sized;
 use records::answer::Written;

@@ -123,14 +123,11 @@ fn nth(s: &[u8], at: usize, n: usize) -> FilterItem
 pub fn filter(s: &[u8], p: Span, n: usize) -> FilterItem
     ensures { λ r. ⌜ NthFilter (now (s .entry)) p n r ⌝ }
 {
-    let start = p.start;
-    let len = p.len;
-    if s.len() < start {
-        return FilterItem::NoItem;
+    if string::within(s, p) {
+        let start = p.start;
+        let len = p.len;
+        let end = start + len;
+        return nth(&s[..end], start, n);
     }
-    if s.len() - start < len {
-        return FilterItem::NoItem;
-    }
-    let end = start + len;
-    nth(&s[..end], start, n)
+    FilterItem::NoItem
 }

@@ -19,7 +19,7 @@ use Rattle.writing.specs.Order.{judge, fieldTests, filterField, small, orNone}
 use Rattle.writing.specs.Write.{firstByte, frameBytes}
 use Rattle.writing.proofs.ForCode.{judgeAll, subscribe-belongs, subscribe-tests, subscribe-sum, subscribe-frame, cap-small, cap-length}
 use Rattle.writing.proofs.Pins.{subscribe-props, first-bytes}
-use Rattle.numbers.proofs.Laws.Put.{length-wide}
+use Rattle.number_puts.proofs.Laws.Put.{length-wide}
 use Rattle.row_tests.specs.Tested.{first}
 use Rattle.row_sizes.proofs.Laws.{cap-left, cap-both, cap-last}
 use Rattle.row_puts.specs.Put.{Put}

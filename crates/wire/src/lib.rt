@@ -1,5 +1,4 @@
-// Strings and tables of the codec, after the helpers of v5/mod.rs: what stands at an index of a slice, what is put at an index of an
-// output, and what a number stands for.
+// Strings and tables of the codec, after the helpers of v5/mod.rs: what stands at an index of a slice, and what a number stands for.
 pub mod got;
 pub mod property;
 pub mod qos;

@@ -1,34 +1,39 @@
 -- `items::nth_value` is right since a place within the slice is the end of the slice that ends where the place does. Assumes nothing.
-use borrow.Author.Needs.{needs}
-use mathlib.Core.Path.{sym}
-use lib.Seq.{length-take-le}
+use mathlib.Core.Path.{sym, _∙_}
+use Prim.Native.Nat.{_+_}
 use native.Mathlib.Omega.{arith}
+use borrow.Author.Needs.{needs}
+use borrow.Author.Tests.{leb-true, leb-false}
+use lib.ListN.{length}
+use lib.Seq.{length-take-le}
+use denote.Ref.{now}
 use Rattle.items.proofs.Laws.Nth.{nth-outside, nth-within}
 use Rattle.items.proofs.nth_value.Statement.{statement}
 use Rattle.items.proofs.nth_value.Tie as tie
 
-returns : tie.Need-returns
-returns c = nth-outside _ _ _ _ _ (omega arith)
-
-sub-if2 : tie.Need-sub-if2
-sub-if2 c = search needs
-
-returns-2 : tie.Need-returns-2
-returns-2 c = nth-outside _ _ _ _ _ (omega arith)
+within-requires : tie.Need-within-requires
+within-requires c κs = search needs
 
 add-end : tie.Need-add-end
-add-end c = search needs
+add-end c =
+    let a = c .before .before .before .args in
+    omega (arith, leb-true (a .p .start + a .p .len) (length (now (a .s))) (sym (c .before .within .ensures) ∙ c .if1 .taken))
 
 slice-aggregate-seek-in : tie.Need-slice-aggregate-seek-in
-slice-aggregate-seek-in c = sym (length-take-le _ _ (omega arith))
+slice-aggregate-seek-in c =
+    let a = c .before .before .before .before .args in
+    sym (length-take-le (a .p .start + a .p .len) (now (a .s)) (leb-true _ _ (sym (c .before .before .within .ensures) ∙ c .before .if1 .taken)))
 
 seek-in-requires : tie.Need-seek-in-requires
 seek-in-requires c κs = search needs
 
-returns-3 : tie.Need-returns-3
-returns-3 c = nth-within _ _ _ _ _ _ (omega arith) (c .seek-in .ensures)
+returns : tie.Need-returns
+returns c = nth-within _ _ _ _ _ _ (leb-true _ _ (sym (c .before .before .before .within .ensures) ∙ c .before .before .if1 .taken)) (c .seek-in .ensures)
+
+returns-2 : tie.Need-returns-2
+returns-2 c = nth-outside _ _ _ _ _ (leb-false _ _ (sym (c .before .within .ensures) ∙ c .if1 .left))
 
 pub nth-value-spec : {M : Type 1} → statement M
 nth-value-spec =
     tie.close
-    (tie.spec returns sub-if2 returns-2 add-end slice-aggregate-seek-in seek-in-requires returns-3)
+    (tie.spec within-requires add-end slice-aggregate-seek-in seek-in-requires returns returns-2)

@@ -2,7 +2,7 @@
 use mathlib.Core.List.{[], _∷_}
 use borrow.Author.Needs.{needs}
 use denote.Ref.{now}
-use Rattle.numbers.proofs.Laws.Put.{sets-out}
+use Rattle.byte_puts.proofs.Laws.{sets-out}
 use Rattle.render.proofs.put.Statement.{statement}
 use Rattle.render.proofs.put.Tie as tie
 

@@ -1,7 +1,7 @@
 -- `render::put_hex` is right since the high digit is that of b / 16; past the end nothing is stored. Assumes nothing.
 use borrow.Author.Needs.{needs}
 use denote.Ref.{now}
-use Rattle.numbers.proofs.Laws.Put.{sets-out}
+use Rattle.byte_puts.proofs.Laws.{sets-out}
 use Rattle.render.specs.Shown.{hexOf}
 use Rattle.render.proofs.Laws.{two-digits}
 use Rattle.render.proofs.put_hex.Statement.{statement}

@@ -6,7 +6,7 @@ use native.Mathlib.Omega.{arith}
 use borrow.Author.Needs.{needs}
 use lib.Seq.{sets}
 use denote.Ref.{now}
-use Rattle.numbers.proofs.Laws.Put.{wide-one}
+use Rattle.number_puts.proofs.Laws.Put.{wide-one}
 use Rattle.row_puts.proofs.put_id.Statement.{statement}
 use Rattle.row_puts.proofs.put_id.Tie as tie
 

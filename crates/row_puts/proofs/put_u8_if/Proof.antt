@@ -4,7 +4,7 @@ use borrow.Author.Needs.{needs}
 use denote.Ref.{now}
 use Rattle.grammar.specs.Tables.{u8}
 use Rattle.writing.specs.Spell.{numeral}
-use Rattle.numbers.proofs.Laws.Put.{wide-one}
+use Rattle.number_puts.proofs.Laws.Put.{wide-one}
 use Rattle.row_puts.proofs.Laws.{put-wide}
 use Rattle.row_puts.proofs.put_u8_if.Statement.{statement}
 use Rattle.row_puts.proofs.put_u8_if.Tie as tie

@@ -9,7 +9,7 @@ use denote.Ref.{now}
 use Rattle.writing.specs.Spell.{short}
 use Rattle.writing.specs.Size.{lenLen}
 use Rattle.writing.proofs.Sizes.{length-short}
-use Rattle.numbers.proofs.Laws.Put.{wide-one}
+use Rattle.number_puts.proofs.Laws.Put.{wide-one}
 use Rattle.row_sizes.proofs.Laws.{len-len-most}
 use Rattle.row_puts.proofs.Laws.{put-row}
 use Rattle.settle.proofs.put_header.Statement.{statement}

@@ -2,7 +2,7 @@
 use Prim.Native.Nat.{_≤_, _-_}
 use native.Mathlib.Omega.{arith}
 use borrow.Author.Needs.{needs}
-use Rattle.wire.proofs.Laws.Strings.{Putting, putting-start, putting-end}
+use Rattle.byte_puts.proofs.Laws.{Putting, putting-start, putting-end}
 use Rattle.layout.proofs.Laws.{stored-next}
 use Rattle.layout.proofs.store.store.Statement.{statement}
 use Rattle.layout.proofs.store.store.Tie as tie

@@ -1,0 +1,3 @@
+pub mod Put
+pub mod Length
+pub mod Leaf

@@ -1,0 +1,26 @@
+-- `number_puts::length::put_length` is right since past the end nothing is stored, and `len_len` counts all the same. Assumes nothing.
+use native.Mathlib.Omega.{arith}
+use borrow.Author.Needs.{needs}
+use Rattle.writing.specs.Spell.{short}
+use Rattle.byte_puts.proofs.Laws.{sets-out}
+use Rattle.number_puts.proofs.length.put_length.Statement.{statement}
+use Rattle.number_puts.proofs.length.put_length.Tie as tie
+
+put-groups-requires : tie.Need-put-groups-requires
+put-groups-requires c κs = search needs
+
+len-len-requires : tie.Need-len-len-requires
+len-len-requires c κs = search needs
+
+same-length : tie.Need-same-length
+same-length c = search needs
+
+returns : tie.Need-returns
+returns c = c .before .before .put-groups .ensures
+
+returns-2 : tie.Need-returns-2
+returns-2 c = let a = c .before .before .before .args in (sets-out (short (a .n)) (a .out .now) (a .at) (omega arith), c .len-len .ensures)
+
+pub put-length-spec : {M : Type 1} → statement M
+put-length-spec =
+    tie.close (tie.spec put-groups-requires len-len-requires same-length returns returns-2)

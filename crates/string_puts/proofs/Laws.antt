@@ -1,0 +1,64 @@
+-- A string put as its length and its bytes, and what the test of the length says. Assumes nothing.
+use mathlib.Core.Path.{_≡_, refl, sym, _∙_}
+use mathlib.Core.Bool.{Bool, true, false}
+use mathlib.Core.List.{List, [], _∷_}
+use Prim.Native.Nat.{ℕ, _+_, _/_, _%_}
+use native.Mathlib.Omega.{arith}
+use lib.Dec.{leb}
+use lib.ListN.{length, length-append}
+use lib.Seq.{sets}
+use Rattle.reading.specs.Refusal.{Refusal, nr}
+use Rattle.reading.specs.Reader.{Fit, got, bad, _>>_, guard}
+use Rattle.reading.proofs.Reading.{bad-got}
+use Rattle.writing.specs.Spell.{wide, string}
+use Rattle.writing.specs.Order.{judge, fits}
+use Rattle.byte_puts.proofs.Laws.{sets-append}
+use Rattle.number_puts.specs.Leaf.{LeafWritten}
+use Rattle.number_puts.proofs.Laws.Put.{length-wide}
+use Rattle.number_puts.proofs.Laws.Leaf.{leaf-refused}
+use Rattle.string_puts.specs.Written.{stringLength}
+
+-- the length of a string, cut to 16 bits
+pub wide-cut : (n : ℕ) → wide 2 (n % 65536) ≡ wide 2 n
+unfolding wide
+wide-cut n =
+    let e : n % 65536 / 256 % 256 ≡ n / 256 % 256 = omega arith in
+    let f : n % 65536 % 256 ≡ n % 256 = omega arith in
+    rw (e, f)
+
+-- a length, and the bytes behind it
+pub put-string : (l l₁ l₂ xs : List ℕ) (at : ℕ) → l₁ ≡ sets l at (wide 2 (length xs % 65536)) → l₂ ≡ sets l₁ (at + 2) xs → l₂ ≡ sets l at (string xs)
+unfolding string
+put-string l l₁ l₂ xs at e f =
+    f ∙ rw (e, wide-cut (length xs), sets-append (wide 2 (length xs)) xs l at, length-wide 2 (length xs))
+
+-- ---- the length's test
+
+-- two bytes of length, and the bytes
+pub length-string : (xs : List ℕ) → 2 + length xs ≡ length (string xs)
+unfolding string
+length-string xs = simp (length-append, length-wide 2 (length xs))
+
+-- a string that is given a length passes the test, and one that is refused does not
+module _ (xs : List ℕ) where
+  pub string-fits : (n : ℕ) → got n ≡ stringLength xs → fits xs .0 ≡ true
+  unfolding judge
+  string-fits n e = go (leb (length xs) 65535) refl
+    where
+      go : (b : Bool) → leb (length xs) 65535 ≡ b → fits xs .0 ≡ true
+      go true h = h
+      go false h =
+          let z : got n ≡ bad (nr 18 (length xs ∷ [])) = rw h at e in
+          absurd (bad-got (sym z))
+
+  pub string-refused : (k : Refusal) (before : List ℕ) → bad k ≡ stringLength xs → LeafWritten (fits xs) (string xs) before before (bad k)
+  unfolding judge
+  string-refused k before e = go (leb (length xs) 65535) refl
+    where
+      go : (b : Bool) → leb (length xs) 65535 ≡ b → LeafWritten (fits xs) (string xs) before before (bad k)
+      go true h =
+          let z : bad k ≡ got (length xs) = rw h at e in
+          absurd (bad-got z)
+      go false h =
+          let z : _≡_ {A = Fit ℕ} (bad k) (bad (nr 18 (length xs ∷ []))) = rw h at e in
+          rw z (leaf-refused (fits xs) (string xs) before h)

@@ -1,0 +1,65 @@
+// Strings as they are written, a u16 length and that many bytes: `write_mqtt_bytes` of v5/mod.rs. The put has no refusal, for callers that
+// have tested; `write_mqtt_bytes` tests for itself.
+use byte_puts::put_bytes;
+use number_puts::fixed;
+use records::answer::Written;
+use records::error::Error;
+ghost use mathlib.Core.Path.{_≡_};
+ghost use Prim.Native.Nat.{_≤_};
+ghost use lib.ListN.{length};
+ghost use lib.Seq.{sets};
+ghost use Rattle.writing.specs.Spell.{string};
+ghost use Rattle.writing.specs.Order.{fits};
+ghost use Rattle.records.specs.Answered.{toldWritten};
+ghost use Rattle.number_puts.specs.Leaf.{LeafWritten};
+ghost use Rattle.string_puts.specs.Written.{toldStringLength, stringLength};
+
+// The length to be written before a string, or 18.
+pub enum GotStringLength {
+    Value(u16),
+    Refused(Error),
+}
+
+// Every writer asks before it puts a byte (D5: the crate cuts the length to 16 bits).
+pub fn string_length(s: &[u8]) -> GotStringLength
+    ensures { λ r. ⌜ toldStringLength r ≡ stringLength (now (s .entry)) ⌝ }
+{
+    if 65535 < s.len() {
+        return GotStringLength::Refused(Error::StringTooLong(s.len()));
+    }
+    let len = s.len() as u16;
+    GotStringLength::Value(len)
+}
+
+// The length is written modulo 65,536, as `string` has it: `string_length` refuses what is longer.
+pub fn put_string(out: &mut [u8], at: usize, s: &[u8])
+    ensures { λ r. ⌜ now (out .exit) ≡ sets (now (out .entry)) at (string (now (s .entry))) ⌝ }
+{
+    if at < out.len() {
+        fixed::put_u16(&mut *out, at, (s.len() % 65536) as u16);
+        put_bytes(&mut *out, at + 2, s);
+    }
+}
+
+// A string whose length is fine.
+fn write_string(out: &mut [u8], s: &[u8]) -> Written
+    requires { ⌜ length (now s) ≤ 65535 ⌝ }
+    ensures { λ r. ⌜ LeafWritten (fits (now (s .entry))) (string (now (s .entry))) (now (out .entry)) (now (out .exit)) (toldWritten r) ⌝ }
+{
+    let size = 2 + s.len();
+    if out.len() < size {
+        return Written::Refused(Error::NoRoom(size));
+    }
+    put_string(&mut *out, 0, s);
+    Written::Size(size)
+}
+
+// Writes a length and the bytes, and gives how many they are together: 18 above 65,535 bytes, then 19 where there is no room.
+pub fn write_mqtt_bytes(out: &mut [u8], s: &[u8]) -> Written
+    ensures { λ r. ⌜ LeafWritten (fits (now (s .entry))) (string (now (s .entry))) (now (out .entry)) (now (out .exit)) (toldWritten r) ⌝ }
+{
+    match string_length(s) {
+        GotStringLength::Refused(e) => Written::Refused(e),
+        GotStringLength::Value(_) => write_string(&mut *out, s),
+    }
+}
