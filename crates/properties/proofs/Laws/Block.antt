@@ -70,7 +70,7 @@ module _ {A : Type 0} (q : ℕ → Filler A) (s : List ℕ) (at : ℕ) where
         last (got a) = rw n
         last (bad k) = refl
 
--- ---- the place of a block
+-- ---- where a block stands
 
 module _ (s : List ℕ) (at : ℕ) where
   pub room-short : (k : Refusal) → bad k ≡ lengthAt s at → bad k ≡ fromAt (roomOf (length s)) s at
@@ -117,9 +117,8 @@ module _ (s : List ℕ) (at : ℕ) where
       go (within l m w o) =
           from-got Stands (record { start = m; len = l }, m + l) (record { size = w; ends = refl; inside = o }) z (room-within l m w o ∙ sym e)
 
-  -- the slice that ends with the block is as long as its end says
-  pub room-cut : {z : Span × ℕ} → got z ≡ fromAt (roomOf (length s)) s at → z .1 ≡ length (take (z .1) s)
-  room-cut {z = z} e = sym (length-take-le (z .1) s (room-stands z e .inside))
+  pub room-inside : {z : Span × ℕ} → got z ≡ fromAt (roomOf (length s)) s at → z .1 ≤ length s
+  room-inside {z = z} e = room-stands z e .inside
 
   -- ---- the block there, of a row
 

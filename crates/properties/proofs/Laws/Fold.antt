@@ -31,7 +31,7 @@ use Rattle.property_value.specs.declared.Value.{Value}
 use Rattle.property_value.specs.declared.GotProperty.the-variants.{Found, Refused}
 use Rattle.properties.specs.Block.{Row, publishRow, subscribeRow, ackRow, applied, loopFrom, filledAt}
 
--- ---- a rule of every entry of a place's row holds of what is looked up there
+-- ---- a rule of every entry of a row holds of what is looked up there
 
 abbrev Every : (ℕ → Form → Type 0) → Place → Type 0
 Every Q [] = Unit {0}
