@@ -10,7 +10,7 @@ use lib.Seq.{drop-cons, length-take-le}
 use Rattle.grammar.specs.Choice.{isEmpty}
 use Rattle.grammar.specs.Tables.{Layout, aPing, isPing}
 use Rattle.grammar.specs.Record.{ping, kindOf}
-use Rattle.reading.specs.Refusal.{Refusal, nr, accepted, refusedAs}
+use Rattle.reading.specs.Refusal.{Refusal, nr, Answer, refusedAs}
 use Rattle.reading.specs.Reader.{Fit, got, bad, _>>_, guard, mapFit, isFit}
 use Rattle.reading.specs.Read.{frameOf, fieldsFit, layoutFit, bodyFit, bodyAnswer, wholeAnswer, frameAnswer, readAs, readOf}
 use Rattle.reading.specs.Place.{asPlaces, Placed, readPlacedOf, sayAnswer}
@@ -77,10 +77,10 @@ left-some s at h = rw (drop-cons s at 0 h)
 
 -- ---- the answer
 
--- a refusal with the bytes taken
-with-taken : (k : Refusal) (n : ℕ) → refusedAs {A = Placed} k n ≡ bodyAnswer n (bad k)
-unfolding bodyAnswer
-with-taken (nr k vs) n = refl
+-- what the body of a whole frame says is the answer to it
+pub whole-as : (n x : ℕ) (b : List ℕ) {f : Fit Placed} → f ≡ bodyFit asPlaces x n b → bodyAnswer n f ≡ wholeAnswer asPlaces n (x, b)
+unfolding wholeAnswer
+whole-as n x b e = ap (bodyAnswer n) e
 
 pub answer-none : (limit : Option ℕ) (s : List ℕ) (k : Refusal) → bad k ≡ frameAt limit s → refusedAs k 0 ≡ readPlacedOf limit s
 answer-none limit s (nr k vs) e = sym (checked-refused limit s asPlaces k vs e)
@@ -98,19 +98,9 @@ module _ (limit : Option ℕ) (s : List ℕ) (x l m : ℕ) (e : got ((x, take l 
   pub frame-count : (n : ℕ) → n ≡ min (m + l) 18446744073709551615 → n ≡ length (take n s)
   frame-count n h = sym (length-take-le n s (omega (arith, checked-within limit s x l m e)))
 
-  module _ (n : ℕ) (h : n ≡ m + l) where
-    answer-whole : (f : Fit Placed) → f ≡ bodyFit asPlaces x (length (take n s)) (drop m (take n s)) → bodyAnswer n f ≡ readPlacedOf limit s
-    unfolding wholeAnswer
-    answer-whole f i =
-        sym (checked-read limit s x l m e asPlaces
-        ∙ rw (← h) (ap (bodyAnswer n) (let j : length (take n s) ≡ n = rw h frame-taken in rw j at (sym i))))
-
-    pub answer-got : (v : Placed) → got v ≡ bodyFit asPlaces x (length (take n s)) (drop m (take n s)) → accepted v n ≡ readPlacedOf limit s
-    unfolding bodyAnswer
-    answer-got v i = answer-whole (got v) i
-
-    pub answer-bad : (k : Refusal) → bad k ≡ bodyFit asPlaces x (length (take n s)) (drop m (take n s)) → refusedAs k n ≡ readPlacedOf limit s
-    answer-bad k i = with-taken k n ∙ answer-whole (bad k) i
+  -- the answer to them is the answer to the stream
+  pub answer-whole : (n : ℕ) → n ≡ m + l → {a : Answer Placed} → a ≡ wholeAnswer asPlaces (length (take n s)) (x, drop m (take n s)) → a ≡ readPlacedOf limit s
+  answer-whole n h i = rw frame-taken at (rw h at i) ∙ sym (checked-read limit s x l m e asPlaces)
 
 -- ---- no more bytes are taken than there are
 

@@ -1,4 +1,4 @@
--- What the answer on a whole frame tells, what an answer takes, and what it says. Assumes nothing.
+-- What an answer takes, and what it says. Assumes nothing.
 use mathlib.Core.Path.{_≡_}
 use mathlib.Core.Option.{Option}
 use mathlib.Core.Logic.{_↔_}
@@ -7,19 +7,12 @@ use Prim.Native.Nat.{ℕ}
 use Rattle.grammar.specs.Sentence.{Packet}
 use Rattle.reading.specs.Refusal.{Answer, accepted, refused}
 use Rattle.reading.specs.Fault.{Verdict}
-use Rattle.reading.specs.Reader.{Fit, got, bad}
-use Rattle.reading.specs.Place.{Placed, readPlacedOf, sayAnswer}
-use Rattle.records.specs.Told.{toldError, limitOf}
-use Rattle.records.specs.Said.{toldPacket}
+use Rattle.reading.specs.Reader.{got}
+use Rattle.reading.specs.Place.{readPlacedOf, sayAnswer}
+use Rattle.records.specs.Told.{limitOf}
 use Rattle.records.specs.Answered.{told}
 use Rattle.records.specs.declared.answer.Limit.{Limit}
 use Rattle.records.specs.declared.answer.Read.{Read}
-use Rattle.packet.specs.declared.GotBody.{GotBody}
-
--- 01, modules: "Publish, Subscribe, PubAck, PingReq, PingResp", or the refusal
-abbrev pub toldBody : GotBody → Fit Placed
-toldBody (GotBody.Value p) = got (toldPacket p)
-toldBody (GotBody.Refused e) = bad (toldError e)
 
 -- the contract of `read`: the answer r to the stream s tells what `reading` answers, every number and place in it
 abbrev pub Meets : Limit → List ℕ → Read → Type 0

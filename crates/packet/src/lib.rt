@@ -12,89 +12,92 @@ use records::packet_record::Packet;
 use subscribe::GotSubscribe;
 ghost use mathlib.Core.Path.{_≡_};
 ghost use mathlib.Core.List.{[]};
-ghost use Prim.Native.Nat.{ℕ, _≤_, _<_};
+ghost use Prim.Native.Nat.{ℕ, _≤_};
 ghost use lib.ListN.{length, drop};
-ghost use Rattle.reading.specs.Read.{bodyFit};
+ghost use Rattle.grammar.specs.Tables.{aPublish, aSubscribe, anAck, reasons};
+ghost use Rattle.grammar.specs.Record.{ping, kindOf};
+ghost use Rattle.reading.specs.Reader.{got};
+ghost use Rattle.reading.specs.Read.{fieldsFit, bodyFit, bodyAnswer, wholeAnswer};
 ghost use Rattle.reading.specs.Place.{asPlaces};
 ghost use Rattle.records.specs.Told.{limitOf};
-ghost use Rattle.puback.specs.Told.{toldGotPubAck};
-ghost use Rattle.publish.specs.Told.{toldGotPublish};
-ghost use Rattle.subscribe.specs.Told.{toldGotSubscribe};
-ghost use Rattle.packet.specs.Told.{toldBody, Meets, takenBy, Judged};
+ghost use Rattle.records.specs.Answered.{told};
+ghost use Rattle.packet.specs.Told.{Meets, takenBy, Judged};
 
-// What a whole frame says, or why it is refused.
-enum GotBody {
-    Value(Packet),
-    Refused(Error),
-}
-
-fn publish_body(got: GotPublish) -> GotBody
-    ensures { λ r. ⌜ toldBody r ≡ toldGotPublish got ⌝ }
+// The fields of a kind, from index `at` to the end of the frame `s`. Each arm of a match returns: a match that has a value keeps a local
+// for it, and what is to be proved of a function grows with its wide locals times its steps.
+fn read_publish(s: &[u8], at: usize, byte1: u8) -> Read
+    ensures { λ r. ⌜ told r ≡ bodyAnswer (length (now (s .entry))) (fieldsFit asPlaces aPublish byte1 (length (now (s .entry))) (drop at (now (s .entry)))) ⌝ }
 {
-    match got {
-        GotPublish::Value(m) => GotBody::Value(Packet::Publish(m)),
-        GotPublish::Refused(e) => GotBody::Refused(e),
+    match publish::read(s, at, byte1) {
+        GotPublish::Value(m) => return Read::Packet(Packet::Publish(m), s.len()),
+        GotPublish::Refused(e) => return Read::Refused(e, s.len()),
     }
 }
 
-fn puback_body(got: GotPubAck) -> GotBody
-    ensures { λ r. ⌜ toldBody r ≡ toldGotPubAck got ⌝ }
+fn read_puback(s: &[u8], at: usize) -> Read
+    ensures { λ r. ⌜ ((x : ℕ) → kindOf x ≡ 4 → told r ≡ bodyAnswer (length (now (s .entry))) (fieldsFit asPlaces (anAck reasons) x (length (now (s .entry))) (drop at (now (s .entry))))) ⌝ }
 {
-    match got {
-        GotPubAck::Value(m) => GotBody::Value(Packet::PubAck(m)),
-        GotPubAck::Refused(e) => GotBody::Refused(e),
+    match puback::read(s, at) {
+        GotPubAck::Value(m) => return Read::Packet(Packet::PubAck(m), s.len()),
+        GotPubAck::Refused(e) => return Read::Refused(e, s.len()),
     }
 }
 
-fn subscribe_body(got: GotSubscribe) -> GotBody
-    ensures { λ r. ⌜ toldBody r ≡ toldGotSubscribe got ⌝ }
+fn read_subscribe(s: &[u8], at: usize) -> Read
+    ensures { λ r. ⌜ ((x : ℕ) → told r ≡ bodyAnswer (length (now (s .entry))) (fieldsFit asPlaces aSubscribe x (length (now (s .entry))) (drop at (now (s .entry))))) ⌝ }
 {
-    match got {
-        GotSubscribe::Value(m) => GotBody::Value(Packet::Subscribe(m)),
-        GotSubscribe::Refused(e) => GotBody::Refused(e),
+    match subscribe::read(s, at) {
+        GotSubscribe::Value(m) => return Read::Packet(Packet::Subscribe(m), s.len()),
+        GotSubscribe::Refused(e) => return Read::Refused(e, s.len()),
     }
+}
+
+// A ping, whatever its bytes.
+fn ping_req(taken: usize) -> Read
+    ensures { λ r. ⌜ told r ≡ bodyAnswer taken (got (ping 12)) ⌝ }
+{
+    Read::Packet(Packet::PingReq, taken)
+}
+
+fn ping_resp(taken: usize) -> Read
+    ensures { λ r. ⌜ told r ≡ bodyAnswer taken (got (ping 13)) ⌝ }
+{
+    Read::Packet(Packet::PingResp, taken)
 }
 
 // R = 0, which only a ping may have: 4, then 5.
-fn read_empty(h: FixedHeader) -> GotBody
-    ensures { λ r. ⌜ ((end : ℕ) → toldBody r ≡ bodyFit asPlaces (h .byte1) end []) ⌝ }
+fn read_empty(h: FixedHeader, taken: usize) -> Read
+    ensures { λ r. ⌜ ((end : ℕ) → told r ≡ bodyAnswer taken (bodyFit asPlaces (h .byte1) end [])) ⌝ }
 {
     match h.packet_type() {
-        Kind::Reserved(num) => GotBody::Refused(Error::InvalidPacketType(num)),
-        Kind::PingReq => GotBody::Value(Packet::PingReq),
-        Kind::PingResp => GotBody::Value(Packet::PingResp),
-        Kind::Publish => GotBody::Refused(Error::PayloadRequired),
-        Kind::PubAck => GotBody::Refused(Error::PayloadRequired),
-        Kind::Subscribe => GotBody::Refused(Error::PayloadRequired),
-        Kind::NotCarried(_) => GotBody::Refused(Error::PayloadRequired),
+        Kind::Reserved(num) => return Read::Refused(Error::InvalidPacketType(num), taken),
+        Kind::PingReq => return ping_req(taken),
+        Kind::PingResp => return ping_resp(taken),
+        Kind::Publish => {}
+        Kind::PubAck => {}
+        Kind::Subscribe => {}
+        Kind::NotCarried(_) => {}
     }
+    Read::Refused(Error::PayloadRequired, taken)
 }
 
-// The fields from index `at` to the end of the frame: 4, then 6, then those of the kind.
-fn read_fields(s: &[u8], at: usize, h: FixedHeader) -> GotBody
-    requires { ⌜ at < length (now s) ⌝ }
-    ensures { λ r. ⌜ toldBody r ≡ bodyFit asPlaces (h .byte1) (length (now (s .entry))) (drop at (now (s .entry))) ⌝ }
-{
-    match h.packet_type() {
-        Kind::Reserved(k) => GotBody::Refused(Error::InvalidPacketType(k)),
-        Kind::NotCarried(k) => GotBody::Refused(Error::KindNotCarried(k)),
-        Kind::Publish => publish_body(publish::read(s, at, h.byte1)),
-        Kind::PubAck => puback_body(puback::read(s, at)),
-        Kind::Subscribe => subscribe_body(subscribe::read(s, at)),
-        Kind::PingReq => GotBody::Value(Packet::PingReq),
-        Kind::PingResp => GotBody::Value(Packet::PingResp),
-    }
-}
-
-// The whole frame `s`, whose header is given.
-fn read_body(s: &[u8], h: FixedHeader) -> GotBody
-    ensures { λ r. ⌜ toldBody r ≡ bodyFit asPlaces (h .byte1) (length (now (s .entry))) (drop (h .«fixed_header_len») (now (s .entry))) ⌝ }
+// The whole frame `s`, whose header is given: 4, then 5, then 6, then the fields of the kind.
+fn read_frame(s: &[u8], h: FixedHeader) -> Read
+    ensures { λ r. ⌜ told r ≡ wholeAnswer asPlaces (length (now (s .entry))) (h .byte1, drop (h .«fixed_header_len») (now (s .entry))) ⌝ }
 {
     let at = h.fixed_header_len;
     if s.len() <= at {
-        return read_empty(h);
+        return read_empty(h, s.len());
     }
-    read_fields(s, at, h)
+    match h.packet_type() {
+        Kind::Reserved(k) => return Read::Refused(Error::InvalidPacketType(k), s.len()),
+        Kind::NotCarried(k) => return Read::Refused(Error::KindNotCarried(k), s.len()),
+        Kind::Publish => return read_publish(s, at, h.byte1),
+        Kind::PubAck => return read_puback(s, at),
+        Kind::Subscribe => return read_subscribe(s, at),
+        Kind::PingReq => return ping_req(s.len()),
+        Kind::PingResp => return ping_resp(s.len()),
+    }
 }
 
 // The packet at the start of the stream and the bytes it takes, or the refusal with the bytes that it takes: none while there is no
@@ -105,13 +108,10 @@ pub fn read(stream: &[u8], limit: Limit) -> Read
     ensures verdict { λ r. ⌜ Judged (limitOf limit) (now (stream .entry)) r ⌝ }
 {
     match check::check(stream, limit) {
-        Checked::Refused(e) => Read::Refused(e, 0),
+        Checked::Refused(e) => return Read::Refused(e, 0),
         Checked::Header(h) => {
             let end = h.frame_length();
-            match read_body(&stream[..end], h) {
-                GotBody::Value(p) => Read::Packet(p, end),
-                GotBody::Refused(e) => Read::Refused(e, end),
-            }
+            return read_frame(&stream[..end], h);
         }
     }
 }

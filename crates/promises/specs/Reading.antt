@@ -41,7 +41,7 @@ pub record PubAckParts (s : List ℕ) (m : PubAck) (w : record-of.Ack (List ℕ)
 -- ---- items
 
 -- 01: "a way to get the n-th pair, identifier or filter, n from 0": every answer that meets the contract of `items::user_property`, of the
--- block b of a place's row, says the k-th of vs, and 21 past the last
+-- block b in a row of 01's table, says the k-th of vs, and 21 past the last
 abbrev pub UserItems : List ℕ → Place → Span → List Value → Type 0
 UserItems s place b vs = (k : ℕ) (u : UserItem) → NthUser place s b k u → onGot (sayVal s) (toldUser u) ≡ nthOf k vs
 

@@ -15,9 +15,9 @@ use Rattle.records.specs.Said.{toldSubscribeBlock, toldPubAckBlock}
 use Rattle.properties.specs.declared.puback_block.GotPubAckBlock.{GotPubAckBlock}
 use Rattle.properties.specs.declared.subscribe_block.GotSubscribeBlock.{GotSubscribeBlock}
 
--- ---- the place of a block
+-- ---- where a block stands
 
--- 01, grammar: "a variable length number L and L bytes", whatever the bytes; the place of the L bytes
+-- 01, grammar: "a variable length number L and L bytes", whatever the bytes; where the L bytes stand
 unfoldable pub roomOf : ℕ → Reader Span
 roomOf = sizedOf (numOf cut 4) crossed (stringFit asPlaces anyBytes cut)
 

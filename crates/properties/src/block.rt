@@ -1,4 +1,4 @@
-// The place of a property block: its length, as the `read`s of publish.rs, subscribe.rs and puback.rs begin. The end of the slice is
+// Where a property block stands: its length, as the `read`s of publish.rs, subscribe.rs and puback.rs begin. The end of the slice is
 // the end of its room.
 use numbers::got::GotU32;
 use numbers::length;

@@ -1,5 +1,5 @@
 // The properties of a PubAck, after `PubAckProperties::read` of puback.rs. Of a reason string given twice the last counts; the
-// user properties are left in the block, whose place the record keeps.
+// user properties are left in the block, and the record keeps where it stands.
 use crate::block;
 use property_value::GotProperty;
 use property_value::Value;
@@ -48,7 +48,7 @@ fn apply(p: PubAckProperties, k: u8, v: Value) -> PubAckProperties
     }
 }
 
-// The block at a place, which ends where the slice does: no read goes past it (D2).
+// The block that stands at `block`, which ends where the slice does: no read goes past it (D2).
 fn fill(s: &[u8], block: Span) -> GotPubAckBlock
     ensures { λ r. ⌜ toldPubAckBlockAt r ≡ filledAt ackRow (now (s .entry)) (toldSpan block) ⌝ }
 {

@@ -1,5 +1,5 @@
 // The properties of a Subscribe, after `SubscribeProperties::read` of subscribe.rs. Of an identifier given twice the last counts; the
-// user properties are left in the block, whose place the record keeps.
+// user properties are left in the block, and the record keeps where it stands.
 use crate::block;
 use property_value::GotProperty;
 use property_value::Value;
@@ -48,7 +48,7 @@ fn apply(p: SubscribeProperties, k: u8, v: Value) -> SubscribeProperties
     }
 }
 
-// The block at a place, which ends where the slice does: no read goes past it (D2).
+// The block that stands at `block`, which ends where the slice does: no read goes past it (D2).
 fn fill(s: &[u8], block: Span) -> GotSubscribeBlock
     ensures { λ r. ⌜ toldSubscribeBlockAt r ≡ filledAt subscribeRow (now (s .entry)) (toldSpan block) ⌝ }
 {

@@ -53,7 +53,7 @@ pub record ValueRead (o : Option tables.Form) (k : ℕ) (s : List ℕ) (at : ℕ
   pub says : toldProperty r ≡ fromAt (valueAt asPlaces o k (length s)) s at
   pub typed : Typed (λ _. o) r
 
--- the property at index `at` of s, in the row of a place
+-- the property at index `at` of s, in the row of a kind of packet
 pub record PropertyRead (row : tables.Place) (s : List ℕ) (at : ℕ) (r : GotProperty) : Type 0 where
   pub says : toldProperty r ≡ fromAt (propertyOf asPlaces row (length s)) s at
   pub typed : Typed (lookup row) r

@@ -1,5 +1,5 @@
 // One property at an index of a slice, an identifier byte and a value: the body of the loops in publish.rs, subscribe.rs and puback.rs,
-// once for all places. The end of the slice is the end of its room.
+// once for all kinds of packet. The end of the slice is the end of its room.
 use numbers::fixed;
 use numbers::got::GotU8;
 use numbers::got::GotU16;
@@ -118,7 +118,7 @@ fn pass_number(s: &[u8], at: usize, start: usize) -> usize
 }
 
 // The index after a property that a Publish keeps in a list, which the loop over its block passes over; `at` if none stands there whole.
-// The answer is one number and no place, so that it stays in a register.
+// The answer is one number and no span, so that it stays in a register.
 pub fn pass_listed(s: &[u8], at: usize) -> usize
     ensures { λ r. ⌜ PropertyPassed publishLists (now (s .entry)) at r ⌝ }
 {

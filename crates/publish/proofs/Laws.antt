@@ -76,7 +76,7 @@ below (suc (suc zero)) q h e = (refl, cc)
 below (suc (suc (suc zero))) q h e = got-bad e
 below (suc (suc (suc (suc n)))) q h e = absurd (omega arith)
 
-pub qos-fine : (x q : ℕ) → got q ≡ qosOf (x / 2 % 4) → (notThree (flagQos x) ≡ true) × (q ≡ flagQos x)
+qos-fine : (x q : ℕ) → got q ≡ qosOf (x / 2 % 4) → (notThree (flagQos x) ≡ true) × (q ≡ flagQos x)
 qos-fine x q e = below (x / 2 % 4) q (omega arith) e
 
 -- ---- the fields
@@ -115,10 +115,14 @@ module _ (s : List ℕ) (at x : ℕ) where
       let h = three (x / 2 % 4) k (omega arith) e in
       rw (h .0, h .1)
 
-  module _ (f : notThree (flagQos x) ≡ true) where
+  -- the flags give the quality of service q
+  module _ (q : ℕ) (g : got q ≡ qosOf (x / 2 % 4)) where
     message : fieldsAt ≡ messageFit asPlaces x (length s) (drop at s)
     unfolding fieldsFit
-    message = rw f
+    message = rw (qos-fine x q g .0)
+
+    is-flags : q ≡ flagQos x
+    is-flags = qos-fine x q g .1
 
     pub topic-bad : (k : Refusal) → bad k ≡ fromAt (bytesOf asPlaces (length s)) s at → bad k ≡ fieldsAt
     unfolding messageFit mapFit
@@ -129,14 +133,14 @@ module _ (s : List ℕ) (at x : ℕ) where
       topic-got : thenFit (bytesOf asPlaces (length s)) (identFit x (length s)) (drop at s) ≡ (identFit x (length s) p (drop a s) >>= λ c. got (p, c))
       topic-got = fill-got (bytesOf asPlaces (length s)) s at (trails-bytes asPlaces (length s)) p a (sym e) (identFit x (length s))
 
-      pub pkid-bad : (k : Refusal) → bad k ≡ fromAt (identOf (flagQos x)) s a → bad k ≡ fieldsAt
+      pub pkid-bad : (k : Refusal) → bad k ≡ fromAt (identOf q) s a → bad k ≡ fieldsAt
       unfolding messageFit mapFit
-      pkid-bad k e₁ = sym (message ∙ rw (topic-got, fill-bad (identOf (flagQos x)) s a (blockFit (length s)) k (sym e₁)))
+      pkid-bad k e₁ = sym (message ∙ rw (topic-got, fill-bad (identOf (flagQos x)) s a (blockFit (length s)) k (sym (rw is-flags at e₁))))
 
       -- the identifier i ends at b
-      module _ (i b : ℕ) (e₁ : got (i, b) ≡ fromAt (identOf (flagQos x)) s a) where
+      module _ (i b : ℕ) (e₁ : got (i, b) ≡ fromAt (identOf q) s a) where
         pkid-got : identFit x (length s) p (drop a s) ≡ (blockFit (length s) i (drop b s) >>= λ c. got (i, c))
-        pkid-got = fill-got (identOf (flagQos x)) s a (trails-reads (reads-ident (flagQos x))) i b (sym e₁) (blockFit (length s))
+        pkid-got = fill-got (identOf (flagQos x)) s a (trails-reads (reads-ident (flagQos x))) i b (sym (rw is-flags at e₁)) (blockFit (length s))
 
         pub block-bad : (k : Refusal) → bad k ≡ fromAt (blockOf asPlaces publishPlace (publishAs asPlaces) (length s)) s b → bad k ≡ fieldsAt
         unfolding messageFit mapFit
@@ -155,6 +159,6 @@ module _ (s : List ℕ) (at x : ℕ) where
               rw (l, m)
 
           pub fields-got :
-              got (publish (record { dup = x / 8 % 2; qos = flagQos x; retain = x % 2; topic = p; ident = i; props = ps; payload = record { start = n; len = length s - n } })) ≡ fieldsAt
+              got (publish (record { dup = x / 8 % 2; qos = q; retain = x % 2; topic = p; ident = i; props = ps; payload = record { start = n; len = length s - n } })) ≡ fieldsAt
           unfolding messageFit mapFit
-          fields-got = sym (message ∙ rw (topic-got, pkid-got, block-got, payload-got))
+          fields-got = sym (message ∙ rw (topic-got, pkid-got, block-got, payload-got, is-flags))

@@ -1,5 +1,5 @@
 // The properties of a Publish, after `PublishProperties::read` of publish.rs. Of a property given twice the last counts; the lists are
-// left in the block, whose place the record keeps.
+// left in the block, and the record keeps where it stands.
 use properties::block;
 use property_value::GotProperty;
 use property_value::Value;
@@ -35,7 +35,7 @@ pub enum GotPublishBlock {
     Refused(Error),
 }
 
-// The single values so far. The flags stand apart from the values: an enum that holds a place has gaps, and a loop that carries such
+// The single values so far. The flags stand apart from the values: an enum that holds a span has gaps, and a loop that carries such
 // enums copies the gaps at each turn, which took three times as long.
 struct Singles {
     response: Span,
@@ -53,7 +53,7 @@ struct Singles {
     has_content: bool,
 }
 
-// No property yet, of the block at a place.
+// No property yet, of the block that stands at `block`.
 fn none(block: Span) -> Singles
     ensures { λ r. ⌜ toldSingles r ≡ publishRow .made (toldSpan block) [] ⌝ }
 {
@@ -178,7 +178,7 @@ fn made(p: Singles) -> PublishProperties
     }
 }
 
-// The block at a place, which ends where the slice does: no read goes past it (D2).
+// The block that stands at `block`, which ends where the slice does: no read goes past it (D2).
 fn fill(s: &[u8], block: Span) -> GotPublishBlock
     ensures { λ r. ⌜ toldPublishBlockAt r ≡ filledAt publishRow (now (s .entry)) (toldSpan block) ⌝ }
 {

@@ -70,7 +70,7 @@ module _ {A : Type 0} (q : ℕ → Filler A) (s : List ℕ) (at : ℕ) where
         last (got a) = rw n
         last (bad k) = refl
 
--- ---- the place of a block
+-- ---- where a block stands
 
 module _ (s : List ℕ) (at : ℕ) where
   pub room-short : (k : Refusal) → bad k ≡ lengthAt s at → bad k ≡ fromAt (roomOf (length s)) s at
@@ -103,12 +103,12 @@ module _ (s : List ℕ) (at : ℕ) where
       go (got (l, m)) e = room l m (sym e) (leb (m + l) (length s)) refl
 
   -- a block that has room: its length before it, its end within the slice
-  pub record Stands (z : Span × ℕ) : Type 0 where
-    pub size : got (z .0 .len, z .0 .start) ≡ lengthAt s at
-    pub ends : z .1 ≡ z .0 .start + z .0 .len
-    pub inside : z .1 ≤ length s
+  record Stands (z : Span × ℕ) : Type 0 where
+    size : got (z .0 .len, z .0 .start) ≡ lengthAt s at
+    ends : z .1 ≡ z .0 .start + z .0 .len
+    inside : z .1 ≤ length s
 
-  pub room-stands : (z : Span × ℕ) → got z ≡ fromAt (roomOf (length s)) s at → Stands z
+  room-stands : (z : Span × ℕ) → got z ≡ fromAt (roomOf (length s)) s at → Stands z
   room-stands z e = go way
     where
       go : Way → Stands z
@@ -117,6 +117,9 @@ module _ (s : List ℕ) (at : ℕ) where
       go (within l m w o) =
           from-got Stands (record { start = m; len = l }, m + l) (record { size = w; ends = refl; inside = o }) z (room-within l m w o ∙ sym e)
 
+  pub room-inside : {z : Span × ℕ} → got z ≡ fromAt (roomOf (length s)) s at → z .1 ≤ length s
+  room-inside {z = z} e = room-stands z e .inside
+
   -- ---- the block there, of a row
 
   module _ (w : Row) where
@@ -124,35 +127,39 @@ module _ (s : List ℕ) (at : ℕ) where
     blockAt = fromAt (blockOf asPlaces (w .place) (blockAs w) (length s)) s at
 
     -- what has no room is no block
-    pub block-bad : (k : Refusal) → bad k ≡ fromAt (roomOf (length s)) s at → bad k ≡ blockAt
+    pub block-bad : {k : Refusal} → bad k ≡ fromAt (roomOf (length s)) s at → bad k ≡ blockAt
     unfolding blockOf
-    block-bad k e = go way
+    block-bad {k = k} e = go way
       where
         go : Way → bad k ≡ sizedAt (handFit (blockAs w) (propertiesFit asPlaces (w .place))) s at
         go (short k′ v) = ap bad (bad-inj (e ∙ sym (room-short k′ v))) ∙ sized-short (handFit (blockAs w) (propertiesFit asPlaces (w .place))) s at k′ v
         go (over l m v o) = ap bad (bad-inj (e ∙ sym (room-over l m v o))) ∙ sized-over (handFit (blockAs w) (propertiesFit asPlaces (w .place))) s at l m v o
         go (within l m v o) = absurd (bad-got (e ∙ sym (room-within l m v o)))
 
-    module _ (W : Lawful w) where
-      -- 01: "L = 0 means absent"
-      pub block-absent : (z : Span × ℕ) → Stands z → z .0 .len ≡ 0 → got (none, z .1) ≡ blockAt
-      unfolding blockOf
-      block-absent z h e =
-          let i : z .0 .start + 0 ≡ z .1 = omega (arith, h .ends) in
-          sym (
-          sized-within (handFit (blockAs w) (propertiesFit asPlaces (w .place))) s at (z .0 .len) (z .0 .start) (h .size) (omega (arith, h .ends, h .inside))
-          ∙ rw (e, block-none w W (z .0 .start + 0), i)
-          )
+  module _ {w : Row} (W : Lawful w) {z : Span × ℕ} (r : got z ≡ fromAt (roomOf (length s)) s at) where
+    h : Stands z
+    h = room-stands z r
 
-      -- else properties fill the slice that ends where the block does
-      pub block-present : (z : Span × ℕ) → Stands z → 0 < z .0 .len → filledAt w (take (z .1) s) (z .0) ≡ blockAt
-      unfolding blockOf filledAt loopFrom
-      block-present z h pos =
-          let o : z .0 .start + z .0 .len ≤ length s = omega (arith, h .ends, h .inside) in
-          let n : length (take (z .0 .start + z .0 .len) s) ≡ z .0 .start + z .0 .len = length-take-le (z .0 .start + z .0 .len) s o in
-          let i : 0 < length (take (z .0 .len) (drop (z .0 .start) s)) = rw (length-take-le (z .0 .len) (drop (z .0 .start) s) (rw length-drop (omega arith))) pos in
-          sym (
-          sized-within (handFit (blockAs w) (propertiesFit asPlaces (w .place))) s at (z .0 .len) (z .0 .start) (h .size) o
-          ∙ rw (block-some w W (z .0 .start + z .0 .len) (take (z .0 .len) (drop (z .0 .start) s)) i, span-at s (z .0 .len) (z .0 .start) o, part-slice s (z .0 .len) (z .0 .start) o, h .ends, n)
-          (then-end (z .0 .start + z .0 .len) (loopOn w (z .0 .start + z .0 .len) (w .made (z .0) []) (drop (z .0 .start) (take (z .0 .start + z .0 .len) s))))
-          )
+    -- 01: "L = 0 means absent"
+    pub block-absent : z .0 .len ≡ 0 → got (none, z .1) ≡ blockAt w
+    unfolding blockOf
+    block-absent e =
+        let i : z .0 .start + 0 ≡ z .1 = omega (arith, h .ends) in
+        sym (
+        sized-within (handFit (blockAs w) (propertiesFit asPlaces (w .place))) s at (z .0 .len) (z .0 .start) (h .size) (omega (arith, h .ends, h .inside))
+        ∙ rw (e, block-none w W (z .0 .start + 0), i)
+        )
+
+    -- else properties fill the slice that ends where the block does
+    pub block-present : (z .0 .len ≡ 0 → ⊥) → filledAt w (take (z .1) s) (z .0) ≡ blockAt w
+    unfolding blockOf filledAt loopFrom
+    block-present ne =
+        let pos : 0 < z .0 .len = omega (arith, ne) in
+        let o : z .0 .start + z .0 .len ≤ length s = omega (arith, h .ends, h .inside) in
+        let n : length (take (z .0 .start + z .0 .len) s) ≡ z .0 .start + z .0 .len = length-take-le (z .0 .start + z .0 .len) s o in
+        let i : 0 < length (take (z .0 .len) (drop (z .0 .start) s)) = rw (length-take-le (z .0 .len) (drop (z .0 .start) s) (rw length-drop (omega arith))) pos in
+        sym (
+        sized-within (handFit (blockAs w) (propertiesFit asPlaces (w .place))) s at (z .0 .len) (z .0 .start) (h .size) o
+        ∙ rw (block-some w W (z .0 .start + z .0 .len) (take (z .0 .len) (drop (z .0 .start) s)) i, span-at s (z .0 .len) (z .0 .start) o, part-slice s (z .0 .len) (z .0 .start) o, h .ends, n)
+        (then-end (z .0 .start + z .0 .len) (loopOn w (z .0 .start + z .0 .len) (w .made (z .0) []) (drop (z .0 .start) (take (z .0 .start + z .0 .len) s))))
+        )

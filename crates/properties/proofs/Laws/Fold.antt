@@ -23,12 +23,15 @@ use Rattle.positions.specs.Position.{fromAt}
 use Rattle.positions.proofs.Walk.{fold-nil, fold-bad, fold-next}
 use Rattle.positions.proofs.Less.{property-less}
 use Rattle.positions.proofs.Position.{bad-left}
-use Rattle.property_value.specs.Told.{formOf, publishLists, nextOr, PropertyPassed}
+use Rattle.records.specs.Told.{toldError}
+use Rattle.records.specs.declared.error.Error.{Error}
+use Rattle.property_value.specs.Told.{toldValue, formOf, publishLists, nextOr, PropertyRead, PropertyPassed}
 use Rattle.property_value.proofs.Laws.Value.{value-tag, property-left, property-ahead}
 use Rattle.property_value.specs.declared.Value.{Value}
+use Rattle.property_value.specs.declared.GotProperty.the-variants.{Found, Refused}
 use Rattle.properties.specs.Block.{Row, publishRow, subscribeRow, ackRow, applied, loopFrom, filledAt}
 
--- ---- a rule of every entry of a place's row holds of what is looked up there
+-- ---- a rule of every entry of a row holds of what is looked up there
 
 abbrev Every : (ℕ → Form → Type 0) → Place → Type 0
 Every Q [] = Unit {0}
@@ -218,17 +221,21 @@ pub filling-start : (w : Row) (s : List ℕ) (o : w .Props) (at : ℕ) → Filli
 filling-start w s o at = record { rest = refl }
 
 module _ {w : Row} {s : List ℕ} {whole : Fit (w .Props)} {o : w .Props} {at : ℕ} (f : Filling w s whole o at) where
-  pub filling-next : at < length s → (a : PropOf Span) (n : ℕ) → got (a, n) ≡ propertyAt w s at → (o′ : w .Props) → o′ ≡ applied w o a → Filling w s whole o′ n
-  filling-next h a n e o′ i = record { rest = f .rest ∙ loop-next w s at h a n e o ∙ ap (λ (u : w .Props). loopFrom w u s n) (sym i) }
+  filling-by : at < length s → (a : PropOf Span) (n : ℕ) → got (a, n) ≡ propertyAt w s at → (o′ : w .Props) → o′ ≡ applied w o a → Filling w s whole o′ n
+  filling-by h a n e o′ i = record { rest = f .rest ∙ loop-next w s at h a n e o ∙ ap (λ (u : w .Props). loopFrom w u s n) (sym i) }
 
-  pub filling-ahead : at < length s → (a : PropOf Span) (n : ℕ) → got (a, n) ≡ propertyAt w s at → at < n
-  filling-ahead h a n e = property-ahead (w .place) s at a n e
+  pub filling-next : at < length s → {k n : ℕ} {v : Value} {o′ : w .Props} → PropertyRead (w .place) s at (Found k v n) → o′ ≡ applied w o (k, toldValue v) → Filling w s whole o′ n
+  filling-next h {k = k} {n = n} {v = v} {o′ = o′} P i = filling-by h (k, toldValue v) n (P .says) o′ i
 
   filling-bad : at < length s → (k : Refusal) → bad k ≡ propertyAt w s at → whole ≡ bad k
   filling-bad h k e = f .rest ∙ loop-bad w s at h o k e
 
   filling-end : length s ≤ at → whole ≡ got o
   filling-end h = f .rest ∙ loop-end w o s at h
+
+-- a property takes a byte at least
+pub read-ahead : {place : Place} {s : List ℕ} {at k n : ℕ} {v : Value} → PropertyRead place s at (Found k v n) → at < n
+read-ahead {place = place} {s = s} {at = at} {k = k} {n = n} {v = v} P = property-ahead place s at (k, toldValue v) n (P .says)
 
 -- a property of a list is passed over
 module _ {s : List ℕ} {at r : ℕ} (P : PropertyPassed publishLists s at r) (ne : r ≡ at → ⊥) where
@@ -249,12 +256,12 @@ module _ {s : List ℕ} {at r : ℕ} (P : PropertyPassed publishLists s at r) (n
   unfolding fromAt
   filling-over {o = o} f h =
       let (e, still) = same (length s) (drop at s) (over .0, drop r s) (property-left publishLists s at (over .0) r (over .1)) in
-      filling-next f h (over .0) r (over .1 ∙ rw e) o (sym (still o))
+      filling-by f h (over .0) r (over .1 ∙ rw e) o (sym (still o))
 
 module _ {w : Row} {s : List ℕ} {o₀ o : w .Props} {at : ℕ} (p : Span) (i : o₀ ≡ w .made p []) (f : Filling w s (loopFrom w o₀ s (p .start)) o at) where
-  pub filled-bad : at < length s → (k : Refusal) → bad k ≡ propertyAt w s at → bad k ≡ filledAt w s p
+  pub filled-bad : at < length s → {e : Error} → PropertyRead (w .place) s at (Refused e) → bad (toldError e) ≡ filledAt w s p
   unfolding filledAt
-  filled-bad h k e = rw (sym i, filling-bad f h k e)
+  filled-bad h {e = e} P = rw (sym i, filling-bad f h (toldError e) (P .says))
 
   pub filled-end : length s ≤ at → got (some o, length s) ≡ filledAt w s p
   unfolding filledAt

@@ -1,6 +1,6 @@
 -- `publish_properties::fill` meets its contract. The loop's invariant: the rest of the loop decides the whole. Each property takes a byte at
 -- least, and what is left of the slice is the measure. Assumes nothing.
-use mathlib.Core.Path.{sym, ap, _∙_}
+use mathlib.Core.Path.{ap, _∙_}
 use mathlib.Core.Option.{some}
 use Prim.Native.Nat.{_-_}
 use native.Mathlib.Omega.{arith}
@@ -8,10 +8,9 @@ use lib.ListN.{length}
 use borrow.Author.Needs.{needs}
 use Rattle.reading.specs.Reader.{got}
 use Rattle.records.specs.Told.{toldSpan}
-use Rattle.property_value.specs.Told.{toldProperty}
 use Rattle.properties.specs.Block.{publishRow, loopFrom}
 use Rattle.publish_properties.specs.Singles.{toldSingles}
-use Rattle.properties.proofs.Laws.Fold.{Filling, filling-start, filling-next, filling-ahead, over-ahead, filling-over, filled-bad, filled-end}
+use Rattle.properties.proofs.Laws.Fold.{Filling, filling-start, filling-next, read-ahead, over-ahead, filling-over, filled-bad, filled-end}
 use Rattle.publish_properties.proofs.fill.Statement.{statement}
 use Rattle.publish_properties.proofs.fill.Tie as tie
 
@@ -48,14 +47,12 @@ apply-requires c κs = rw (c .before .k .given .1) at (c .before .before .before
 loop-less-2 : tie.Need-loop-less-2 Inv-loop μ-loop
 loop-less-2 c =
     let b = c .before .before .before .before in
-    let e = sym (ap toldProperty (c .before .before .k .given .1)) ∙ b .read-property .ensures .says in
-    omega (arith, b .before .before .before .loop-test .taken, filling-ahead (b .before .before .before .before .loop .inv) (b .before .before .before .loop-test .taken) _ _ e)
+    omega (arith, b .before .before .before .loop-test .taken, read-ahead (rw (c .before .before .k .given .1) at (b .read-property .ensures)))
 
 loop-again-2 : tie.Need-loop-again-2 Inv-loop μ-loop
 loop-again-2 c =
     let b = c .before .before .before .before in
-    let e = sym (ap toldProperty (c .before .before .k .given .1)) ∙ b .read-property .ensures .says in
-    filling-next (b .before .before .before .before .loop .inv) (b .before .before .before .loop-test .taken) _ _ e _ (c .apply .ensures)
+    filling-next (b .before .before .before .before .loop .inv) (b .before .before .before .loop-test .taken) (rw (c .before .before .k .given .1) at (b .read-property .ensures)) (c .apply .ensures)
 
 enum-known-e : tie.Need-enum-known-e Inv-loop μ-loop
 enum-known-e c = search needs
@@ -63,8 +60,7 @@ enum-known-e c = search needs
 returns : tie.Need-returns Inv-loop μ-loop
 returns c =
     let b = c .before .before .before in
-    let e = sym (ap toldProperty (c .before .e .given .1)) ∙ b .read-property .ensures .says in
-    filled-bad (toldSpan (c .before .before .before .before .before .before .before .before .before .before .args .block)) (c .before .before .before .before .before .before .before .before .none .ensures) (b .before .before .before .before .loop .inv) (b .before .before .before .loop-test .taken) _ e
+    filled-bad _ (b .before .before .before .before .before .none .ensures) (b .before .before .before .before .loop .inv) (b .before .before .before .loop-test .taken) (rw (c .before .e .given .1) at (b .read-property .ensures))
 
 made-requires : tie.Need-made-requires Inv-loop μ-loop
 made-requires c κs = search needs

@@ -1,16 +1,14 @@
 -- `properties::subscribe_block::fill` meets its contract. The loop's invariant: the rest of the loop decides the whole. Each property takes a byte at
 -- least, and what is left of the slice is the measure. Assumes nothing.
-use mathlib.Core.Path.{refl, sym, ap, _∙_}
+use mathlib.Core.Path.{refl}
 use Prim.Native.Nat.{_-_}
 use native.Mathlib.Omega.{arith}
 use lib.ListN.{length}
 use borrow.Author.Needs.{needs}
 use Rattle.grammar.specs.Record.{lastOf, subscribeProps}
-use Rattle.records.specs.Told.{toldSpan}
 use Rattle.records.specs.Said.{toldSubscribeProperties}
-use Rattle.property_value.specs.Told.{toldProperty}
 use Rattle.properties.specs.Block.{subscribeRow, loopFrom}
-use Rattle.properties.proofs.Laws.Fold.{Filling, filling-start, filling-next, filling-ahead, filled-bad, filled-end}
+use Rattle.properties.proofs.Laws.Fold.{Filling, filling-start, filling-next, read-ahead, filled-bad, filled-end}
 use Rattle.properties.proofs.subscribe_block.fill.Statement.{statement}
 use Rattle.properties.proofs.subscribe_block.fill.Tie as tie
 
@@ -35,14 +33,12 @@ apply-requires c κs = rw (c .before .k .given .1) at (c .before .before .before
 loop-less : tie.Need-loop-less Inv-loop μ-loop
 loop-less c =
     let b = c .before .before .before .before in
-    let e = sym (ap toldProperty (c .before .before .k .given .1)) ∙ b .read-property .ensures .says in
-    omega (arith, b .before .loop-test .taken, filling-ahead (b .before .before .loop .inv) (b .before .loop-test .taken) _ _ e)
+    omega (arith, b .before .loop-test .taken, read-ahead (rw (c .before .before .k .given .1) at (b .read-property .ensures)))
 
 loop-again : tie.Need-loop-again Inv-loop μ-loop
 loop-again c =
     let b = c .before .before .before .before in
-    let e = sym (ap toldProperty (c .before .before .k .given .1)) ∙ b .read-property .ensures .says in
-    filling-next (b .before .before .loop .inv) (b .before .loop-test .taken) _ _ e _ (c .apply .ensures)
+    filling-next (b .before .before .loop .inv) (b .before .loop-test .taken) (rw (c .before .before .k .given .1) at (b .read-property .ensures)) (c .apply .ensures)
 
 enum-known-e : tie.Need-enum-known-e Inv-loop μ-loop
 enum-known-e c = search needs
@@ -51,12 +47,11 @@ returns : tie.Need-returns Inv-loop μ-loop
 unfolding subscribeProps lastOf
 returns c =
     let b = c .before .before .before in
-    let e = sym (ap toldProperty (c .before .e .given .1)) ∙ b .read-property .ensures .says in
-    filled-bad (toldSpan (c .before .before .before .before .before .before .before .args .block)) refl (b .before .before .loop .inv) (b .before .loop-test .taken) _ e
+    filled-bad _ refl (b .before .before .loop .inv) (b .before .loop-test .taken) (rw (c .before .e .given .1) at (b .read-property .ensures))
 
 returns-2 : tie.Need-returns-2 Inv-loop μ-loop
 unfolding subscribeProps lastOf
-returns-2 c = filled-end (toldSpan (c .before .before .before .args .block)) refl (c .before .loop .inv) (c .loop-test .left)
+returns-2 c = filled-end _ refl (c .before .loop .inv) (c .loop-test .left)
 
 pub fill-spec : {M : Type 1} → statement M
 fill-spec =
