@@ -1,25 +1,21 @@
--- What is found of a Publish: what belongs together, the tests in order, and the sums cut off, each from its parts; and its frame.
--- Assumes nothing.
+-- What is found of a Publish: what belongs together, the tests in order, and the sums cut off, each from its parts. Assumes nothing.
 use mathlib.Core.Path.{_≡_, refl, sym, ap, _∙_}
 use mathlib.Core.Bool.{Bool, true, false, _&&_, _||_, and-true}
-use mathlib.Core.List.{List, [], _∷_, _++_, map}
-use Prim.Native.Nat.{ℕ, _+_, _≤_}
+use mathlib.Core.List.{List, [], map}
+use Prim.Native.Nat.{ℕ, _+_}
 use native.Mathlib.Omega.{arith}
 use lib.Dec.{eqb}
 use lib.ListN.{length}
-use lib.Seq.{sets}
 use Rattle.grammar.specs.Tables.{u8, u16, u32, number, text, bytes, pair, publishPlace}
 use Rattle.grammar.specs.Sentence.{notZero}
 use Rattle.reading.specs.Refusal.{nr}
 use Rattle.reading.specs.Reader.{Fit, got, bad, _>>_}
 use Rattle.writing.specs.Lists.{flat}
 use Rattle.writing.specs.Handed.{PublishHanded, publish, lent, several, publishGiven, strings, rowBelongs, belongs}
-use Rattle.writing.specs.Spell.{short, string, propsBytes}
-use Rattle.writing.specs.Size.{most, withLength, givenSize, propsSize, noIdent, identSize, restIs, cap}
+use Rattle.writing.specs.Size.{withLength, givenSize, propsSize, noIdent, identSize, restIs, cap}
 use Rattle.writing.specs.Order.{judge, raw, word, fieldTests, givenFields, fieldsOf, small}
-use Rattle.writing.specs.Write.{firstByte, identBytes, frameBytes}
 use Rattle.writing.proofs.Tests.{eq-when, eq-not}
-use Rattle.writing.proofs.ForCode.{publish-belongs, judge-if, publish-tests, publish-sum, publish-frame, cap-small, cap-length}
+use Rattle.writing.proofs.ForCode.{publish-belongs, judge-if, publish-tests, publish-sum, cap-length}
 use Rattle.rows.specs.Given.{givenU8, givenU16, givenU32, givenLent, givenPairs}
 use Rattle.row_tests.specs.Tested.{first}
 use Rattle.row_sizes.proofs.Laws.{cap-left, cap-both}
