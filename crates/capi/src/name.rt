@@ -1,13 +1,11 @@
 // The name of a refusal by its number.
 use byte_puts::put_bytes;
-use layout::name;
-use layout::name::Row;
 use records::span::Span;
 use wire::string;
 ghost use mathlib.Core.Path.{_≡_};
 ghost use lib.ListN.{length};
 ghost use lib.Seq.{sets};
-ghost use Rattle.layout.specs.Name.{nameAt};
+ghost use Rattle.names.specs.Names.{nameAt};
 
 // How many bytes the name has; those that fit are stored.
 #[no_mangle]
@@ -15,15 +13,10 @@ pub extern "C" fn ecch_name(number: u32, into: &mut [u8]) -> usize
     ensures size { λ r. ⌜ r ≡ length (nameAt number) ⌝ }
     ensures stored { λ r. ⌜ now (into .exit) ≡ sets (now (into .entry)) 0 (nameAt number) ⌝ }
 {
-    match name::of_number(number) {
-        Row::None => 0,
-        Row::Some(e) => {
-            let name = names::name(e);
-            let bytes = name.bytes;
-            let len = name.len;
-            let name = string::part(&bytes, Span { start: 0, len });
-            put_bytes(&mut *into, 0, name);
-            len
-        }
-    }
+    let name = names::name_at(number);
+    let bytes = name.bytes;
+    let len = name.len;
+    let name = string::part(&bytes, Span { start: 0, len });
+    put_bytes(&mut *into, 0, name);
+    len
 }

@@ -1,14 +1,14 @@
 // The packet at the start of a stream, and the part at a place.
-use crate::given::bound;
-use layout::record;
-use layout::store::store;
+use given::number::bound;
+use layout_read::store_read;
 use records::span::Span;
 use wire::string;
 ghost use mathlib.Core.Path.{_≡_};
 ghost use lib.ListN.{length};
 ghost use lib.Seq.{sets};
 ghost use Rattle.reading.specs.Place.{readPlacedOf, heldOf};
-ghost use Rattle.layout.specs.Record.{limitGiven, numberOf, encoded};
+ghost use Rattle.layout_read.specs.Record.{numberOf, encoded};
+ghost use Rattle.given.specs.Given.{limitGiven};
 
 // 0, or the refusal's number; every number of the layout is stored.
 #[no_mangle]
@@ -17,9 +17,7 @@ pub extern "C" fn ecch_read(stream: &[u8], limited: u8, limit: usize, into: &mut
     ensures stored { λ r. ⌜ now (into .exit) ≡ sets (now (into .entry)) 0 (encoded (readPlacedOf (limitGiven limited limit) (now (stream .entry)))) ⌝ }
 {
     let read = packet::read(stream, bound(limited, limit));
-    let numbers = record::read_numbers(read);
-    store(&mut *into, &numbers);
-    record::read_number(read)
+    store_read(read, &mut *into)
 }
 
 // How many bytes of the place lie within the stream: all or none.

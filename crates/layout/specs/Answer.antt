@@ -3,7 +3,7 @@ use mathlib.Core.List.{List, [], _∷_}
 use Prim.Native.Nat.{ℕ}
 use Rattle.reading.specs.Refusal.{nr}
 use Rattle.reading.specs.Reader.{Fit, got, bad}
-use Rattle.layout.specs.Record.{valueAt}
+use Rattle.layout.specs.Value.{valueAt}
 
 -- the size and zeros, or 0 and the refusal's values
 abbrev pub answerNumbers : Fit ℕ → List ℕ

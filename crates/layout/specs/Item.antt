@@ -1,14 +1,11 @@
 -- What is returned and stored of an item: bindings/c/ecchjulmina.h, enums ecch_user_layout, ecch_identifier_layout and ecch_filter_layout.
 -- Assumes nothing.
-use mathlib.Core.Option.{Option, none, some}
 use mathlib.Core.List.{List, [], _∷_}
 use Prim.Native.Nat.{ℕ}
-use Rattle.grammar.specs.Choice.{lookup}
-use Rattle.grammar.specs.Tables.{Place, publishPlace, subscribePlace, ackPlace}
 use Rattle.grammar.specs.Record.{Val, num, str, duo, Filter}
 use Rattle.reading.specs.Refusal.{nr}
 use Rattle.reading.specs.Reader.{Fit, got, bad}
-use Rattle.reading.specs.Place.{Span, asPlaces, noItem, userAt}
+use Rattle.reading.specs.Place.{Span}
 
 -- header: "0, or 21 if there is none"; of any answer: 0, or the refusal's number
 abbrev pub fitNumber : {A : Type 0} → Fit A → ℕ
@@ -33,16 +30,3 @@ identifierNumbers (bad k) = 0 ∷ []
 abbrev pub filterNumbers : Fit (Filter Span) → List ℕ
 filterNumbers (got f) = f .path .start ∷ f .path .len ∷ f .qos ∷ f .noLocal ∷ f .preserve ∷ f .rule ∷ []
 filterNumbers (bad k) = 0 ∷ 0 ∷ 0 ∷ 0 ∷ 0 ∷ 0 ∷ []
-
--- 01, table of properties: the kinds that have a block with user properties
-unfoldable pub blocks : List (ℕ × Place)
-blocks = (3, publishPlace) ∷ (4, ackPlace) ∷ (8, subscribePlace) ∷ []
-
--- of the kind's row, if it has one
-abbrev pub userIn : Option Place → List ℕ → Span → ℕ → Fit (Val Span)
-userIn none s p n = bad noItem
-userIn (some place) s p n = userAt asPlaces s p place n
-
--- header: "`kind` is 3, 4 or 8; any other is 21"
-abbrev pub userOf : ℕ → List ℕ → Span → ℕ → Fit (Val Span)
-userOf kind = userIn (lookup blocks kind)

@@ -1,6 +1,4 @@
 pub mod Layout
-pub mod Record
+pub mod Value
 pub mod Item
-pub mod Name
 pub mod Answer
-pub mod Next

@@ -1,11 +1,13 @@
 // What is returned and stored of a size or a write.
-use crate::record::first_value;
-use crate::record::second_value;
+use crate::store::store;
+use crate::value::first_value;
+use crate::value::second_value;
 use records::answer::Sized;
 use records::answer::Written;
 use records::error::number;
 use records::error::values;
 ghost use mathlib.Core.Path.{_≡_};
+ghost use lib.Seq.{sets};
 ghost use Rattle.records.specs.Answered.{toldSized, toldWritten};
 ghost use Rattle.layout.specs.Item.{fitNumber};
 ghost use Rattle.layout.specs.Answer.{answerNumbers};
@@ -20,7 +22,7 @@ pub fn as_written(size: Sized) -> Written
     }
 }
 
-pub fn written_number(written: Written) -> u32
+fn written_number(written: Written) -> u32
     ensures { λ r. ⌜ r ≡ fitNumber (toldWritten written) ⌝ }
 {
     match written {
@@ -29,7 +31,7 @@ pub fn written_number(written: Written) -> u32
     }
 }
 
-pub fn written_numbers(written: Written) -> [u64; 3]
+fn written_numbers(written: Written) -> [u64; 3]
     ensures { λ r. ⌜ r ≡ answerNumbers (toldWritten written) ⌝ }
 {
     match written {
@@ -39,4 +41,14 @@ pub fn written_numbers(written: Written) -> [u64; 3]
             [0, first_value(v), second_value(v)]
         }
     }
+}
+
+// 0, or the refusal's number; the size or the refusal's values are stored.
+pub fn store_written(written: Written, into: &mut [u64]) -> u32
+    ensures number { λ r. ⌜ r ≡ fitNumber (toldWritten written) ⌝ }
+    ensures stored { λ r. ⌜ now (into .exit) ≡ sets (now (into .entry)) 0 (answerNumbers (toldWritten written)) ⌝ }
+{
+    let numbers = written_numbers(written);
+    store(&mut *into, &numbers);
+    written_number(written)
 }

@@ -1,15 +1,17 @@
 // What is returned and stored of an item.
-use crate::record::flag;
+use crate::store::store;
+use crate::value::flag;
 use records::answer::FilterItem;
 use records::answer::IdentifierItem;
 use records::answer::UserItem;
 use records::qos::qos_number;
 use records::subscribe_record::rule_number;
 ghost use mathlib.Core.Path.{_≡_};
+ghost use lib.Seq.{sets};
 ghost use Rattle.records.specs.Answered.{toldUser, toldIdentifier, toldFilterItem};
 ghost use Rattle.layout.specs.Item.{fitNumber, userNumbers, identifierNumbers, filterNumbers};
 
-pub fn user_number(item: UserItem) -> u32
+fn user_number(item: UserItem) -> u32
     ensures { λ r. ⌜ r ≡ fitNumber (toldUser item) ⌝ }
 {
     match item {
@@ -18,7 +20,7 @@ pub fn user_number(item: UserItem) -> u32
     }
 }
 
-pub fn user_numbers(item: UserItem) -> [u64; 4]
+fn user_numbers(item: UserItem) -> [u64; 4]
     ensures { λ r. ⌜ r ≡ userNumbers (toldUser item) ⌝ }
 {
     match item {
@@ -27,7 +29,7 @@ pub fn user_numbers(item: UserItem) -> [u64; 4]
     }
 }
 
-pub fn identifier_number(item: IdentifierItem) -> u32
+fn identifier_number(item: IdentifierItem) -> u32
     ensures { λ r. ⌜ r ≡ fitNumber (toldIdentifier item) ⌝ }
 {
     match item {
@@ -36,7 +38,7 @@ pub fn identifier_number(item: IdentifierItem) -> u32
     }
 }
 
-pub fn identifier_numbers(item: IdentifierItem) -> [u64; 1]
+fn identifier_numbers(item: IdentifierItem) -> [u64; 1]
     ensures { λ r. ⌜ r ≡ identifierNumbers (toldIdentifier item) ⌝ }
 {
     match item {
@@ -45,7 +47,7 @@ pub fn identifier_numbers(item: IdentifierItem) -> [u64; 1]
     }
 }
 
-pub fn filter_number(item: FilterItem) -> u32
+fn filter_number(item: FilterItem) -> u32
     ensures { λ r. ⌜ r ≡ fitNumber (toldFilterItem item) ⌝ }
 {
     match item {
@@ -54,7 +56,7 @@ pub fn filter_number(item: FilterItem) -> u32
     }
 }
 
-pub fn filter_numbers(item: FilterItem) -> [u64; 6]
+fn filter_numbers(item: FilterItem) -> [u64; 6]
     ensures { λ r. ⌜ r ≡ filterNumbers (toldFilterItem item) ⌝ }
 {
     match item {
@@ -72,4 +74,34 @@ pub fn filter_numbers(item: FilterItem) -> [u64; 6]
         }
         FilterItem::NoItem => [0, 0, 0, 0, 0, 0],
     }
+}
+
+// 0, or 21 if there is none; key and value are stored.
+pub fn store_user(item: UserItem, into: &mut [u64]) -> u32
+    ensures number { λ r. ⌜ r ≡ fitNumber (toldUser item) ⌝ }
+    ensures stored { λ r. ⌜ now (into .exit) ≡ sets (now (into .entry)) 0 (userNumbers (toldUser item)) ⌝ }
+{
+    let numbers = user_numbers(item);
+    store(&mut *into, &numbers);
+    user_number(item)
+}
+
+// The same of an identifier.
+pub fn store_identifier(item: IdentifierItem, into: &mut [u64]) -> u32
+    ensures number { λ r. ⌜ r ≡ fitNumber (toldIdentifier item) ⌝ }
+    ensures stored { λ r. ⌜ now (into .exit) ≡ sets (now (into .entry)) 0 (identifierNumbers (toldIdentifier item)) ⌝ }
+{
+    let numbers = identifier_numbers(item);
+    store(&mut *into, &numbers);
+    identifier_number(item)
+}
+
+// The same of a filter: its text and options.
+pub fn store_filter(item: FilterItem, into: &mut [u64]) -> u32
+    ensures number { λ r. ⌜ r ≡ fitNumber (toldFilterItem item) ⌝ }
+    ensures stored { λ r. ⌜ now (into .exit) ≡ sets (now (into .entry)) 0 (filterNumbers (toldFilterItem item)) ⌝ }
+{
+    let numbers = filter_numbers(item);
+    store(&mut *into, &numbers);
+    filter_number(item)
 }

@@ -1,8 +1,6 @@
 // What C is handed: the numbers of an answer, and their places in the arrays of bindings/c/ecchjulmina.h.
 pub mod answer;
 pub mod item;
-pub mod name;
-pub mod next;
 pub mod place;
-pub mod record;
 pub mod store;
+pub mod value;

@@ -39,9 +39,13 @@ abbrev pub codesOf : String → List ℕ
 codesOf empty = []
 codesOf (c then s) = code c ∷ codesOf s
 
--- 01, "When the desk says no": the name in the refusal's row
+-- 01, "When the desk says no": the name in the row of that number; none at 0, and none past the last row
+unfoldable pub nameAt : ℕ → List ℕ
+nameAt n = codesOf (getD ("" ∷ names) n "")
+
+-- the name in the refusal's row
 abbrev pub nameOf : Error → List ℕ
-nameOf e = codesOf (getD names (rowOf (toldError e) - 1) "")
+nameOf e = nameAt (rowOf (toldError e))
 
 -- a name of these bytes and this length
 abbrev pub made : List ℕ → ℕ → Name

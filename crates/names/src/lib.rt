@@ -3,8 +3,9 @@ pub mod shown;
 
 use crate::shown::Name;
 use records::error::Error;
+use records::error::number;
 ghost use mathlib.Core.Path.{_≡_};
-ghost use Rattle.names.specs.Names.{made, nameOf, padded};
+ghost use Rattle.names.specs.Names.{made, nameAt, nameOf, padded};
 
 // The name of these bytes.
 fn named(bytes: [u8; 24], len: usize) -> Name
@@ -13,31 +14,40 @@ fn named(bytes: [u8; 24], len: usize) -> Name
     Name { bytes, len }
 }
 
+// The name in the row of that number; no letter where there is no such row.
+pub fn name_at(number: u32) -> Name
+    ensures { λ r. ⌜ r ≡ padded (nameAt number) ⌝ }
+{
+    match number {
+        0 => named([0; 24], 0),
+        1 => named(*b"InsufficientBytes\0\0\0\0\0\0\0", 17),
+        2 => named(*b"MalformedRemainingLength", 24),
+        3 => named(*b"PayloadSizeLimitExceeded", 24),
+        4 => named(*b"InvalidPacketType\0\0\0\0\0\0\0", 17),
+        5 => named(*b"PayloadRequired\0\0\0\0\0\0\0\0\0", 15),
+        6 => named(*b"KindNotCarried\0\0\0\0\0\0\0\0\0\0", 14),
+        7 => named(*b"MalformedPacket\0\0\0\0\0\0\0\0\0", 15),
+        8 => named(*b"BoundaryCrossed\0\0\0\0\0\0\0\0\0", 15),
+        9 => named(*b"TopicNotUtf8\0\0\0\0\0\0\0\0\0\0\0\0", 12),
+        10 => named(*b"InvalidPropertyType\0\0\0\0\0", 19),
+        11 => named(*b"InvalidQoS\0\0\0\0\0\0\0\0\0\0\0\0\0\0", 10),
+        12 => named(*b"PacketIdZero\0\0\0\0\0\0\0\0\0\0\0\0", 12),
+        13 => named(*b"EmptySubscription\0\0\0\0\0\0\0", 17),
+        14 => named(*b"InvalidRetainForwardRule", 24),
+        15 => named(*b"InvalidReason\0\0\0\0\0\0\0\0\0\0\0", 13),
+        16 => named(*b"OutgoingPacketTooLarge\0\0", 22),
+        17 => named(*b"PayloadTooLong\0\0\0\0\0\0\0\0\0\0", 14),
+        18 => named(*b"StringTooLong\0\0\0\0\0\0\0\0\0\0\0", 13),
+        19 => named(*b"NoRoom\0\0\0\0\0\0\0\0\0\0\0\0\0\0\0\0\0\0", 6),
+        20 => named(*b"ListMismatch\0\0\0\0\0\0\0\0\0\0\0\0", 12),
+        21 => named(*b"NoItem\0\0\0\0\0\0\0\0\0\0\0\0\0\0\0\0\0\0", 6),
+        22..=4294967295 => named([0; 24], 0),
+    }
+}
+
 // The name of the case.
 pub fn name(e: Error) -> Name
     ensures { λ r. ⌜ r ≡ padded (nameOf e) ⌝ }
 {
-    match e {
-        Error::InsufficientBytes(_) => named(*b"InsufficientBytes\0\0\0\0\0\0\0", 17),
-        Error::MalformedRemainingLength => named(*b"MalformedRemainingLength", 24),
-        Error::PayloadSizeLimitExceeded(_, _) => named(*b"PayloadSizeLimitExceeded", 24),
-        Error::InvalidPacketType(_) => named(*b"InvalidPacketType\0\0\0\0\0\0\0", 17),
-        Error::PayloadRequired => named(*b"PayloadRequired\0\0\0\0\0\0\0\0\0", 15),
-        Error::KindNotCarried(_) => named(*b"KindNotCarried\0\0\0\0\0\0\0\0\0\0", 14),
-        Error::MalformedPacket => named(*b"MalformedPacket\0\0\0\0\0\0\0\0\0", 15),
-        Error::BoundaryCrossed(_) => named(*b"BoundaryCrossed\0\0\0\0\0\0\0\0\0", 15),
-        Error::TopicNotUtf8 => named(*b"TopicNotUtf8\0\0\0\0\0\0\0\0\0\0\0\0", 12),
-        Error::InvalidPropertyType(_) => named(*b"InvalidPropertyType\0\0\0\0\0", 19),
-        Error::InvalidQoS(_) => named(*b"InvalidQoS\0\0\0\0\0\0\0\0\0\0\0\0\0\0", 10),
-        Error::PacketIdZero => named(*b"PacketIdZero\0\0\0\0\0\0\0\0\0\0\0\0", 12),
-        Error::EmptySubscription => named(*b"EmptySubscription\0\0\0\0\0\0\0", 17),
-        Error::InvalidRetainForwardRule(_) => named(*b"InvalidRetainForwardRule", 24),
-        Error::InvalidReason(_) => named(*b"InvalidReason\0\0\0\0\0\0\0\0\0\0\0", 13),
-        Error::OutgoingPacketTooLarge(_, _) => named(*b"OutgoingPacketTooLarge\0\0", 22),
-        Error::PayloadTooLong => named(*b"PayloadTooLong\0\0\0\0\0\0\0\0\0\0", 14),
-        Error::StringTooLong(_) => named(*b"StringTooLong\0\0\0\0\0\0\0\0\0\0\0", 13),
-        Error::NoRoom(_) => named(*b"NoRoom\0\0\0\0\0\0\0\0\0\0\0\0\0\0\0\0\0\0", 6),
-        Error::ListMismatch => named(*b"ListMismatch\0\0\0\0\0\0\0\0\0\0\0\0", 12),
-        Error::NoItem => named(*b"NoItem\0\0\0\0\0\0\0\0\0\0\0\0\0\0\0\0\0\0", 6),
-    }
+    name_at(number(e) as u32)
 }

@@ -3,3 +3,4 @@ pub mod Answers
 pub mod Leaves
 pub mod Packets
 pub mod Writers
+pub mod Heads

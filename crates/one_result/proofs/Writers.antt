@@ -24,25 +24,25 @@ pub tested-same : OneResult toldTested
 tested-same = one-by toldTested backTested back-tested
 
 -- back to an answer that is absent or a number
-abbrev backNumber : {R : Type 0} → R → (ℕ → R) → Option ℕ → R
+abbrev pub backNumber : {R : Type 0} → R → (ℕ → R) → Option ℕ → R
 backNumber absent present none = absent
 backNumber absent present (some n) = present n
 
-back-u8 : (v : MaybeU8) → backNumber MaybeU8.Absent MaybeU8.Present (numberU8 v) ≡ v
+pub back-u8 : (v : MaybeU8) → backNumber MaybeU8.Absent MaybeU8.Present (numberU8 v) ≡ v
 back-u8 MaybeU8.Absent = refl
 back-u8 (MaybeU8.Present n) = refl
 
 pub number-u8-same : OneResult numberU8
 number-u8-same = one-by numberU8 (backNumber MaybeU8.Absent MaybeU8.Present) back-u8
 
-back-u16 : (v : MaybeU16) → backNumber MaybeU16.Absent MaybeU16.Present (numberU16 v) ≡ v
+pub back-u16 : (v : MaybeU16) → backNumber MaybeU16.Absent MaybeU16.Present (numberU16 v) ≡ v
 back-u16 MaybeU16.Absent = refl
 back-u16 (MaybeU16.Present n) = refl
 
 pub number-u16-same : OneResult numberU16
 number-u16-same = one-by numberU16 (backNumber MaybeU16.Absent MaybeU16.Present) back-u16
 
-back-u32 : (v : MaybeU32) → backNumber MaybeU32.Absent MaybeU32.Present (numberU32 v) ≡ v
+pub back-u32 : (v : MaybeU32) → backNumber MaybeU32.Absent MaybeU32.Present (numberU32 v) ≡ v
 back-u32 MaybeU32.Absent = refl
 back-u32 (MaybeU32.Present n) = refl
 

@@ -1,4 +1,4 @@
--- `capi::item::ecch_filter` is right since what is returned and stored is of the item that `filter` gives. Assumes nothing.
+-- `capi::item::ecch_filter` is right since what is returned and stored is of the answer that `filter` gives. Assumes nothing.
 use mathlib.Core.Path.{_∙_}
 use borrow.Author.Needs.{needs}
 use Rattle.capi.proofs.item.ecch_filter.Statement.{statement}
@@ -7,32 +7,14 @@ use Rattle.capi.proofs.item.ecch_filter.Tie as tie
 filter-requires : tie.Need-filter-requires
 filter-requires c κs = search needs
 
-filter-numbers-requires : tie.Need-filter-numbers-requires
-filter-numbers-requires c κs = search needs
-
-slice-aggregate-store : tie.Need-slice-aggregate-store
-slice-aggregate-store c = search needs
-
-store-requires : tie.Need-store-requires
-store-requires c κs = search needs
-
-filter-number-requires : tie.Need-filter-number-requires
-filter-number-requires c κs = search needs
+store-filter-requires : tie.Need-store-filter-requires
+store-filter-requires c κs = search needs
 
 same-length : tie.Need-same-length
 same-length c = search needs
 
 returns : tie.Need-returns
-returns c = (c .filter-number .ensures ∙ rw (c .before .before .before .before .before .before .before .filter .ensures), c .before .before .before .store .ensures ∙ rw (c .before .before .before .before .before .before .filter-numbers .ensures, c .before .before .before .before .before .before .before .filter .ensures))
+returns c = (c .before .before .store-filter .ensures .0 ∙ rw (c .before .before .before .before .filter .ensures), c .before .before .store-filter .ensures .1 ∙ rw (c .before .before .before .before .filter .ensures))
 
 pub ecch-filter-spec : {M : Type 1} → statement M
-ecch-filter-spec =
-    tie.close
-    (tie.spec
-    filter-requires
-    filter-numbers-requires
-    slice-aggregate-store
-    store-requires
-    filter-number-requires
-    same-length
-    returns)
+ecch-filter-spec = tie.close (tie.spec filter-requires store-filter-requires same-length returns)

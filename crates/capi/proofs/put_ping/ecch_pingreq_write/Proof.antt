@@ -1,7 +1,7 @@
 -- `capi::put_ping::ecch_pingreq_write` is right since what is returned and stored is of the answer that the writer gives. Assumes nothing.
 use mathlib.Core.Path.{refl}
 use borrow.Author.Needs.{needs}
-use Rattle.capi.proofs.Laws.{written-by, numbered-by, stored-by}
+use Rattle.capi.proofs.Laws.{answered-by, written-by}
 use Rattle.capi.proofs.put_ping.ecch_pingreq_write.Statement.{statement}
 use Rattle.capi.proofs.put_ping.ecch_pingreq_write.Tie as tie
 
@@ -11,17 +11,8 @@ bound-requires c κs = search needs
 write-ping-req-requires : tie.Need-write-ping-req-requires
 write-ping-req-requires c κs = search needs
 
-written-numbers-requires : tie.Need-written-numbers-requires
-written-numbers-requires c κs = search needs
-
-slice-aggregate-store : tie.Need-slice-aggregate-store
-slice-aggregate-store c = search needs
-
-store-requires : tie.Need-store-requires
-store-requires c κs = search needs
-
-written-number-requires : tie.Need-written-number-requires
-written-number-requires c κs = search needs
+store-written-requires : tie.Need-store-written-requires
+store-written-requires c κs = search needs
 
 same-length : tie.Need-same-length
 same-length c = search needs
@@ -30,8 +21,9 @@ same-length-2 : tie.Need-same-length-2
 same-length-2 c = search needs
 
 returns : tie.Need-returns
-returns c = let w = written-by (c .before .before .before .before .before .before .before .before .before .before .bound .ensures) refl (c .before .before .before .before .before .before .before .before .before .write-ping-req .ensures) in
-    (numbered-by (c .written-number .ensures) (w .answer), (w .output, stored-by _ (c .before .before .before .store .ensures) (c .before .before .before .before .before .before .written-numbers .ensures) (w .answer)))
+returns c = let w = written-by (c .before .before .before .before .before .before .before .bound .ensures) refl (c .before .before .before .before .before .before .write-ping-req .ensures) in
+    let s = answered-by _ (c .before .before .store-written .ensures) (w .answer) in
+    (s .0, (w .output, s .1))
 
 pub ecch-pingreq-write-spec : {M : Type 1} → statement M
 ecch-pingreq-write-spec =
@@ -39,10 +31,7 @@ ecch-pingreq-write-spec =
     (tie.spec
     bound-requires
     write-ping-req-requires
-    written-numbers-requires
-    slice-aggregate-store
-    store-requires
-    written-number-requires
+    store-written-requires
     same-length
     same-length-2
     returns)

@@ -1,23 +1,21 @@
--- `capi::put_puback::ecch_puback_write` is right since what is returned and stored is of the answer that `written` gives. Assumes nothing.
+-- `capi::put_puback::ecch_puback_write` is right since what is returned and stored is of the answer that `write_puback` gives. Assumes nothing.
 use borrow.Author.Needs.{needs}
-use Rattle.capi.proofs.Laws.{numbered-by, stored-by}
+use denote.Ref.{now}
+use Rattle.capi.proofs.Laws.{answered-by, behind-by}
 use Rattle.capi.proofs.put_puback.ecch_puback_write.Statement.{statement}
 use Rattle.capi.proofs.put_puback.ecch_puback_write.Tie as tie
 
-written-requires : tie.Need-written-requires
-written-requires c κs = search needs
+puback-head-requires : tie.Need-puback-head-requires
+puback-head-requires c κs = search needs
 
-written-numbers-requires : tie.Need-written-numbers-requires
-written-numbers-requires c κs = search needs
+bound-requires : tie.Need-bound-requires
+bound-requires c κs = search needs
 
-slice-aggregate-store : tie.Need-slice-aggregate-store
-slice-aggregate-store c = search needs
+write-puback-requires : tie.Need-write-puback-requires
+write-puback-requires c κs = search needs
 
-store-requires : tie.Need-store-requires
-store-requires c κs = search needs
-
-written-number-requires : tie.Need-written-number-requires
-written-number-requires c κs = search needs
+store-written-requires : tie.Need-store-written-requires
+store-written-requires c κs = search needs
 
 same-length : tie.Need-same-length
 same-length c = search needs
@@ -26,18 +24,19 @@ same-length-2 : tie.Need-same-length-2
 same-length-2 c = search needs
 
 returns : tie.Need-returns
-returns c = let w = c .before .before .before .before .before .before .before .before .before .written .ensures in
-    (numbered-by (c .written-number .ensures) (w .0), (w .1, stored-by _ (c .before .before .before .store .ensures) (c .before .before .before .before .before .before .written-numbers .ensures) (w .0)))
+returns c = let a = c .before .before .before .before .before .before .before .before .before .before .before .before .before .before .before .args in
+    let w = behind-by (now (a .out)) (c .before .before .before .before .before .before .before .before .bound .ensures) (c .before .before .before .before .before .before .before .before .before .puback-head .ensures (now (a .reason-string)) (now (a .user)) (now (a .user-lengths))) (c .before .before .before .before .before .before .write-puback .ensures) in
+    let s = answered-by _ (c .before .before .store-written .ensures) (w .0) in
+    (s .0, (w .1, s .1))
 
 pub ecch-puback-write-spec : {M : Type 1} → statement M
 ecch-puback-write-spec =
     tie.close
     (tie.spec
-    written-requires
-    written-numbers-requires
-    slice-aggregate-store
-    store-requires
-    written-number-requires
+    puback-head-requires
+    bound-requires
+    write-puback-requires
+    store-written-requires
     same-length
     same-length-2
     returns)

@@ -1,23 +1,23 @@
--- `capi::put_subscribe::ecch_subscribe_write` is right since what is returned and stored is of the answer that `written` gives. Assumes nothing.
+-- `capi::put_subscribe::ecch_subscribe_write` is right since the head is what is handed over, and what is returned and stored is of the answer that the writer gives. Assumes nothing.
+use mathlib.Core.Path.{ap}
 use borrow.Author.Needs.{needs}
-use Rattle.capi.proofs.Laws.{numbered-by, stored-by}
+use denote.Ref.{now}
+use Rattle.writing.specs.Handed.{subscribe}
+use Rattle.capi.proofs.Laws.{answered-by, written-by}
 use Rattle.capi.proofs.put_subscribe.ecch_subscribe_write.Statement.{statement}
 use Rattle.capi.proofs.put_subscribe.ecch_subscribe_write.Tie as tie
 
-written-requires : tie.Need-written-requires
-written-requires c κs = search needs
+subscribe-head-requires : tie.Need-subscribe-head-requires
+subscribe-head-requires c κs = search needs
 
-written-numbers-requires : tie.Need-written-numbers-requires
-written-numbers-requires c κs = search needs
+bound-requires : tie.Need-bound-requires
+bound-requires c κs = search needs
 
-slice-aggregate-store : tie.Need-slice-aggregate-store
-slice-aggregate-store c = search needs
+write-requires : tie.Need-write-requires
+write-requires c κs = search needs
 
-store-requires : tie.Need-store-requires
-store-requires c κs = search needs
-
-written-number-requires : tie.Need-written-number-requires
-written-number-requires c κs = search needs
+store-written-requires : tie.Need-store-written-requires
+store-written-requires c κs = search needs
 
 same-length : tie.Need-same-length
 same-length c = search needs
@@ -26,18 +26,19 @@ same-length-2 : tie.Need-same-length-2
 same-length-2 c = search needs
 
 returns : tie.Need-returns
-returns c = let w = c .before .before .before .before .before .before .before .before .before .written .ensures in
-    (numbered-by (c .written-number .ensures) (w .0), (w .1, stored-by _ (c .before .before .before .store .ensures) (c .before .before .before .before .before .before .written-numbers .ensures) (w .0)))
+returns c = let a = c .before .before .before .before .before .before .before .before .before .before .before .before .before .before .before .before .before .args in
+    let w = written-by (c .before .before .before .before .before .before .before .before .bound .ensures) (ap subscribe (c .before .before .before .before .before .before .before .before .before .subscribe-head .ensures (now (a .user)) (now (a .user-lengths)) (now (a .filters)) (now (a .filter-lengths)) (now (a .options)))) (c .before .before .before .before .before .before .write .ensures) in
+    let s = answered-by _ (c .before .before .store-written .ensures) (w .answer) in
+    (s .0, (w .output, s .1))
 
 pub ecch-subscribe-write-spec : {M : Type 1} → statement M
 ecch-subscribe-write-spec =
     tie.close
     (tie.spec
-    written-requires
-    written-numbers-requires
-    slice-aggregate-store
-    store-requires
-    written-number-requires
+    subscribe-head-requires
+    bound-requires
+    write-requires
+    store-written-requires
     same-length
     same-length-2
     returns)

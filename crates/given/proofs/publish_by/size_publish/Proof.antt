@@ -1,0 +1,34 @@
+-- `given::publish_by::size_publish` is right since the head and the lists are what is handed over. Assumes nothing.
+use mathlib.Core.Path.{_∙_}
+use borrow.Author.Needs.{needs}
+use Rattle.given.proofs.publish_by.size_publish.Statement.{statement}
+use Rattle.given.proofs.publish_by.size_publish.Tie as tie
+
+enum-known-head : tie.Need-enum-known-head
+enum-known-head c = search needs
+
+enum-known-head-2 : tie.Need-enum-known-head-2
+enum-known-head-2 c = search needs
+
+size-requires : tie.Need-size-requires
+size-requires c κs = search needs
+
+as-written-requires : tie.Need-as-written-requires
+as-written-requires c κs = search needs
+
+returns : tie.Need-returns
+returns c = rw (c .before .head .given .1)
+
+returns-2 : tie.Need-returns-2
+returns-2 c = rw (c .before .before .before .head2 .given .1) (c .as-written .ensures ∙ c .before .size .ensures)
+
+pub size-publish-spec : {M : Type 1} → statement M
+size-publish-spec =
+    tie.close
+    (tie.spec
+    enum-known-head
+    enum-known-head-2
+    size-requires
+    as-written-requires
+    returns
+    returns-2)

@@ -1,0 +1,34 @@
+-- What C asks by the number of a kind. Assumes nothing.
+use mathlib.Core.Option.{Option, none, some}
+use mathlib.Core.List.{List, [], _∷_}
+use Prim.Native.Nat.{ℕ}
+use lib.ListN.{length}
+use Rattle.grammar.specs.Choice.{lookup}
+use Rattle.grammar.specs.Tables.{Place, publishPlace, subscribePlace, ackPlace}
+use Rattle.grammar.specs.Record.{Val, PropOf}
+use Rattle.reading.specs.Reader.{Fit, bad}
+use Rattle.reading.specs.Read.{propertyOf}
+use Rattle.reading.specs.Place.{Span, asPlaces, noItem, userAt}
+use Rattle.positions.specs.Position.{fromAt}
+
+-- 01, table of properties: the kinds that have a block with user properties
+unfoldable pub blocks : List (ℕ × Place)
+blocks = (3, publishPlace) ∷ (4, ackPlace) ∷ (8, subscribePlace) ∷ []
+
+-- of the kind's row, if it has one
+abbrev pub userIn : Option Place → List ℕ → Span → ℕ → Fit (Val Span)
+userIn none s p n = bad noItem
+userIn (some place) s p n = userAt asPlaces s p place n
+
+-- header: "`kind` is 3, 4 or 8; any other is 21"
+abbrev pub userOf : ℕ → List ℕ → Span → ℕ → Fit (Val Span)
+userOf kind = userIn (lookup blocks kind)
+
+-- the property at index `at` of s in a kind's row, if it has one
+abbrev pub propertyIn : Option Place → List ℕ → ℕ → Fit (PropOf Span × ℕ)
+propertyIn none s at = bad noItem
+propertyIn (some row) s at = fromAt (propertyOf asPlaces row (length s)) s at
+
+-- header: "`kind` is 3, 4 or 8; any other is 21"
+abbrev pub propertyAt : ℕ → List ℕ → ℕ → Fit (PropOf Span × ℕ)
+propertyAt kind = propertyIn (lookup blocks kind)

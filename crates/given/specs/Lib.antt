@@ -1,0 +1,4 @@
+pub mod Given
+pub mod Head
+pub mod Written
+pub mod Kind

@@ -1,0 +1,131 @@
+// A Publish that C hands over: its numbers and presence, its size, and written.
+use crate::number::is_on;
+use crate::number::maybe_u8;
+use crate::number::maybe_u16;
+use crate::number::maybe_u32;
+use layout::answer;
+use publish_plan::head::PublishHead;
+use records::answer::Limit;
+use records::answer::Written;
+use records::error::Error;
+use wire::qos;
+use wire::qos::GotQos;
+ghost use mathlib.Core.Path.{_≡_};
+ghost use mathlib.Core.List.{List};
+ghost use Prim.Native.Nat.{ℕ};
+ghost use Rattle.records.specs.Told.{limitOf};
+ghost use Rattle.records.specs.Answered.{toldWritten};
+ghost use Rattle.given.specs.Given.{publishBy};
+ghost use Rattle.given.specs.Head.{publishOf};
+ghost use Rattle.given.specs.Written.{sizedBehind, answeredBehind, outBehind};
+
+// Numbers and presence, or refusal 11.
+pub enum GotPublishHead {
+    Value(PublishHead),
+    Refused(Error),
+}
+
+pub fn publish_head(
+    dup: u8,
+    qos: u8,
+    retain: u8,
+    pkid: u16,
+    block: u8,
+    format_on: u8,
+    format: u8,
+    expiry_on: u8,
+    expiry: u32,
+    alias_on: u8,
+    alias: u16,
+    response_on: u8,
+    correlation_on: u8,
+    content_on: u8,
+) -> GotPublishHead
+    ensures { λ r. ⌜ ((topic response correlation user lengths ids content payload : List ℕ) → publishOf r topic response correlation user lengths ids content payload ≡ publishBy dup qos retain pkid topic block «format_on» format «expiry_on» expiry «alias_on» alias «response_on» response «correlation_on» correlation user lengths ids «content_on» content payload) ⌝ }
+{
+    match qos::qos(qos) {
+        GotQos::Refused(e) => GotPublishHead::Refused(e),
+        GotQos::Value(qos) => {
+            let payload_format_indicator = maybe_u8(format_on, format);
+            let message_expiry_interval = maybe_u32(expiry_on, expiry);
+            let topic_alias = maybe_u16(alias_on, alias);
+            let head = PublishHead {
+                dup: is_on(dup),
+                qos,
+                retain: is_on(retain),
+                pkid,
+                block: is_on(block),
+                payload_format_indicator,
+                message_expiry_interval,
+                topic_alias,
+                response_topic: is_on(response_on),
+                correlation_data: is_on(correlation_on),
+                content_type: is_on(content_on),
+            };
+            GotPublishHead::Value(head)
+        }
+    }
+}
+
+pub fn size_publish(
+    head: GotPublishHead,
+    topic: &[u8],
+    response: &[u8],
+    correlation: &[u8],
+    user: &[u8],
+    user_lengths: &[usize],
+    identifiers: &[u32],
+    content: &[u8],
+    payload: &[u8],
+) -> Written
+    ensures { λ r. ⌜ toldWritten r ≡ sizedBehind (publishOf head (now (topic .entry)) (now (response .entry)) (now (correlation .entry)) (now (user .entry)) (now («user_lengths» .entry)) (now (identifiers .entry)) (now (content .entry)) (now (payload .entry))) ⌝ }
+{
+    match head {
+        GotPublishHead::Refused(e) => Written::Refused(e),
+        GotPublishHead::Value(h) => answer::as_written(publish_write::size(
+            h,
+            topic,
+            response,
+            correlation,
+            user,
+            user_lengths,
+            identifiers,
+            content,
+            payload,
+        )),
+    }
+}
+
+pub fn write_publish(
+    head: GotPublishHead,
+    topic: &[u8],
+    response: &[u8],
+    correlation: &[u8],
+    user: &[u8],
+    user_lengths: &[usize],
+    identifiers: &[u32],
+    content: &[u8],
+    payload: &[u8],
+    limit: Limit,
+    out: &mut [u8],
+) -> Written
+    ensures answer { λ r. ⌜ toldWritten r ≡ answeredBehind (publishOf head (now (topic .entry)) (now (response .entry)) (now (correlation .entry)) (now (user .entry)) (now («user_lengths» .entry)) (now (identifiers .entry)) (now (content .entry)) (now (payload .entry))) (limitOf limit) (now (out .entry)) ⌝ }
+    ensures output { λ r. ⌜ now (out .exit) ≡ outBehind (publishOf head (now (topic .entry)) (now (response .entry)) (now (correlation .entry)) (now (user .entry)) (now («user_lengths» .entry)) (now (identifiers .entry)) (now (content .entry)) (now (payload .entry))) (limitOf limit) (now (out .entry)) ⌝ }
+{
+    match head {
+        GotPublishHead::Refused(e) => Written::Refused(e),
+        GotPublishHead::Value(h) => publish_write::write(
+            h,
+            topic,
+            response,
+            correlation,
+            user,
+            user_lengths,
+            identifiers,
+            content,
+            payload,
+            limit,
+            &mut *out,
+        ),
+    }
+}

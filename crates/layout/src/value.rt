@@ -1,0 +1,31 @@
+// Single values as numbers.
+use records::shown::Values;
+ghost use mathlib.Core.Path.{_≡_};
+ghost use Rattle.records.specs.Told.{toldBool, toldValues};
+ghost use Rattle.layout.specs.Value.{valueAt};
+
+pub fn flag(b: bool) -> u64
+    ensures { λ r. ⌜ r ≡ toldBool b ⌝ }
+{
+    if b { 1 } else { 0 }
+}
+
+pub fn first_value(v: Values) -> u64
+    ensures { λ r. ⌜ r ≡ valueAt (toldValues v) 0 ⌝ }
+{
+    match v {
+        Values::None => 0,
+        Values::One(n) => n as u64,
+        Values::Two(n, _) => n as u64,
+    }
+}
+
+pub fn second_value(v: Values) -> u64
+    ensures { λ r. ⌜ r ≡ valueAt (toldValues v) 1 ⌝ }
+{
+    match v {
+        Values::None => 0,
+        Values::One(_) => 0,
+        Values::Two(_, n) => n as u64,
+    }
+}

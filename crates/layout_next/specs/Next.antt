@@ -1,0 +1,29 @@
+-- What is stored of the property or filter at an index: bindings/c/ecchjulmina.h, enums ecch_property_layout and ecch_next_filter_layout.
+-- Assumes nothing.
+use mathlib.Core.List.{List, [], _∷_}
+use Prim.Native.Nat.{ℕ}
+use Rattle.grammar.specs.Record.{Val, num, str, duo, PropOf, Filter}
+use Rattle.reading.specs.Refusal.{Refusal, nr}
+use Rattle.reading.specs.Reader.{Fit, got, bad}
+use Rattle.reading.specs.Place.{Span}
+use Rattle.layout.specs.Value.{valueAt}
+
+-- header: "or the refusal's value"; of both enums
+abbrev pub badNumbers : Refusal → List ℕ
+badNumbers (nr k vs) = valueAt vs 0 ∷ 0 ∷ 0 ∷ 0 ∷ 0 ∷ 0 ∷ 0 ∷ []
+
+-- ecch_property_layout: the index after it, the identifier, and the value
+abbrev pub propertyRow : ℕ → ℕ → Val Span → List ℕ
+propertyRow next k (num n) = next ∷ k ∷ n ∷ 0 ∷ 0 ∷ 0 ∷ 0 ∷ []
+propertyRow next k (str p) = next ∷ k ∷ 0 ∷ p .start ∷ p .len ∷ 0 ∷ 0 ∷ []
+propertyRow next k (duo p q) = next ∷ k ∷ 0 ∷ p .start ∷ p .len ∷ q .start ∷ q .len ∷ []
+
+-- a property and the index after it
+abbrev pub propertyNumbers : Fit (PropOf Span × ℕ) → List ℕ
+propertyNumbers (got z) = propertyRow (z .1) (z .0 .0) (z .0 .1)
+propertyNumbers (bad k) = badNumbers k
+
+-- ecch_next_filter_layout: a filter and the index after it
+abbrev pub nextFilterNumbers : Fit (Filter Span × ℕ) → List ℕ
+nextFilterNumbers (got z) = z .1 ∷ z .0 .path .start ∷ z .0 .path .len ∷ z .0 .qos ∷ z .0 .noLocal ∷ z .0 .preserve ∷ z .0 .rule ∷ []
+nextFilterNumbers (bad k) = badNumbers k

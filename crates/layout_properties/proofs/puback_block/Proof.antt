@@ -1,0 +1,45 @@
+-- `layout_properties::puback_block` is right since it hands over the reason string. Assumes nothing.
+use borrow.Author.Needs.{needs}
+use Rattle.layout_properties.proofs.puback_block.Statement.{statement}
+use Rattle.layout_properties.proofs.puback_block.Tie as tie
+
+enum-told : tie.Need-enum-told
+enum-told c = search needs
+
+no-block-requires : tie.Need-no-block-requires
+no-block-requires c κs = search needs
+
+enum-known-m : tie.Need-enum-known-m
+enum-known-m c = search needs
+
+place-text-requires : tie.Need-place-text-requires
+place-text-requires c κs = search needs
+
+span-text-requires : tie.Need-span-text-requires
+span-text-requires c κs = search needs
+
+no-number-requires : tie.Need-no-number-requires
+no-number-requires c κs = search needs
+
+plain-block-requires : tie.Need-plain-block-requires
+plain-block-requires c κs = search needs
+
+returns : tie.Need-returns
+returns c = search needs
+
+returns-2 : tie.Need-returns-2
+returns-2 c = rw (c .before .before .before .before .before .m .given .1, c .plain-block .ensures, c .before .no-number .ensures, c .before .before .span-text .ensures, c .before .before .before .place-text .ensures)
+
+pub puback-block-spec : {M : Type 1} → statement M
+puback-block-spec =
+    tie.close
+    (tie.spec
+    enum-told
+    no-block-requires
+    enum-known-m
+    place-text-requires
+    span-text-requires
+    no-number-requires
+    plain-block-requires
+    returns
+    returns-2)

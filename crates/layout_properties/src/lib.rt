@@ -1,0 +1,176 @@
+// The properties of an answer under the names of the layout.
+use layout::place::Block;
+use layout::place::Number;
+use layout::place::Text;
+use records::puback_record::MaybePubAckProperties;
+use records::publish_record::MaybePublishProperties;
+use records::span::MaybeSpan;
+use records::span::MaybeU8;
+use records::span::MaybeU16;
+use records::span::MaybeU32;
+use records::span::Span;
+use records::subscribe_record::MaybeSubscribeProperties;
+ghost use mathlib.Core.Path.{_≡_};
+ghost use Rattle.records.specs.Told.{toldU8, toldU16, toldU32, toldString, toldSpan};
+ghost use Rattle.records.specs.Said.{toldPublishBlock, toldSubscribeBlock, toldPubAckBlock};
+ghost use Rattle.layout_properties.specs.Block.{noNumber, noText, noBlock, plainBlock, texted, numbered, lettered, publishBlock, subscribeBlock, ackBlock};
+
+// ---- single values
+
+fn no_number() -> Number
+    ensures { λ r. ⌜ r ≡ noNumber ⌝ }
+{
+    Number { on: 0, value: 0 }
+}
+
+fn no_text() -> Text
+    ensures { λ r. ⌜ r ≡ noText ⌝ }
+{
+    Text {
+        on: 0,
+        start: 0,
+        len: 0,
+    }
+}
+
+fn place_text(p: Span) -> Text
+    ensures { λ r. ⌜ r ≡ texted (toldSpan p) ⌝ }
+{
+    Text {
+        on: 1,
+        start: p.start as u64,
+        len: p.len as u64,
+    }
+}
+
+fn u8_number(m: MaybeU8) -> Number
+    ensures { λ r. ⌜ r ≡ numbered (toldU8 m) ⌝ }
+{
+    match m {
+        MaybeU8::Absent => no_number(),
+        MaybeU8::Present(n) => Number {
+            on: 1,
+            value: n as u64,
+        },
+    }
+}
+
+fn u16_number(m: MaybeU16) -> Number
+    ensures { λ r. ⌜ r ≡ numbered (toldU16 m) ⌝ }
+{
+    match m {
+        MaybeU16::Absent => no_number(),
+        MaybeU16::Present(n) => Number {
+            on: 1,
+            value: n as u64,
+        },
+    }
+}
+
+fn u32_number(m: MaybeU32) -> Number
+    ensures { λ r. ⌜ r ≡ numbered (toldU32 m) ⌝ }
+{
+    match m {
+        MaybeU32::Absent => no_number(),
+        MaybeU32::Present(n) => Number {
+            on: 1,
+            value: n as u64,
+        },
+    }
+}
+
+fn span_text(m: MaybeSpan) -> Text
+    ensures { λ r. ⌜ r ≡ lettered (toldString m) ⌝ }
+{
+    match m {
+        MaybeSpan::Absent => no_text(),
+        MaybeSpan::Present(p) => place_text(p),
+    }
+}
+
+// ---- the properties of each kind
+
+// Of a kind other than Publish.
+fn plain_block(place: Text, reason: Text, subscription: Number) -> Block
+    ensures { λ r. ⌜ r ≡ plainBlock place reason subscription ⌝ }
+{
+    let text = no_text();
+    let number = no_number();
+    Block {
+        place,
+        format: number,
+        expiry: number,
+        alias: number,
+        response: text,
+        correlation: text,
+        content: text,
+        reason,
+        subscription,
+    }
+}
+
+pub fn no_block() -> Block
+    ensures { λ r. ⌜ r ≡ noBlock ⌝ }
+{
+    plain_block(no_text(), no_text(), no_number())
+}
+
+pub fn publish_block(m: MaybePublishProperties) -> Block
+    ensures { λ r. ⌜ r ≡ publishBlock (toldPublishBlock m) ⌝ }
+{
+    match m {
+        MaybePublishProperties::Absent => no_block(),
+        MaybePublishProperties::Present(p) => {
+            let place = place_text(p.block);
+            let format = p.payload_format_indicator;
+            let format = u8_number(format);
+            let expiry = p.message_expiry_interval;
+            let expiry = u32_number(expiry);
+            let alias = p.topic_alias;
+            let alias = u16_number(alias);
+            let response = p.response_topic;
+            let response = span_text(response);
+            let correlation = p.correlation_data;
+            let correlation = span_text(correlation);
+            let content = p.content_type;
+            let content = span_text(content);
+            let reason = no_text();
+            let subscription = no_number();
+            Block {
+                place,
+                format,
+                expiry,
+                alias,
+                response,
+                correlation,
+                content,
+                reason,
+                subscription,
+            }
+        }
+    }
+}
+
+pub fn subscribe_block(m: MaybeSubscribeProperties) -> Block
+    ensures { λ r. ⌜ r ≡ subscribeBlock (toldSubscribeBlock m) ⌝ }
+{
+    match m {
+        MaybeSubscribeProperties::Absent => no_block(),
+        MaybeSubscribeProperties::Present(p) => {
+            let id = p.id;
+            plain_block(place_text(p.block), no_text(), u32_number(id))
+        }
+    }
+}
+
+pub fn puback_block(m: MaybePubAckProperties) -> Block
+    ensures { λ r. ⌜ r ≡ ackBlock (toldPubAckBlock m) ⌝ }
+{
+    match m {
+        MaybePubAckProperties::Absent => no_block(),
+        MaybePubAckProperties::Present(p) => {
+            let reason = p.reason_string;
+            plain_block(place_text(p.block), span_text(reason), no_number())
+        }
+    }
+}

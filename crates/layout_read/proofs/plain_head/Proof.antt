@@ -1,0 +1,13 @@
+-- `layout_read::plain_head` is right since each name has what the definition has. Assumes nothing.
+use borrow.Author.Needs.{needs}
+use Rattle.layout_read.proofs.plain_head.Statement.{statement}
+use Rattle.layout_read.proofs.plain_head.Tie as tie
+
+no-span-requires : tie.Need-no-span-requires
+no-span-requires c κs = search needs
+
+returns : tie.Need-returns
+returns c = rw (c .no-span .ensures)
+
+pub plain-head-spec : {M : Type 1} → statement M
+plain-head-spec = tie.close (tie.spec no-span-requires returns)

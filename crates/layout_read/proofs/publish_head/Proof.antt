@@ -1,0 +1,37 @@
+-- `layout_read::publish_head` is right since each name has what the definition has. Assumes nothing.
+use borrow.Author.Needs.{needs}
+use Rattle.layout_read.proofs.publish_head.Statement.{statement}
+use Rattle.layout_read.proofs.publish_head.Tie as tie
+
+no-span-requires : tie.Need-no-span-requires
+no-span-requires c κs = search needs
+
+cast-t8 : tie.Need-cast-t8
+cast-t8 c = search needs
+
+flag-requires : tie.Need-flag-requires
+flag-requires c κs = search needs
+
+qos-number-requires : tie.Need-qos-number-requires
+qos-number-requires c κs = search needs
+
+cast-t11 : tie.Need-cast-t11
+cast-t11 c = search needs
+
+flag-requires-2 : tie.Need-flag-requires-2
+flag-requires-2 c κs = search needs
+
+returns : tie.Need-returns
+returns c = rw (c .before .before .before .before .before .before .no-span .ensures, c .before .before .flag .ensures, c .before .qos-number .ensures, c .flag2 .ensures)
+
+pub publish-head-spec : {M : Type 1} → statement M
+publish-head-spec =
+    tie.close
+    (tie.spec
+    no-span-requires
+    cast-t8
+    flag-requires
+    qos-number-requires
+    cast-t11
+    flag-requires-2
+    returns)

@@ -1,0 +1,92 @@
+-- What of a read stands under which name of the layout. Assumes nothing.
+use mathlib.Core.List.{List}
+use Prim.Native.Nat.{ℕ}
+use Rattle.grammar.specs.Record.{publish, ack, subscribe, ping}
+use Rattle.reading.specs.Refusal.{Answer, accepted, refused}
+use Rattle.reading.specs.Place.{Placed}
+use Rattle.reading.specs.Place as place
+use Rattle.records.specs.declared.span.Span.{Span}
+use Rattle.layout.specs.declared.place.Head.{Head}
+use Rattle.layout.specs.Layout.{numbersOf}
+use Rattle.layout.specs.Value.{valueAt}
+use Rattle.layout_properties.specs.Block.{noBlock, blockOf}
+
+-- ---- all but the properties
+
+-- no place
+abbrev pub noSpan : Span
+noSpan = record { start = 0; len = 0 }
+
+-- a place, as it is
+abbrev pub spanned : place.Span → Span
+spanned p = record { start = p .start; len = p .len }
+
+-- a refusal: bytes taken, and its values
+abbrev pub refusedHead : ℕ → ℕ → ℕ → Head
+refusedHead n a b = record {
+  taken = n;
+  first = a;
+  second = b;
+  kind = 0;
+  pkid = 0;
+  dup = 0;
+  qos = 0;
+  retain = 0;
+  reason = 0;
+  topic = noSpan;
+  payload = noSpan;
+  filters = noSpan;
+}
+
+-- a packet of a kind other than Publish; header: "0 where it does not apply"
+abbrev pub plainHead : (taken kind pkid reason : ℕ) → (filters : Span) → Head
+plainHead n kind pkid reason filters = record {
+  taken = n;
+  first = 0;
+  second = 0;
+  kind = kind;
+  pkid = pkid;
+  dup = 0;
+  qos = 0;
+  retain = 0;
+  reason = reason;
+  topic = noSpan;
+  payload = noSpan;
+  filters = filters;
+}
+
+-- the packet of each kind, and the bytes taken
+abbrev pub headOf : ℕ → Placed → Head
+headOf n (publish m) = record {
+  taken = n;
+  first = 0;
+  second = 0;
+  kind = 3;
+  pkid = m .ident;
+  dup = m .dup;
+  qos = m .qos;
+  retain = m .retain;
+  reason = 0;
+  topic = spanned (m .topic);
+  payload = spanned (m .payload);
+  filters = noSpan;
+}
+headOf n (ack k m) = plainHead n k (m .ident) (m .reason) noSpan
+headOf n (subscribe m) = plainHead n 8 (m .ident) 0 (spanned (m .filters))
+headOf n (ping k) = plainHead n k 0 0 noSpan
+
+-- ---- an answer
+
+-- the numbers of a packet that takes n bytes
+unfoldable pub packetNumbers : ℕ → Placed → List ℕ
+packetNumbers n p = numbersOf (headOf n p) (blockOf p)
+
+-- the number that is returned
+abbrev pub numberOf : Answer Placed → ℕ
+numberOf (accepted p n) = 0
+numberOf (refused k vs n) = k
+
+-- the numbers that are stored
+unfoldable pub encoded : Answer Placed → List ℕ
+encoded (accepted p n) = packetNumbers n p
+encoded (refused k vs n) = numbersOf (refusedHead n (valueAt vs 0) (valueAt vs 1)) noBlock
