@@ -2,7 +2,7 @@
 // unfinished. An unfinished frame moves to the front of the buffer, once at most.
 use crate::line;
 use crate::output;
-use crate::tally;
+use lines::tally;
 use records::answer::Limit;
 use records::answer::Read;
 use records::error::Error;
@@ -45,8 +45,11 @@ fn buffer() -> [u8; 1048576] {
     [0; 1048576]
 }
 
-// How many bytes refusal 1 says are lacking; 0 for any other.
-fn lacking(e: Error) -> usize {
+// How many bytes refusal 1 says are lacking, while there is more to read; else 0.
+fn lacking(d: Desk, e: Error) -> usize {
+    if d.state != GOING {
+        return 0;
+    }
     if let Error::InsufficientBytes(n) = e {
         return n;
     }
@@ -76,13 +79,18 @@ fn passed(d: Desk, put: usize, taken: usize) -> Desk {
 
 fn accepted(s: &[u8], out: &mut [u8], tally: &mut [u64], d: Desk, p: Packet, taken: usize) -> Desk {
     let put = line::packet(&mut *out, d.put, d.offset, s, p, taken);
-    tally::packet(&mut *tally, p);
+    tally::add_packet(&mut *tally, p);
     passed(d, put, taken)
 }
 
+// A refusal; that of no byte at all is the end of the stream.
 fn refused(out: &mut [u8], tally: &mut [u64], d: Desk, e: Error, taken: usize) -> Desk {
-    let put = line::refused(&mut *out, d.put, d.offset, e, taken);
-    tally::refused(&mut *tally, e);
+    let held = d.held;
+    if held.len == 0 {
+        return Desk { state: DONE, ..d };
+    }
+    let put = output::refused(&mut *out, d.put, d.offset, e, taken);
+    tally::add_refused(&mut *tally, e);
     if taken == 0 {
         return Desk {
             put,
@@ -138,8 +146,7 @@ fn fill(fd: i32, name: &[u8], buf: &mut [u8], d: Desk) -> Desk {
     }
     let got = libc::read(fd, &mut buf[from..]);
     if got < 0 {
-        io::write_all(libc::STDERR_FILENO, b"desk: ");
-        os::fail(name);
+        output::fail(name);
         return Desk {
             state: UNREADABLE,
             ..d
@@ -195,14 +202,9 @@ fn turn(
             taken,
         ),
         Read::Refused(e, taken) => {
-            let lacks = lacking(e);
+            let lacks = lacking(d, e);
             if 0 < lacks {
-                if d.state == GOING {
-                    return more(fd, name, &mut *buf, &*out, d, lacks);
-                }
-                if held.len == 0 {
-                    return Desk { state: DONE, ..d };
-                }
+                return more(fd, name, &mut *buf, &*out, d, lacks);
             }
             refused(&mut *out, &mut *tally, d, e, taken)
         }
@@ -265,7 +267,7 @@ fn too_long(out: &mut [u8], d: Desk, most: usize) {
 
 // What was read, on standard error.
 fn summary(out: &mut [u8], tally: &[u64], bytes: u64) {
-    let len = tally::summary(&mut *out, tally, bytes);
+    let len = tally::put_summary(&mut *out, tally, bytes);
     io::write_all(
         libc::STDERR_FILENO,
         string::part(&*out, Span { start: 0, len }),
@@ -275,8 +277,7 @@ fn summary(out: &mut [u8], tally: &[u64], bytes: u64) {
 // Writes what is left of the output, then what was read; gives the exit status.
 fn finish(out: &mut [u8], tally: &[u64], d: Desk, most: usize) -> u8 {
     if output::is_lost(&*out, output::flush(&*out, d.put)) {
-        io::write_all(libc::STDERR_FILENO, b"desk: ");
-        os::fail(b"standard output");
+        output::fail(b"standard output");
         return 1;
     }
     if d.state == TOO_LONG {
