@@ -124,28 +124,30 @@ fn puback_of(out: &mut [u8], at: usize, s: &[u8], m: PubAck) -> usize {
     puback_block(&mut *out, b, s, properties)
 }
 
-// Without the end of the line.
-fn packet_of(out: &mut [u8], at: usize, offset: u64, s: &[u8], p: Packet, taken: usize) -> usize {
+fn head_of(out: &mut [u8], at: usize, offset: u64, p: Packet, taken: usize) -> usize {
     match p {
-        Packet::Publish(m) => {
-            let a = head(&mut *out, at, offset, b" publish taken=", taken);
-            publish_of(&mut *out, a, s, m)
-        }
-        Packet::Subscribe(m) => {
-            let a = head(&mut *out, at, offset, b" subscribe taken=", taken);
-            subscribe_of(&mut *out, a, s, m)
-        }
-        Packet::PubAck(m) => {
-            let a = head(&mut *out, at, offset, b" puback taken=", taken);
-            puback_of(&mut *out, a, s, m)
-        }
+        Packet::Publish(_) => head(&mut *out, at, offset, b" publish taken=", taken),
+        Packet::Subscribe(_) => head(&mut *out, at, offset, b" subscribe taken=", taken),
+        Packet::PubAck(_) => head(&mut *out, at, offset, b" puback taken=", taken),
         Packet::PingReq => head(&mut *out, at, offset, b" pingreq taken=", taken),
         Packet::PingResp => head(&mut *out, at, offset, b" pingresp taken=", taken),
     }
 }
 
+// What stands behind the head.
+fn fields_of(out: &mut [u8], at: usize, s: &[u8], p: Packet) -> usize {
+    match p {
+        Packet::Publish(m) => publish_of(&mut *out, at, s, m),
+        Packet::Subscribe(m) => subscribe_of(&mut *out, at, s, m),
+        Packet::PubAck(m) => puback_of(&mut *out, at, s, m),
+        Packet::PingReq => at,
+        Packet::PingResp => at,
+    }
+}
+
 // Of the packet p that was read from s.
 pub fn packet(out: &mut [u8], at: usize, offset: u64, s: &[u8], p: Packet, taken: usize) -> usize {
-    let a = packet_of(&mut *out, at, offset, s, p, taken);
-    output::word(&mut *out, a, b"\n")
+    let a = head_of(&mut *out, at, offset, p, taken);
+    let b = fields_of(&mut *out, a, s, p);
+    output::word(&mut *out, b, b"\n")
 }

@@ -77,7 +77,16 @@ fn passed(d: Desk, put: usize, taken: usize) -> Desk {
     }
 }
 
-fn accepted(s: &[u8], out: &mut [u8], tally: &mut [u64], d: Desk, p: Packet, taken: usize) -> Desk {
+fn accepted(
+    buf: &[u8],
+    out: &mut [u8],
+    tally: &mut [u64],
+    d: Desk,
+    p: Packet,
+    taken: usize,
+) -> Desk {
+    let held = d.held;
+    let s = string::part(buf, held);
     let put = line::packet(&mut *out, d.put, d.offset, s, p, taken);
     tally::add_packet(&mut *tally, p);
     passed(d, put, taken)
@@ -181,6 +190,10 @@ fn more(fd: i32, name: &[u8], buf: &mut [u8], out: &[u8], d: Desk, lacks: usize)
     fill(fd, name, &mut *buf, Desk { held, put, ..d })
 }
 
+fn read_held(buf: &[u8], limit: Limit, d: Desk) -> Read {
+    packet::read(string::part(buf, d.held), limit)
+}
+
 // One frame, or one read.
 fn turn(
     fd: i32,
@@ -191,16 +204,8 @@ fn turn(
     tally: &mut [u64],
     d: Desk,
 ) -> Desk {
-    let held = d.held;
-    match packet::read(string::part(&*buf, held), limit) {
-        Read::Packet(p, taken) => accepted(
-            string::part(&*buf, held),
-            &mut *out,
-            &mut *tally,
-            d,
-            p,
-            taken,
-        ),
+    match read_held(&*buf, limit, d) {
+        Read::Packet(p, taken) => accepted(&*buf, &mut *out, &mut *tally, d, p, taken),
         Read::Refused(e, taken) => {
             let lacks = lacking(d, e);
             if 0 < lacks {
@@ -245,20 +250,9 @@ fn read_all(
     d
 }
 
-// Where a frame is that is too long, put from the start of the output on.
-fn too_long_at(out: &mut [u8], d: Desk) -> usize {
-    let a = output::word(&mut *out, 0, b"desk: the frame at offset ");
-    let b = output::decimal(&mut *out, a, d.offset);
-    let c = output::word(&mut *out, b, b" has ");
-    output::decimal(&mut *out, c, d.size)
-}
-
-// The plain words for it, on standard error.
+// The plain words for a frame that is too long, on standard error.
 fn too_long(out: &mut [u8], d: Desk, most: usize) {
-    let a = too_long_at(&mut *out, d);
-    let b = output::word(&mut *out, a, b" bytes, and the buffer holds ");
-    let c = output::decimal(&mut *out, b, most as u64);
-    let len = output::word(&mut *out, c, b": stopped there\n");
+    let len = lines::put_too_long(&mut *out, d.offset, d.size, most as u64);
     io::write_all(
         libc::STDERR_FILENO,
         string::part(&*out, Span { start: 0, len }),

@@ -31,3 +31,10 @@ takenText n = (codesOf " taken=" ++ decimalOf n) ++ (10 ∷ [])
 -- docs/DESK.md: "OFFSET refused NUMBER NAME(VALUES) taken=N"
 abbrev pub refusedLine : ℕ → Error → ℕ → List ℕ
 refusedLine offset e taken = ((refusedHead offset e ++ nameOf e) ++ valuesText (valuesOf (toldError e))) ++ takenText taken
+
+-- docs/DESK.md: "A frame longer than the buffer .. is said so there with its offset and size"
+abbrev pub tooLongAt : ℕ → ℕ → List ℕ
+tooLongAt offset size = (codesOf "desk: the frame at offset " ++ decimalOf offset) ++ (codesOf " has " ++ decimalOf size)
+
+abbrev pub tooLongLine : ℕ → ℕ → ℕ → List ℕ
+tooLongLine offset size most = (tooLongAt offset size ++ (codesOf " bytes, and the buffer holds " ++ decimalOf most)) ++ (codesOf ": stopped there" ++ (10 ∷ []))

@@ -1,5 +1,5 @@
-// The lines of `desk` that are names and numbers alone, put at the front of a lent output: that of a refusal here, that of what was read in
-// `tally`. docs/DESK.md has the format. What would lie past the end of the output is not stored.
+// The lines of `desk` that are names and numbers alone, put at the front of a lent output: those of a refusal and of a frame that is too
+// long here, that of what was read in `tally`. docs/DESK.md has the format. What would lie past the end of the output is not stored.
 pub mod tally;
 
 use records::error;
@@ -15,7 +15,7 @@ ghost use lib.Seq.{sets};
 ghost use Rattle.records.specs.Told.{toldError, toldValues, valuesOf};
 ghost use Rattle.names.specs.Names.{codesOf, nameOf};
 ghost use Rattle.render.specs.Shown.{decimalOf};
-ghost use Rattle.lines.specs.Line.{Placed, valuesText, refusedHead, takenText, refusedLine};
+ghost use Rattle.lines.specs.Line.{Placed, valuesText, refusedHead, takenText, refusedLine, tooLongAt, tooLongLine};
 
 fn word(out: &mut [u8], at: usize, w: &[u8]) -> usize
     requires { ⌜ at ≤ 65536 ⌝ }
@@ -114,4 +114,21 @@ pub fn put_refused(out: &mut [u8], offset: u64, e: Error, taken: usize) -> usize
     let b = name(&mut *out, a, e);
     let c = values(&mut *out, b, error::values(e));
     taken_text(&mut *out, c, taken)
+}
+
+fn too_long_at(out: &mut [u8], offset: u64, size: u64) -> usize
+    ensures placed { λ r. ⌜ Placed (now (out .entry)) 0 (tooLongAt offset size) (now (out .exit)) r ⌝ }
+    ensures short { λ r. ⌜ r ≤ 128 ⌝ }
+{
+    let a = number(&mut *out, 0, b"desk: the frame at offset ", offset);
+    number(&mut *out, a, b" has ", size)
+}
+
+// The line for a frame of `size` bytes that no buffer of `most` holds; gives how many bytes it is.
+pub fn put_too_long(out: &mut [u8], offset: u64, size: u64, most: u64) -> usize
+    ensures { λ r. ⌜ Placed (now (out .entry)) 0 (tooLongLine offset size most) (now (out .exit)) r ⌝ }
+{
+    let a = too_long_at(&mut *out, offset, size);
+    let b = number(&mut *out, a, b" bytes, and the buffer holds ", most);
+    word(&mut *out, b, b": stopped there\n")
 }
