@@ -1,12 +1,11 @@
 -- How what is held moves to the front, byte by byte, and is still held there. Assumes nothing.
 use mathlib.Core.Path.{_≡_, refl, sym, ap, _∙_}
 use mathlib.Core.List.{List}
-use Prim.Native.Nat.{ℕ, zero, suc, _+_, _-_, _/_, _≤_, _<_}
+use Prim.Native.Nat.{ℕ, suc, _+_, _-_, _≤_, _<_}
 use native.Mathlib.Omega.{arith}
 use native.Mathlib.Numerals.{add-one}
 use lib.ListN.{length, take, drop, getD, set, length-append, length-drop}
 use lib.Seq.{sets, length-sets, paste, paste-suc, getD-drop, drop-at, length-take-le, take-at}
-use Rattle.io.specs.Digits.{digits}
 use Rattle.reading.specs.Place.{Span}
 use Rattle.wire.proofs.Laws.Strings.{held-within}
 use Rattle.desk.specs.Held.{fronted, Kept}
@@ -75,9 +74,6 @@ put-whole l w from {o} {next} e f h =
     let m : from ≡ next - length w = omega arith in
     (omega arith, e ∙ ap (λ (k : ℕ). sets l k w) m)
 
-pub length-digits : (b k n : ℕ) → length (digits b k n) ≡ k
-length-digits b zero n = refl
-length-digits b (suc k) n = length-append (digits b k (n / b)) _ ∙ rw (length-digits b k (n / b)) (omega arith)
-
-pub put-digits : (l : List ℕ) (n from k : ℕ) {o : List ℕ} {next : ℕ} → o ≡ sets l from (digits 10 k n) → (next ≤ length o → next ≡ from + k) → Put l (digits 10 k n) o next
-put-digits l n from k e f = put-whole l (digits 10 k n) from e (λ h. f h ∙ ap (λ (m : ℕ). from + m) (sym (length-digits 10 k n)))
+-- the same of a number of bytes that is told
+pub put-counted : (l w : List ℕ) (from k : ℕ) {o : List ℕ} {next : ℕ} → o ≡ sets l from w → k ≡ length w → (next ≤ length o → next ≡ from + k) → Put l w o next
+put-counted l w from k e c f = put-whole l w from e (λ h. f h ∙ ap (λ (m : ℕ). from + m) c)

@@ -4,12 +4,7 @@ use mathlib.Core.List.{List}
 use Prim.Native.Nat.{ℕ, _-_, _≤_}
 use lib.ListN.{length}
 use lib.Seq.{sets}
-use Rattle.io.specs.Digits.{digits, Fewest}
 
 -- where the next place lies within the output, w stands whole before it, and no other byte was changed
 abbrev pub Put : List ℕ → List ℕ → List ℕ → ℕ → Type 0
 Put before w after next = next ≤ length before → (length w ≤ next) × (after ≡ sets before (next - length w) w)
-
--- the same of a number in decimal, in the fewest digits
-abbrev pub PutDecimal : List ℕ → ℕ → List ℕ → ℕ → Type 0
-PutDecimal before n after next = (k : ℕ) × (Fewest 10 1 n k × Put before (digits 10 k n) after next)

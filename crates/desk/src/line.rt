@@ -1,10 +1,8 @@
-// The line of a frame that starts at `offset` of the stream and takes `taken` bytes of it, put into the output from place `at` on.
+// The line of a packet whose frame starts at `offset` of the stream and takes `taken` bytes of it, put into the output from place `at` on.
 use crate::field;
 use crate::list;
 use crate::output;
 use publish;
-use records::error;
-use records::error::Error;
 use records::packet_record::Packet;
 use records::puback_record::MaybePubAckProperties;
 use records::puback_record::PubAck;
@@ -13,12 +11,9 @@ use records::publish_record::MaybePublishProperties;
 use records::publish_record::Publish;
 use records::publish_record::PublishProperties;
 use records::qos;
-use records::shown::Values;
-use records::span::Span;
 use records::subscribe_record::MaybeSubscribeProperties;
 use records::subscribe_record::Subscribe;
 use wire::property::PropertyPlace;
-use wire::string;
 
 // The offset, the kind and the count: `kind` is lent with the words around it.
 fn head(out: &mut [u8], at: usize, offset: u64, kind: &[u8], taken: usize) -> usize {
@@ -129,64 +124,30 @@ fn puback_of(out: &mut [u8], at: usize, s: &[u8], m: PubAck) -> usize {
     puback_block(&mut *out, b, s, properties)
 }
 
-// Without the end of the line.
-fn packet_of(out: &mut [u8], at: usize, offset: u64, s: &[u8], p: Packet, taken: usize) -> usize {
+fn head_of(out: &mut [u8], at: usize, offset: u64, p: Packet, taken: usize) -> usize {
     match p {
-        Packet::Publish(m) => {
-            let a = head(&mut *out, at, offset, b" publish taken=", taken);
-            publish_of(&mut *out, a, s, m)
-        }
-        Packet::Subscribe(m) => {
-            let a = head(&mut *out, at, offset, b" subscribe taken=", taken);
-            subscribe_of(&mut *out, a, s, m)
-        }
-        Packet::PubAck(m) => {
-            let a = head(&mut *out, at, offset, b" puback taken=", taken);
-            puback_of(&mut *out, a, s, m)
-        }
+        Packet::Publish(_) => head(&mut *out, at, offset, b" publish taken=", taken),
+        Packet::Subscribe(_) => head(&mut *out, at, offset, b" subscribe taken=", taken),
+        Packet::PubAck(_) => head(&mut *out, at, offset, b" puback taken=", taken),
         Packet::PingReq => head(&mut *out, at, offset, b" pingreq taken=", taken),
         Packet::PingResp => head(&mut *out, at, offset, b" pingresp taken=", taken),
     }
 }
 
-// Of the packet p that was read from s.
-pub fn packet(out: &mut [u8], at: usize, offset: u64, s: &[u8], p: Packet, taken: usize) -> usize {
-    let a = packet_of(&mut *out, at, offset, s, p, taken);
-    output::word(&mut *out, a, b"\n")
-}
-
-fn values(out: &mut [u8], at: usize, e: Error) -> usize {
-    match error::values(e) {
-        Values::None => at,
-        Values::One(n) => {
-            let a = field::number(&mut *out, at, b"(", n as u64);
-            output::word(&mut *out, a, b")")
-        }
-        Values::Two(m, n) => {
-            let a = field::number(&mut *out, at, b"(", m as u64);
-            let b = field::number(&mut *out, a, b",", n as u64);
-            output::word(&mut *out, b, b")")
-        }
+// What stands behind the head.
+fn fields_of(out: &mut [u8], at: usize, s: &[u8], p: Packet) -> usize {
+    match p {
+        Packet::Publish(m) => publish_of(&mut *out, at, s, m),
+        Packet::Subscribe(m) => subscribe_of(&mut *out, at, s, m),
+        Packet::PubAck(m) => puback_of(&mut *out, at, s, m),
+        Packet::PingReq => at,
+        Packet::PingResp => at,
     }
 }
 
-fn name(out: &mut [u8], at: usize, e: Error) -> usize {
-    let shown = names::name(e);
-    let bytes = shown.bytes;
-    let text = Span {
-        start: 0,
-        len: shown.len,
-    };
-    output::word(&mut *out, at, string::part(&bytes, text))
-}
-
-// Of a refusal.
-pub fn refused(out: &mut [u8], at: usize, offset: u64, e: Error, taken: usize) -> usize {
-    let a = output::decimal(&mut *out, at, offset);
-    let b = field::number(&mut *out, a, b" refused ", wide(error::number(e)));
-    let c = output::word(&mut *out, b, b" ");
-    let d = name(&mut *out, c, e);
-    let f = values(&mut *out, d, e);
-    let g = field::number(&mut *out, f, b" taken=", taken as u64);
-    output::word(&mut *out, g, b"\n")
+// Of the packet p that was read from s.
+pub fn packet(out: &mut [u8], at: usize, offset: u64, s: &[u8], p: Packet, taken: usize) -> usize {
+    let a = head_of(&mut *out, at, offset, p, taken);
+    let b = fields_of(&mut *out, a, s, p);
+    output::word(&mut *out, b, b"\n")
 }

@@ -6,32 +6,32 @@ mod line;
 mod list;
 mod output;
 mod stream;
-mod tally;
 
-use args::Args;
+use words::Asked;
 
 // The file that is named by word i.
-fn read_file(a: Args) -> u8 {
+fn read_file(a: Asked) -> u8 {
+    let limit = a.limit;
     let mut path = io::buffer();
     let n = os::arg(a.file, &mut path);
     let fd = os::open_read(&path[..n]);
     if fd < 0 {
-        io::write_all(libc::STDERR_FILENO, b"desk: ");
-        os::fail(&path[..n]);
+        output::fail(&path[..n]);
         return 1;
     }
-    let status = stream::read(fd, &path[..n], args::limit_of(a));
+    let status = stream::read(fd, &path[..n], limit);
     libc::close(fd);
     status
 }
 
-fn run(a: Args) -> u8 {
-    if a.is_bad {
+fn run(a: Asked) -> u8 {
+    if a.bad {
         io::write_all(libc::STDERR_FILENO, b"usage: desk [--limit N] [FILE]\n");
         return 2;
     }
     if a.file == 0 {
-        return stream::read(libc::STDIN_FILENO, b"standard input", args::limit_of(a));
+        let limit = a.limit;
+        return stream::read(libc::STDIN_FILENO, b"standard input", limit);
     }
     read_file(a)
 }

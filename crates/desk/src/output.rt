@@ -2,12 +2,13 @@
 // A full output is written to standard output. A place past the end of the output says that something could not be written.
 use byte_puts::put_bytes;
 use libc::STDOUT_FILENO;
+use records::error::Error;
 use wire::string;
 ghost use mathlib.Core.Path.{_≡_};
 ghost use Prim.Native.Nat.{_+_, _≤_};
 ghost use lib.ListN.{length};
-ghost use Rattle.render.specs.Shown.{hexOf};
-ghost use Rattle.desk.specs.Put.{Put, PutDecimal};
+ghost use Rattle.render.specs.Shown.{decimalOf, hexOf};
+ghost use Rattle.desk.specs.Put.{Put};
 
 // The place that no output has.
 const LOST: usize = 18446744073709551615;
@@ -63,7 +64,7 @@ pub fn word(out: &mut [u8], at: usize, w: &[u8]) -> usize
 }
 
 pub fn decimal(out: &mut [u8], at: usize, n: u64) -> usize
-    ensures { λ r. ⌜ PutDecimal (now (out .entry)) n (now (out .exit)) r ⌝ }
+    ensures { λ r. ⌜ Put (now (out .entry)) (decimalOf n) (now (out .exit)) r ⌝ }
 {
     let from = room(&*out, at, 20);
     let k = render::put_decimal(&mut *out, from, n);
@@ -99,4 +100,20 @@ pub fn quoted(out: &mut [u8], at: usize, s: &[u8]) -> usize {
     let a = word(&mut *out, at, b"\"");
     let b = shown(&mut *out, a, s);
     word(&mut *out, b, b"\"")
+}
+
+// The line of a refusal, which is shorter than 160 bytes.
+pub fn refused(out: &mut [u8], at: usize, offset: u64, e: Error, taken: usize) -> usize {
+    let from = room(&*out, at, 160);
+    if out.len() < from {
+        return from;
+    }
+    let n = lines::put_refused(&mut out[from..], offset, e, taken);
+    after(&*out, from, n)
+}
+
+// What failed, and why, on standard error.
+pub fn fail(name: &[u8]) {
+    io::write_all(libc::STDERR_FILENO, b"desk: ");
+    os::fail(name);
 }

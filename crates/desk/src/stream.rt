@@ -2,7 +2,7 @@
 // unfinished. An unfinished frame moves to the front of the buffer, once at most.
 use crate::line;
 use crate::output;
-use crate::tally;
+use lines::tally;
 use records::answer::Limit;
 use records::answer::Read;
 use records::error::Error;
@@ -45,8 +45,11 @@ fn buffer() -> [u8; 1048576] {
     [0; 1048576]
 }
 
-// How many bytes refusal 1 says are lacking; 0 for any other.
-fn lacking(e: Error) -> usize {
+// How many bytes refusal 1 says are lacking, while there is more to read; else 0.
+fn lacking(d: Desk, e: Error) -> usize {
+    if d.state != GOING {
+        return 0;
+    }
     if let Error::InsufficientBytes(n) = e {
         return n;
     }
@@ -74,15 +77,29 @@ fn passed(d: Desk, put: usize, taken: usize) -> Desk {
     }
 }
 
-fn accepted(s: &[u8], out: &mut [u8], tally: &mut [u64], d: Desk, p: Packet, taken: usize) -> Desk {
+fn accepted(
+    buf: &[u8],
+    out: &mut [u8],
+    tally: &mut [u64],
+    d: Desk,
+    p: Packet,
+    taken: usize,
+) -> Desk {
+    let held = d.held;
+    let s = string::part(buf, held);
     let put = line::packet(&mut *out, d.put, d.offset, s, p, taken);
-    tally::packet(&mut *tally, p);
+    tally::add_packet(&mut *tally, p);
     passed(d, put, taken)
 }
 
+// A refusal; that of no byte at all is the end of the stream.
 fn refused(out: &mut [u8], tally: &mut [u64], d: Desk, e: Error, taken: usize) -> Desk {
-    let put = line::refused(&mut *out, d.put, d.offset, e, taken);
-    tally::refused(&mut *tally, e);
+    let held = d.held;
+    if held.len == 0 {
+        return Desk { state: DONE, ..d };
+    }
+    let put = output::refused(&mut *out, d.put, d.offset, e, taken);
+    tally::add_refused(&mut *tally, e);
     if taken == 0 {
         return Desk {
             put,
@@ -138,8 +155,7 @@ fn fill(fd: i32, name: &[u8], buf: &mut [u8], d: Desk) -> Desk {
     }
     let got = libc::read(fd, &mut buf[from..]);
     if got < 0 {
-        io::write_all(libc::STDERR_FILENO, b"desk: ");
-        os::fail(name);
+        output::fail(name);
         return Desk {
             state: UNREADABLE,
             ..d
@@ -174,6 +190,10 @@ fn more(fd: i32, name: &[u8], buf: &mut [u8], out: &[u8], d: Desk, lacks: usize)
     fill(fd, name, &mut *buf, Desk { held, put, ..d })
 }
 
+fn read_held(buf: &[u8], limit: Limit, d: Desk) -> Read {
+    packet::read(string::part(buf, d.held), limit)
+}
+
 // One frame, or one read.
 fn turn(
     fd: i32,
@@ -184,25 +204,12 @@ fn turn(
     tally: &mut [u64],
     d: Desk,
 ) -> Desk {
-    let held = d.held;
-    match packet::read(string::part(&*buf, held), limit) {
-        Read::Packet(p, taken) => accepted(
-            string::part(&*buf, held),
-            &mut *out,
-            &mut *tally,
-            d,
-            p,
-            taken,
-        ),
+    match read_held(&*buf, limit, d) {
+        Read::Packet(p, taken) => accepted(&*buf, &mut *out, &mut *tally, d, p, taken),
         Read::Refused(e, taken) => {
-            let lacks = lacking(e);
+            let lacks = lacking(d, e);
             if 0 < lacks {
-                if d.state == GOING {
-                    return more(fd, name, &mut *buf, &*out, d, lacks);
-                }
-                if held.len == 0 {
-                    return Desk { state: DONE, ..d };
-                }
+                return more(fd, name, &mut *buf, &*out, d, lacks);
             }
             refused(&mut *out, &mut *tally, d, e, taken)
         }
@@ -243,20 +250,9 @@ fn read_all(
     d
 }
 
-// Where a frame is that is too long, put from the start of the output on.
-fn too_long_at(out: &mut [u8], d: Desk) -> usize {
-    let a = output::word(&mut *out, 0, b"desk: the frame at offset ");
-    let b = output::decimal(&mut *out, a, d.offset);
-    let c = output::word(&mut *out, b, b" has ");
-    output::decimal(&mut *out, c, d.size)
-}
-
-// The plain words for it, on standard error.
+// The plain words for a frame that is too long, on standard error.
 fn too_long(out: &mut [u8], d: Desk, most: usize) {
-    let a = too_long_at(&mut *out, d);
-    let b = output::word(&mut *out, a, b" bytes, and the buffer holds ");
-    let c = output::decimal(&mut *out, b, most as u64);
-    let len = output::word(&mut *out, c, b": stopped there\n");
+    let len = lines::put_too_long(&mut *out, d.offset, d.size, most as u64);
     io::write_all(
         libc::STDERR_FILENO,
         string::part(&*out, Span { start: 0, len }),
@@ -265,7 +261,7 @@ fn too_long(out: &mut [u8], d: Desk, most: usize) {
 
 // What was read, on standard error.
 fn summary(out: &mut [u8], tally: &[u64], bytes: u64) {
-    let len = tally::summary(&mut *out, tally, bytes);
+    let len = tally::put_summary(&mut *out, tally, bytes);
     io::write_all(
         libc::STDERR_FILENO,
         string::part(&*out, Span { start: 0, len }),
@@ -275,8 +271,7 @@ fn summary(out: &mut [u8], tally: &[u64], bytes: u64) {
 // Writes what is left of the output, then what was read; gives the exit status.
 fn finish(out: &mut [u8], tally: &[u64], d: Desk, most: usize) -> u8 {
     if output::is_lost(&*out, output::flush(&*out, d.put)) {
-        io::write_all(libc::STDERR_FILENO, b"desk: ");
-        os::fail(b"standard output");
+        output::fail(b"standard output");
         return 1;
     }
     if d.state == TOO_LONG {

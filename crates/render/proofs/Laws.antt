@@ -2,14 +2,17 @@
 use mathlib.Core.Path.{_≡_, refl, sym, ap, _∙_}
 use mathlib.Core.Bool.{Bool, true, false, cond}
 use mathlib.Core.List.{List, [], _∷_, _++_}
-use Prim.Native.Nat.{ℕ, suc, _+_, _-_, _%_, _/_, _≤_, _<_}
+use Prim.Native.Nat.{ℕ, zero, suc, _+_, _-_, _*_, _%_, _/_, _^_, _≤_, _<_}
 use native.Mathlib.Omega.{arith}
 use native.Mathlib.Numerals.{add-one}
+use native.Mathlib.Nat.{pow-suc, one-le-pow}
+use lib.Dec.{ltb}
 use lib.ListN.{length, take, drop, getD, set, length-append, drop-of-length-le}
 use lib.Seq.{sets, length-sets, drop-cons}
 use borrow.Author.Tests.{lt-ltb, le-ltb, le-leb, lt-leb, ne-eqb}
+use Rattle.io.specs.Digits.{digits, Fewest}
 use Rattle.byte_puts.proofs.Laws.{sets-append}
-use Rattle.render.specs.Shown.{hexDigit, hexOf, isMarked, isPlain, shownOf, shownSize, shown, fitting, Shows}
+use Rattle.render.specs.Shown.{decimalIn, decimalOf, hexDigit, hexOf, isMarked, isPlain, shownOf, shownSize, shown, fitting, Shows}
 
 -- ---- digits
 
@@ -22,6 +25,52 @@ digit-high n h = rw (le-ltb n 10 h)
 -- the high digit, and the low one behind it
 pub two-digits : (b at : ℕ) (l : List ℕ) {l₁ l₂ : List ℕ} {x y : ℕ} → x ≡ hexDigit (b / 16 % 16) → l₁ ≡ sets l at (x ∷ []) → y ≡ hexDigit (b % 16) → l₂ ≡ sets l₁ (at + 1) (y ∷ []) → l₂ ≡ sets l at (hexOf b)
 two-digits b at l d e f g = g ∙ rw (e, d, f, add-one at)
+
+-- ---- decimal
+
+length-digits : (b k n : ℕ) → length (digits b k n) ≡ k
+length-digits b zero n = refl
+length-digits b (suc k) n = length-append (digits b k (n / b)) _ ∙ rw (length-digits b k (n / b)) (omega arith)
+
+-- the fewest digits are those of the definition: of a number of two or more, the number without the last has one fewer
+fewest-in : (k bound n : ℕ) → n ≤ bound → n < 10 ^ suc k → (1 < suc k → 10 ^ k ≤ n) → digits 10 (suc k) n ≡ decimalIn bound n
+unfolding decimalIn
+fewest-in zero zero n h l m =
+    let e : n ≡ 0 = omega arith in
+    rw e
+fewest-in zero (suc bound) n h l m =
+    let e : n < 10 = omega arith in
+    let d : n % 10 ≡ n = omega arith in
+    rw (lt-ltb n 10 e, d, lt-ltb n 10 e)
+fewest-in (suc k) zero n h l m = absurd (omega (arith, m (omega arith), one-le-pow (suc k) 10 (omega arith)))
+fewest-in (suc k) (suc bound) n h l m =
+    let g : 10 ^ suc k ≤ n = m (omega arith) in
+    let s : 10 ^ suc k ≡ 10 ^ k * 10 = pow-suc 10 k in
+    let t : 10 ^ suc (suc k) ≡ 10 ^ suc k * 10 = pow-suc 10 (suc k) in
+    let a : 10 ≤ n = omega (arith, one-le-pow k 10 (omega arith)) in
+    let r : n % 10 < 10 = omega arith in
+    let c : digits 10 (suc k) (n / 10) ≡ decimalIn bound (n / 10) = fewest-in k bound (n / 10) (omega arith) (omega arith) (λ _. omega arith) in
+    rw (le-ltb n 10 a, lt-ltb (n % 10) 10 r) (ap (λ (d : List ℕ). d ++ ((48 + n % 10) ∷ [])) c)
+
+pub fewest-decimal : (k n : ℕ) → Fewest 10 1 n k → digits 10 k n ≡ decimalOf n
+fewest-decimal zero n f = absurd (omega (arith, f .0))
+fewest-decimal (suc k) n f = let e : suc k - 1 ≡ k = omega arith in fewest-in k n n (omega arith) (f .1) (rw e at (f .2))
+
+pub fewest-length : (k n : ℕ) → Fewest 10 1 n k → k ≡ length (decimalOf n)
+fewest-length k n f = sym (length-digits 10 k n) ∙ ap length (fewest-decimal k n f)
+
+either : (b : Bool) (x y : List ℕ) (m : ℕ) → length x ≤ m → length y ≤ m → length (cond b x y) ≤ m
+either true x y m h g = h
+either false x y m h g = g
+
+pub decimal-short : (k bound n : ℕ) → n < 10 ^ suc k → length (decimalIn bound n) ≤ suc k
+unfolding decimalIn
+decimal-short k zero n h = omega arith
+decimal-short zero (suc bound) n h = rw (lt-ltb n 10 h) (omega arith)
+decimal-short (suc k) (suc bound) n h =
+    let t : 10 ^ suc (suc k) ≡ 10 ^ suc k * 10 = pow-suc 10 (suc k) in
+    let l : length (decimalIn bound (n / 10)) ≤ suc k = decimal-short k bound (n / 10) (omega arith) in
+    either (ltb n 10) ((48 + n) ∷ []) (decimalIn bound (n / 10) ++ ((48 + n % 10) ∷ [])) (suc (suc k)) (omega arith) (simp length-append (omega arith))
 
 -- ---- one byte
 

@@ -2,7 +2,7 @@
 use mathlib.Core.Path.{_≡_}
 use mathlib.Core.Bool.{Bool, cond, _||_}
 use mathlib.Core.List.{List, [], _∷_, _++_}
-use Prim.Native.Nat.{ℕ, suc, _+_, _-_, _/_, _%_}
+use Prim.Native.Nat.{ℕ, zero, suc, _+_, _-_, _/_, _%_}
 use lib.Dec.{eqb, leb, ltb}
 use lib.ListN.{length, take}
 use lib.Seq.{sets}
@@ -14,6 +14,14 @@ hexDigit d = cond (ltb d 10) (48 + d) (55 + d)
 -- two hexadecimal digits, upper case
 abbrev pub hexOf : ℕ → List ℕ
 hexOf b = hexDigit (b / 16 % 16) ∷ hexDigit (b % 16) ∷ []
+
+-- a number in decimal, the highest digit first, no zero in front; the bound, no less than the number, is more than its divisions by ten
+unfoldable pub decimalIn : ℕ → ℕ → List ℕ
+decimalIn zero n = (48 + n) ∷ []
+decimalIn (suc bound) n = cond (ltb n 10) ((48 + n) ∷ []) (decimalIn bound (n / 10) ++ ((48 + n % 10) ∷ []))
+
+abbrev pub decimalOf : ℕ → List ℕ
+decimalOf n = decimalIn n n
 
 -- `"` and `\` have a `\` before them
 abbrev pub isMarked : ℕ → Bool

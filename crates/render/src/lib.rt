@@ -6,8 +6,7 @@ ghost use mathlib.Core.List.{_∷_, []};
 ghost use Prim.Native.Nat.{_+_, _-_, _%_, _≤_};
 ghost use lib.ListN.{length};
 ghost use lib.Seq.{sets};
-ghost use Rattle.io.specs.Digits.{digits, Fewest};
-ghost use Rattle.render.specs.Shown.{hexDigit, hexOf, shownOf, shownSize, Shows};
+ghost use Rattle.render.specs.Shown.{decimalOf, hexDigit, hexOf, shownOf, shownSize, Shows};
 
 // How many bytes of the source are shown, and how many bytes they take in the output.
 pub struct Shown {
@@ -44,10 +43,11 @@ pub fn put_hex(out: &mut [u8], at: usize, b: u8)
     }
 }
 
-// The fewest digits; gives how many.
+// The fewest digits; gives how many, at most 20.
 pub fn put_decimal(out: &mut [u8], at: usize, n: u64) -> usize
-    ensures fewest { λ r. ⌜ Fewest 10 1 n r ⌝ }
-    ensures stores { λ r. ⌜ now (out .exit) ≡ sets (now (out .entry)) at (digits 10 r n) ⌝ }
+    ensures count { λ r. ⌜ r ≡ length (decimalOf n) ⌝ }
+    ensures stores { λ r. ⌜ now (out .exit) ≡ sets (now (out .entry)) at (decimalOf n) ⌝ }
+    ensures short { λ r. ⌜ r ≤ 20 ⌝ }
 {
     let mut text = [0u8; 20];
     let k = io::decimal(n, &mut text);

@@ -1,6 +1,8 @@
--- `render::put_decimal` is right since the kit's digits are put as they are. Assumes nothing.
+-- `render::put_decimal` is right since the kit's digits, which are put as they are, are the fewest. Assumes nothing.
 use mathlib.Core.Path.{_∙_}
+use native.Mathlib.Omega.{arith}
 use borrow.Author.Needs.{needs}
+use Rattle.render.proofs.Laws.{fewest-decimal, fewest-length, decimal-short}
 use Rattle.render.proofs.put_decimal.Statement.{statement}
 use Rattle.render.proofs.put_decimal.Tie as tie
 
@@ -22,7 +24,9 @@ same-length c = search needs
 returns : tie.Need-returns
 returns c =
     let d = c .before .before .before .before .before .decimal in
-    (d .ensures .1 .0, c .before .before .put-bytes .ensures ∙ rw (d .ensures .1 .1))
+    let f = d .ensures .1 .0 in
+    let n = c .before .before .before .before .before .before .before .before .args .n in
+    (fewest-length _ _ f, (c .before .before .put-bytes .ensures ∙ rw (d .ensures .1 .1, fewest-decimal _ _ f), omega (arith, fewest-length _ _ f, decimal-short 19 n n (omega arith))))
 
 pub put-decimal-spec : {M : Type 1} → statement M
 put-decimal-spec =

@@ -10,6 +10,9 @@ Inv-loop a₀ n i₀ a i = Unit
 abbrev μ-loop : tie.MeasureT-loop
 μ-loop a₀ n i₀ a i = n - i
 
+none-requires : tie.Need-none-requires Inv-loop μ-loop
+none-requires c κs = search needs
+
 arg-count-requires : tie.Need-arg-count-requires Inv-loop μ-loop
 arg-count-requires c κs = search needs
 
@@ -28,11 +31,11 @@ loop-less c = search needs
 loop-again : tie.Need-loop-again Inv-loop μ-loop
 loop-again c = search needs
 
+ended-requires : tie.Need-ended-requires Inv-loop μ-loop
+ended-requires c κs = search needs
+
 returns : tie.Need-returns Inv-loop μ-loop
 returns c = search needs
-
-returns-2 : tie.Need-returns-2 Inv-loop μ-loop
-returns-2 c = search needs
 
 pub read-spec : {M : Type 1} → statement M
 read-spec =
@@ -40,11 +43,12 @@ read-spec =
     (tie.spec
     Inv-loop
     μ-loop
+    none-requires
     arg-count-requires
     loop-holds
     with-arg-requires
     add-i
     loop-less
     loop-again
-    returns
-    returns-2)
+    ended-requires
+    returns)

@@ -1,7 +1,8 @@
 -- `desk::output::decimal` is right as `word` is. Assumes nothing.
 use borrow.Author.Needs.{needs}
 use denote.Ref.{now}
-use Rattle.desk.proofs.Laws.{put-digits}
+use Rattle.render.specs.Shown.{decimalOf}
+use Rattle.desk.proofs.Laws.{put-counted}
 use Rattle.desk.proofs.output.decimal.Statement.{statement}
 use Rattle.desk.proofs.output.decimal.Tie as tie
 
@@ -21,8 +22,8 @@ returns : tie.Need-returns
 returns c =
     let b = c .before .before .before .before in
     let a = b .before .before .before .before .before .args in
-    let k = b .put-decimal .result in
-    (k, (b .put-decimal .ensures .0, put-digits (now (a .out)) (a .n) _ k (b .put-decimal .ensures .1) (c .after .ensures)))
+    let k = b .put-decimal in
+    put-counted (now (a .out)) (decimalOf (a .n)) _ (k .result) (k .ensures .1 .0) (k .ensures .0) (c .after .ensures)
 
 pub decimal-spec : {M : Type 1} → statement M
 decimal-spec =

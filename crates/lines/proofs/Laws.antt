@@ -1,0 +1,61 @@
+-- What is put behind what was put is one put of both. Assumes nothing.
+use mathlib.Core.Path.{_≡_, refl, sym, subst, _∙_}
+use mathlib.Core.List.{List, [], _++_}
+use Prim.Native.Nat.{ℕ, _+_, _≤_}
+use native.Mathlib.Omega.{arith}
+use native.Mathlib.Numerals.{add-one}
+use lib.ListN.{length, replicate, getD, length-append}
+use lib.Seq.{sets, take-at}
+use Rattle.reading.specs.Place.{heldOf}
+use Rattle.records.specs.declared.error.Error.{Error}
+use Rattle.names.specs.Names.{names, nameOf}
+use Rattle.byte_puts.proofs.Laws.{sets-then}
+use Rattle.wire.proofs.Laws.Strings.{held-within}
+use Rattle.lines.specs.Line.{Placed}
+use Rattle.lines.specs.Tally.{refusalText, refusalsTo}
+
+pub placed-none : (l : List ℕ) (at : ℕ) → Placed l at [] l at
+placed-none l at = record { stores = refl; behind = omega arith }
+
+pub then : {l l₁ l₂ xs ys : List ℕ} {at m n : ℕ} → Placed l at xs l₁ m → Placed l₁ m ys l₂ n → Placed l at (xs ++ ys) l₂ n
+then {l} {l₁} {l₂} {xs} {ys} {at} {m} p q = record { stores = sets-then xs ys l l₁ l₂ at m (p .stores) (p .behind) (q .stores); behind = omega (arith, p .behind, q .behind, length-append xs ys) }
+
+-- ---- names
+
+-- the name is the part of its bytes before the zeros
+pub name-part : (xs : List ℕ) (k : ℕ) → heldOf (xs ++ replicate k 0) (record { start = 0; len = length xs }) ≡ xs
+name-part xs k = sym (held-within (xs ++ replicate k 0) (record { start = 0; len = length xs }) (simp length-append (omega arith))) ∙ take-at xs (replicate k 0) (length xs) refl
+
+pub name-short : (e : Error) → length (nameOf e) ≤ 24
+unfolding names
+name-short (Error.InsufficientBytes n) = omega arith
+name-short Error.MalformedRemainingLength = omega arith
+name-short (Error.PayloadSizeLimitExceeded m n) = omega arith
+name-short (Error.InvalidPacketType k) = omega arith
+name-short Error.PayloadRequired = omega arith
+name-short (Error.KindNotCarried k) = omega arith
+name-short Error.MalformedPacket = omega arith
+name-short (Error.BoundaryCrossed n) = omega arith
+name-short Error.TopicNotUtf8 = omega arith
+name-short (Error.InvalidPropertyType k) = omega arith
+name-short (Error.InvalidQoS q) = omega arith
+name-short Error.PacketIdZero = omega arith
+name-short Error.EmptySubscription = omega arith
+name-short (Error.InvalidRetainForwardRule k) = omega arith
+name-short (Error.InvalidReason k) = omega arith
+name-short (Error.OutgoingPacketTooLarge m n) = omega arith
+name-short Error.PayloadTooLong = omega arith
+name-short (Error.StringTooLong n) = omega arith
+name-short (Error.NoRoom n) = omega arith
+name-short Error.ListMismatch = omega arith
+name-short Error.NoItem = omega arith
+
+-- ---- the refusals one after the other
+
+pub to-none : (t l : List ℕ) (at : ℕ) → Placed l at (refusalsTo t 0) l at
+unfolding refusalsTo
+to-none t l at = placed-none l at
+
+pub to-next : (t : List ℕ) (k : ℕ) {l l₁ l₂ : List ℕ} {at m n : ℕ} → Placed l at (refusalsTo t k) l₁ m → Placed l₁ m (refusalText (k + 1) (getD t (k + 1) 0)) l₂ n → Placed l at (refusalsTo t (k + 1)) l₂ n
+unfolding refusalsTo
+to-next t k {l} {l₁} {l₂} {at} {m} {n} p q = subst (λ (j : ℕ). Placed l at (refusalsTo t j) l₂ n) (sym (add-one k)) (then p q)

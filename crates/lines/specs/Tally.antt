@@ -1,0 +1,50 @@
+-- The counts of what was read, and the line of docs/DESK.md that tells them. Assumes nothing.
+use mathlib.Core.Bool.{cond}
+use mathlib.Core.List.{List, [], _∷_, _++_}
+use Prim.Native.Nat.{ℕ, zero, suc, _+_, _%_, _^_}
+use lib.Dec.{eqb}
+use lib.ListN.{getD, set}
+use Rattle.records.specs.Told.{toldError, rowOf}
+use Rattle.records.specs.declared.error.Error.{Error}
+use Rattle.records.specs.declared.packet_record.Packet.{Packet}
+use Rattle.names.specs.Names.{codesOf}
+use Rattle.render.specs.Shown.{decimalOf}
+
+-- the counts of refusals stand at their numbers, 1 to 21; those of the kinds from 22 on; that of all refusals at 27
+abbrev pub kindAt : Packet → ℕ
+kindAt (Packet.Publish m) = 22
+kindAt (Packet.Subscribe m) = 23
+kindAt (Packet.PubAck m) = 24
+kindAt Packet.PingReq = 25
+kindAt Packet.PingResp = 26
+
+-- one more at k, counted in 64 bits; a place past the end holds no count
+abbrev pub oneMore : List ℕ → ℕ → List ℕ
+oneMore t k = set t k ((getD t k 0 + 1) % 2 ^ 64)
+
+abbrev pub refusedMore : List ℕ → Error → List ℕ
+refusedMore t e = oneMore (oneMore t (rowOf (toldError e))) 27
+
+-- docs/DESK.md: "the frames of each kind"
+abbrev pub kindsText : List ℕ → List ℕ
+kindsText t = ((codesOf "desk: publish=" ++ decimalOf (getD t 22 0)) ++ (codesOf " subscribe=" ++ decimalOf (getD t 23 0))) ++ (codesOf " puback=" ++ decimalOf (getD t 24 0))
+
+-- the same, and all refusals
+abbrev pub pingsText : List ℕ → List ℕ
+pingsText t = ((codesOf " pingreq=" ++ decimalOf (getD t 25 0)) ++ (codesOf " pingresp=" ++ decimalOf (getD t 26 0))) ++ (codesOf " refused=" ++ decimalOf (getD t 27 0))
+
+-- docs/DESK.md: "the refusals by their numbers": k was given n times, if at all
+abbrev pub refusalText : ℕ → ℕ → List ℕ
+refusalText k n = cond (eqb n 0) [] ((codesOf " refused-" ++ decimalOf k) ++ (codesOf "=" ++ decimalOf n))
+
+-- those of 1 to k
+unfoldable pub refusalsTo : List ℕ → ℕ → List ℕ
+refusalsTo t zero = []
+refusalsTo t (suc k) = refusalsTo t k ++ refusalText (k + 1) (getD t (k + 1) 0)
+
+-- docs/DESK.md: "and the bytes taken"
+abbrev pub endText : ℕ → List ℕ
+endText bytes = (codesOf " bytes=" ++ decimalOf bytes) ++ (10 ∷ [])
+
+abbrev pub summaryLine : List ℕ → ℕ → List ℕ
+summaryLine t bytes = ((kindsText t ++ pingsText t) ++ refusalsTo t 21) ++ endText bytes

@@ -1,0 +1,135 @@
+// The lines of `desk` that are names and numbers alone, put at the front of a lent output: those of a refusal and of a frame that is too
+// long here, that of what was read in `tally`. docs/DESK.md has the format. What would lie past the end of the output is not stored.
+pub mod tally;
+
+use byte_puts::put_bytes;
+use records::error;
+use records::error::Error;
+use records::shown::Values;
+use records::span::Span;
+use wire::string;
+ghost use mathlib.Core.Path.{_≡_};
+ghost use mathlib.Core.List.{_++_};
+ghost use Prim.Native.Nat.{_+_, _≤_};
+ghost use lib.ListN.{length};
+ghost use lib.Seq.{sets};
+ghost use Rattle.records.specs.Told.{toldError, toldValues, valuesOf};
+ghost use Rattle.names.specs.Names.{codesOf, nameOf};
+ghost use Rattle.render.specs.Shown.{decimalOf};
+ghost use Rattle.lines.specs.Line.{Placed, valuesText, refusedHead, takenText, refusedLine, tooLongAt, tooLongLine};
+
+fn word(out: &mut [u8], at: usize, w: &[u8]) -> usize
+    requires { ⌜ at ≤ 65536 ⌝ }
+    ensures { λ r. ⌜ Placed (now (out .entry)) at (now (w .entry)) (now (out .exit)) r ⌝ }
+{
+    put_bytes(&mut *out, at, w);
+    at + w.len()
+}
+
+fn decimal(out: &mut [u8], at: usize, n: u64) -> usize
+    requires { ⌜ at ≤ 65536 ⌝ }
+    ensures placed { λ r. ⌜ Placed (now (out .entry)) at (decimalOf n) (now (out .exit)) r ⌝ }
+    ensures short { λ r. ⌜ r ≤ at + 20 ⌝ }
+{
+    let k = render::put_decimal(&mut *out, at, n);
+    at + k
+}
+
+// A number behind the words before it.
+fn number(out: &mut [u8], at: usize, w: &[u8], n: u64) -> usize
+    requires { ⌜ at + length (now w) ≤ 65536 ⌝ }
+    ensures placed { λ r. ⌜ Placed (now (out .entry)) at (now (w .entry) ++ decimalOf n) (now (out .exit)) r ⌝ }
+    ensures short { λ r. ⌜ r ≤ at + length (now (w .entry)) + 20 ⌝ }
+{
+    let next = word(&mut *out, at, w);
+    decimal(&mut *out, next, n)
+}
+
+fn one_value(out: &mut [u8], at: usize, n: usize) -> usize
+    requires { ⌜ at ≤ 1024 ⌝ }
+    ensures placed { λ r. ⌜ Placed (now (out .entry)) at ((codesOf "(" ++ decimalOf n) ++ codesOf ")") (now (out .exit)) r ⌝ }
+    ensures short { λ r. ⌜ r ≤ at + 64 ⌝ }
+{
+    let a = number(&mut *out, at, b"(", n as u64);
+    word(&mut *out, a, b")")
+}
+
+fn two_values(out: &mut [u8], at: usize, m: usize, n: usize) -> usize
+    requires { ⌜ at ≤ 1024 ⌝ }
+    ensures placed { λ r. ⌜ Placed (now (out .entry)) at (((codesOf "(" ++ decimalOf m) ++ (codesOf "," ++ decimalOf n)) ++ codesOf ")") (now (out .exit)) r ⌝ }
+    ensures short { λ r. ⌜ r ≤ at + 64 ⌝ }
+{
+    let a = number(&mut *out, at, b"(", m as u64);
+    let b = number(&mut *out, a, b",", n as u64);
+    word(&mut *out, b, b")")
+}
+
+fn values(out: &mut [u8], at: usize, v: Values) -> usize
+    requires { ⌜ at ≤ 1024 ⌝ }
+    ensures placed { λ r. ⌜ Placed (now (out .entry)) at (valuesText (toldValues v)) (now (out .exit)) r ⌝ }
+    ensures short { λ r. ⌜ r ≤ at + 64 ⌝ }
+{
+    match v {
+        Values::None => at,
+        Values::One(n) => one_value(&mut *out, at, n),
+        Values::Two(m, n) => two_values(&mut *out, at, m, n),
+    }
+}
+
+fn refused_head(out: &mut [u8], offset: u64, e: Error) -> usize
+    ensures placed { λ r. ⌜ Placed (now (out .entry)) 0 (refusedHead offset e) (now (out .exit)) r ⌝ }
+    ensures short { λ r. ⌜ r ≤ 64 ⌝ }
+{
+    let a = decimal(&mut *out, 0, offset);
+    let b = number(&mut *out, a, b" refused ", error::number(e) as u64);
+    word(&mut *out, b, b" ")
+}
+
+fn name(out: &mut [u8], at: usize, e: Error) -> usize
+    requires { ⌜ at ≤ 1024 ⌝ }
+    ensures placed { λ r. ⌜ Placed (now (out .entry)) at (nameOf e) (now (out .exit)) r ⌝ }
+    ensures short { λ r. ⌜ r ≤ at + 24 ⌝ }
+{
+    let shown = names::name(e);
+    let bytes = shown.bytes;
+    let text = Span {
+        start: 0,
+        len: shown.len,
+    };
+    word(&mut *out, at, string::part(&bytes, text))
+}
+
+fn taken_text(out: &mut [u8], at: usize, n: usize) -> usize
+    requires { ⌜ at ≤ 1024 ⌝ }
+    ensures { λ r. ⌜ Placed (now (out .entry)) at (takenText n) (now (out .exit)) r ⌝ }
+{
+    let a = number(&mut *out, at, b" taken=", n as u64);
+    word(&mut *out, a, b"\n")
+}
+
+// The line of a refusal; gives how many bytes it is.
+pub fn put_refused(out: &mut [u8], offset: u64, e: Error, taken: usize) -> usize
+    ensures { λ r. ⌜ Placed (now (out .entry)) 0 (refusedLine offset e taken) (now (out .exit)) r ⌝ }
+{
+    let a = refused_head(&mut *out, offset, e);
+    let b = name(&mut *out, a, e);
+    let c = values(&mut *out, b, error::values(e));
+    taken_text(&mut *out, c, taken)
+}
+
+fn too_long_at(out: &mut [u8], offset: u64, size: u64) -> usize
+    ensures placed { λ r. ⌜ Placed (now (out .entry)) 0 (tooLongAt offset size) (now (out .exit)) r ⌝ }
+    ensures short { λ r. ⌜ r ≤ 128 ⌝ }
+{
+    let a = number(&mut *out, 0, b"desk: the frame at offset ", offset);
+    number(&mut *out, a, b" has ", size)
+}
+
+// The line for a frame of `size` bytes that no buffer of `most` holds; gives how many bytes it is.
+pub fn put_too_long(out: &mut [u8], offset: u64, size: u64, most: u64) -> usize
+    ensures { λ r. ⌜ Placed (now (out .entry)) 0 (tooLongLine offset size most) (now (out .exit)) r ⌝ }
+{
+    let a = too_long_at(&mut *out, offset, size);
+    let b = number(&mut *out, a, b" bytes, and the buffer holds ", most);
+    word(&mut *out, b, b": stopped there\n")
+}

@@ -1,0 +1,138 @@
+// What was read: a count for each refusal at its number, for each kind and for all refusals; and the line that tells them.
+use crate::number;
+use crate::word;
+use records::error;
+use records::error::Error;
+use records::packet_record::Packet;
+ghost use mathlib.Core.Path.{_≡_};
+ghost use mathlib.Core.List.{_++_};
+ghost use Prim.Native.Nat.{_+_, _≤_};
+ghost use lib.ListN.{length, getD, replicate};
+ghost use Rattle.records.specs.Told.{toldError, rowOf};
+ghost use Rattle.lines.specs.Line.{Placed};
+ghost use Rattle.lines.specs.Tally.{kindAt, oneMore, refusedMore, kindsText, pingsText, refusalText, refusalsTo, endText, summaryLine};
+
+const PUBLISH: usize = 22;
+
+const SUBSCRIBE: usize = 23;
+
+const PUBACK: usize = 24;
+
+const PINGREQ: usize = 25;
+
+const PINGRESP: usize = 26;
+
+const ALL: usize = 27;
+
+pub fn none() -> [u64; 32]
+    ensures { λ r. ⌜ r ≡ replicate 32 0 ⌝ }
+{
+    [0; 32]
+}
+
+fn count(tally: &[u64], k: usize) -> u64
+    ensures { λ r. ⌜ r ≡ getD (now (tally .entry)) k 0 ⌝ }
+{
+    if k < tally.len() {
+        return tally[k];
+    }
+    0
+}
+
+fn add(tally: &mut [u64], k: usize)
+    ensures { λ r. ⌜ now (tally .exit) ≡ oneMore (now (tally .entry)) k ⌝ }
+{
+    if k < tally.len() {
+        tally[k] = std::num::wrapping_add_u64(tally[k], 1);
+    }
+}
+
+fn kind_at(p: Packet) -> usize
+    ensures { λ r. ⌜ r ≡ kindAt p ⌝ }
+{
+    match p {
+        Packet::Publish(_) => PUBLISH,
+        Packet::Subscribe(_) => SUBSCRIBE,
+        Packet::PubAck(_) => PUBACK,
+        Packet::PingReq => PINGREQ,
+        Packet::PingResp => PINGRESP,
+    }
+}
+
+// A packet more.
+pub fn add_packet(tally: &mut [u64], p: Packet)
+    ensures { λ r. ⌜ now (tally .exit) ≡ oneMore (now (tally .entry)) (kindAt p) ⌝ }
+{
+    add(&mut *tally, kind_at(p));
+}
+
+// A refusal more.
+pub fn add_refused(tally: &mut [u64], e: Error)
+    ensures { λ r. ⌜ now (tally .exit) ≡ refusedMore (now (tally .entry)) e ⌝ }
+{
+    add(&mut *tally, error::number(e) as usize);
+    add(&mut *tally, ALL);
+}
+
+fn kinds(out: &mut [u8], tally: &[u64]) -> usize
+    ensures placed { λ r. ⌜ Placed (now (out .entry)) 0 (kindsText (now (tally .entry))) (now (out .exit)) r ⌝ }
+    ensures short { λ r. ⌜ r ≤ 256 ⌝ }
+{
+    let a = number(&mut *out, 0, b"desk: publish=", count(tally, PUBLISH));
+    let b = number(&mut *out, a, b" subscribe=", count(tally, SUBSCRIBE));
+    number(&mut *out, b, b" puback=", count(tally, PUBACK))
+}
+
+fn pings(out: &mut [u8], at: usize, tally: &[u64]) -> usize
+    requires { ⌜ at ≤ 1024 ⌝ }
+    ensures placed { λ r. ⌜ Placed (now (out .entry)) at (pingsText (now (tally .entry))) (now (out .exit)) r ⌝ }
+    ensures short { λ r. ⌜ r ≤ at + 256 ⌝ }
+{
+    let a = number(&mut *out, at, b" pingreq=", count(tally, PINGREQ));
+    let b = number(&mut *out, a, b" pingresp=", count(tally, PINGRESP));
+    number(&mut *out, b, b" refused=", count(tally, ALL))
+}
+
+fn pair(out: &mut [u8], at: usize, k: usize, n: u64) -> usize
+    requires { ⌜ at ≤ 4096 ⌝ }
+    ensures placed { λ r. ⌜ Placed (now (out .entry)) at (refusalText k n) (now (out .exit)) r ⌝ }
+    ensures short { λ r. ⌜ r ≤ at + 64 ⌝ }
+{
+    if n == 0 {
+        return at;
+    }
+    let a = number(&mut *out, at, b" refused-", k as u64);
+    number(&mut *out, a, b"=", n)
+}
+
+fn refusals(out: &mut [u8], at: usize, tally: &[u64]) -> usize
+    requires { ⌜ at ≤ 1024 ⌝ }
+    ensures placed { λ r. ⌜ Placed (now (out .entry)) at (refusalsTo (now (tally .entry)) 21) (now (out .exit)) r ⌝ }
+    ensures short { λ r. ⌜ r ≤ at + 2048 ⌝ }
+{
+    let mut next = at;
+    let mut k: usize = 0;
+    while k < 21 {
+        next = pair(&mut *out, next, k + 1, count(tally, k + 1));
+        k = k + 1;
+    }
+    next
+}
+
+fn end(out: &mut [u8], at: usize, bytes: u64) -> usize
+    requires { ⌜ at ≤ 4096 ⌝ }
+    ensures { λ r. ⌜ Placed (now (out .entry)) at (endText bytes) (now (out .exit)) r ⌝ }
+{
+    let a = number(&mut *out, at, b" bytes=", bytes);
+    word(&mut *out, a, b"\n")
+}
+
+// The line of what was read; gives how many bytes it is.
+pub fn put_summary(out: &mut [u8], tally: &[u64], bytes: u64) -> usize
+    ensures { λ r. ⌜ Placed (now (out .entry)) 0 (summaryLine (now (tally .entry)) bytes) (now (out .exit)) r ⌝ }
+{
+    let a = kinds(&mut *out, tally);
+    let b = pings(&mut *out, a, tally);
+    let c = refusals(&mut *out, b, tally);
+    end(&mut *out, c, bytes)
+}

@@ -1,0 +1,77 @@
+-- What the words say that `desk` is started with: docs/DESK.md, "desk [--limit N] [FILE]". Assumes nothing.
+use mathlib.Core.Bool.{Bool, true, false, cond}
+use mathlib.Core.Option.{Option, some, none}
+use mathlib.Core.List.{List, [], _∷_}
+use Prim.Native.Nat.{ℕ, _+_, _-_, _*_, _^_}
+use lib.Dec.{eqb, leb, ltb}
+use Rattle.records.specs.declared.answer.Limit.{Limit}
+use Rattle.names.specs.Names.{codesOf}
+use Rattle.words.specs.declared.Asked.{Asked}
+use Rattle.words.specs.declared.Parsed.{Parsed}
+
+abbrev pub toldNumber : Parsed → Option ℕ
+toldNumber (Parsed.Value n) = some n
+toldNumber Parsed.Bad = none
+
+-- are they the same bytes?
+unfoldable pub same : List ℕ → List ℕ → Bool
+same [] [] = true
+same [] (y ∷ t) = false
+same (x ∷ s) [] = false
+same (x ∷ s) (y ∷ t) = cond (eqb x y) (same s t) false
+
+-- the number n with the digit b behind it (`0` is 48, `9` 57), if b is one and 64 bits hold that; none stays none
+unfoldable pub grow : Option ℕ → ℕ → Option ℕ
+grow none b = none
+grow (some n) b = cond (leb 48 b) (cond (leb b 57) (cond (ltb (n * 10 + (b - 48)) (2 ^ 64)) (some (n * 10 + (b - 48))) none) none) none
+
+-- with all digits of a list behind it
+unfoldable pub grownBy : Option ℕ → List ℕ → Option ℕ
+grownBy m [] = m
+grownBy m (b ∷ s) = grownBy (grow m b) s
+
+-- a number in decimal: one digit at least
+unfoldable pub numberOf : List ℕ → Option ℕ
+numberOf [] = none
+numberOf (b ∷ s) = grownBy (some 0) (b ∷ s)
+
+-- an option starts with `-` (45) and has more than that
+abbrev pub isOption : List ℕ → Bool
+isOption [] = false
+isOption (x ∷ []) = false
+isOption (x ∷ y ∷ w) = eqb x 45
+
+-- before the first word
+abbrev pub unasked : Asked
+unasked = record { file = 0; limit = Limit.Unlimited; status = false; bad = false; named = false; awaits = false }
+
+-- no words of desk's
+abbrev pub refused : Asked → Asked
+refused a = record { file = a .file; limit = a .limit; status = a .status; bad = true; named = a .named; awaits = a .awaits }
+
+-- N behind `--limit`
+abbrev pub withLimit : Asked → Option ℕ → Asked
+withLimit a (some n) = record { file = a .file; limit = Limit.AtMost n; status = a .status; bad = a .bad; named = a .named; awaits = false }
+withLimit a none = record { file = a .file; limit = a .limit; status = a .status; bad = true; named = a .named; awaits = false }
+
+-- FILE, the i-th word, which is named once; `-` is standard input
+abbrev pub withName : Asked → List ℕ → ℕ → Asked
+withName a w i =
+    cond (a .named) (refused a)
+    (cond (same w (codesOf "-"))
+    (record { file = a .file; limit = a .limit; status = a .status; bad = a .bad; named = true; awaits = a .awaits })
+    (record { file = i; limit = a .limit; status = a .status; bad = a .bad; named = true; awaits = a .awaits }))
+
+-- with the i-th word
+abbrev pub withWord : Asked → List ℕ → ℕ → Asked
+withWord a w i =
+    cond (a .awaits) (withLimit a (numberOf w))
+    (cond (same w (codesOf "--limit"))
+    (record { file = a .file; limit = a .limit; status = a .status; bad = a .bad; named = a .named; awaits = true })
+    (cond (same w (codesOf "--status"))
+    (record { file = a .file; limit = a .limit; status = true; bad = a .bad; named = a .named; awaits = a .awaits })
+    (cond (isOption w) (refused a) (withName a w i))))
+
+-- after the last word: N is awaited behind `--limit`
+abbrev pub withEnd : Asked → Asked
+withEnd a = cond (a .awaits) (refused a) a
