@@ -1,5 +1,4 @@
-// Bytes put at an index of an output, as `put_slice` of `BytesMut` does in the writers of v5/mod.rs; what would lie past the end is not
-// stored.
+// Bytes put at an index of an output: `extend_from_slice` of v5/mod.rs. What would lie past the end is not stored.
 ghost use mathlib.Core.Path.{_≡_};
 ghost use mathlib.Core.List.{_∷_, []};
 ghost use Prim.Native.Nat.{_+_, _-_, _≤_, _<_, min};
