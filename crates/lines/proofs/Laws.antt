@@ -8,7 +8,7 @@ use lib.ListN.{length, replicate, getD, length-append}
 use lib.Seq.{sets, take-at}
 use Rattle.reading.specs.Place.{heldOf}
 use Rattle.records.specs.declared.error.Error.{Error}
-use Rattle.names.specs.Names.{names, nameOf}
+use Rattle.names.specs.Names.{names, nameAt, nameOf}
 use Rattle.byte_puts.proofs.Laws.{sets-then}
 use Rattle.wire.proofs.Laws.Strings.{held-within}
 use Rattle.lines.specs.Line.{Placed}
@@ -27,7 +27,7 @@ pub name-part : (xs : List ℕ) (k : ℕ) → heldOf (xs ++ replicate k 0) (reco
 name-part xs k = sym (held-within (xs ++ replicate k 0) (record { start = 0; len = length xs }) (simp length-append (omega arith))) ∙ take-at xs (replicate k 0) (length xs) refl
 
 pub name-short : (e : Error) → length (nameOf e) ≤ 24
-unfolding names
+unfolding names nameAt
 name-short (Error.InsufficientBytes n) = omega arith
 name-short Error.MalformedRemainingLength = omega arith
 name-short (Error.PayloadSizeLimitExceeded m n) = omega arith

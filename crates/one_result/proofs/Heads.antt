@@ -2,7 +2,7 @@
 use mathlib.Core.Path.{_≡_, ap}
 use mathlib.Core.List.{[]}
 use Rattle.writing.specs.Handed.{Handed, PublishHanded, SubscribeHanded, AckHanded, publish, ack, subscribe, ping}
-use Rattle.records.proofs.Told.{backBool, back-bool, backQoS, back-qos, backReason, back-reason, back-error}
+use Rattle.records.proofs.Told.{backBool, back-bool, backFit, backQoS, back-qos, backReason, back-reason, back-error}
 use Rattle.records.specs.declared.error.Error.{Error}
 use Rattle.records.specs.declared.span.MaybeU8.{MaybeU8}
 use Rattle.records.specs.declared.span.MaybeU16.{MaybeU16}
@@ -17,7 +17,7 @@ use Rattle.given.specs.declared.publish_by.GotPublishHead.{GotPublishHead}
 use Rattle.given.specs.declared.puback_by.GotPubAckHead.{GotPubAckHead}
 use Rattle.given.specs.Head.{publishOf, ackOf}
 use Rattle.one_result.specs.OneResult.{OneResult}
-use Rattle.one_result.proofs.Laws.{one-by, backFit}
+use Rattle.one_result.proofs.Laws.{one-by}
 use Rattle.one_result.proofs.Writers.{backNumber, back-u8, back-u16, back-u32}
 
 -- ---- a Publish
