@@ -2,7 +2,7 @@
 use std::{env, path::Path};
 
 fn main() {
-    // oracle/fuzz has a library of its own
+    // oracle/fuzz and oracle/seed-faults have a library of their own
     println!("cargo:rerun-if-env-changed=ORACLE_STATICLIB");
     let dir = match env::var("ORACLE_STATICLIB") {
         Ok(dir) => dir.into(),

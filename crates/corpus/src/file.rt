@@ -1,12 +1,12 @@
-// The file's bytes: numbers, runs and lists at a place, and the place after them. oracle/README.md has the format. What would lie past the
-// end is 0 or empty, and the place after it is LOST.
+// The file's bytes: numbers, runs and lists at an index, and the index after them. oracle/README.md has the format. What would lie past the
+// end is 0 or empty, and the index after it is LOST.
 use numbers::fixed;
 use numbers::got::GotU16;
 use numbers::got::GotU32;
 use records::span::Span;
 use wire::string;
 
-// The place that no file has.
+// The index that no file has.
 pub const LOST: usize = 18446744073709551615;
 
 // How many numbers a list has at most.
@@ -43,7 +43,7 @@ pub fn four(f: &[u8], at: usize) -> u32 {
     }
 }
 
-// The same, k bytes after the place.
+// The same, k bytes after the index.
 pub fn byte_at(f: &[u8], at: usize, k: usize) -> u8 {
     byte(f, after(f, at, k))
 }
@@ -109,7 +109,7 @@ fn keep(places: &mut [usize], k: usize, at: usize) {
     }
 }
 
-// Keeps the place of each field, and gives the place after the last.
+// Keeps the index of each field, and gives the index after the last.
 pub fn walk(f: &[u8], at: usize, fields: &[u8], places: &mut [usize]) -> usize {
     let mut next = at;
     let mut k: usize = 0;
@@ -121,7 +121,7 @@ pub fn walk(f: &[u8], at: usize, fields: &[u8], places: &mut [usize]) -> usize {
     next
 }
 
-// The k-th place.
+// The k-th index.
 pub fn place(places: &[usize], k: usize) -> usize {
     if k < places.len() {
         return places[k];
@@ -129,7 +129,7 @@ pub fn place(places: &[usize], k: usize) -> usize {
     LOST
 }
 
-// The run at the k-th place.
+// The run at the k-th index.
 pub fn run_at<'a>(f: &'a [u8], places: &[usize], k: usize) -> &'a [u8] {
     run(f, place(places, k))
 }

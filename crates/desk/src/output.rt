@@ -1,5 +1,5 @@
-// What is put into the lent output before it is written: words, numbers and quoted bytes, each from place `at` on, and the place after it.
-// A full output is written to standard output. A place past the end of the output says that something could not be written.
+// What is put into the lent output before it is written: words, numbers and quoted bytes, each from index `at` on, and the index after it.
+// A full output is written to standard output. An index past the end of the output says that something could not be written.
 use byte_puts::put_bytes;
 use libc::STDOUT_FILENO;
 use records::error::Error;
@@ -10,7 +10,7 @@ ghost use lib.ListN.{length};
 ghost use Rattle.render.specs.Shown.{decimalOf, hexOf};
 ghost use Rattle.desk.specs.Put.{Put};
 
-// The place that no output has.
+// The index that no output has.
 const LOST: usize = 18446744073709551615;
 
 pub fn is_lost(out: &[u8], at: usize) -> bool {
@@ -31,7 +31,7 @@ pub fn flush(out: &[u8], at: usize) -> usize {
     LOST
 }
 
-// A place with room for n bytes: the same, or the first once what was put is written.
+// An index with room for n bytes: the same, or the first once what was put is written.
 fn room(out: &[u8], at: usize, n: usize) -> usize {
     if out.len() < at {
         return at;
@@ -42,7 +42,7 @@ fn room(out: &[u8], at: usize, n: usize) -> usize {
     flush(out, at)
 }
 
-// The place after n bytes that were put; lost if they had no room.
+// The index after n bytes that were put; lost if they had no room.
 fn after(out: &[u8], at: usize, n: usize) -> usize
     ensures { λ r. ⌜ (r ≤ length (now (out .entry)) → r ≡ at + n) ⌝ }
 {

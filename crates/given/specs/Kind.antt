@@ -1,15 +1,18 @@
 -- What C asks by the number of a kind. Assumes nothing.
+use mathlib.Core.Path.{_≡_}
 use mathlib.Core.Option.{Option, none, some}
 use mathlib.Core.List.{List, [], _∷_}
 use Prim.Native.Nat.{ℕ}
 use lib.ListN.{length}
 use Rattle.grammar.specs.Choice.{lookup}
-use Rattle.grammar.specs.Tables.{Place, publishPlace, subscribePlace, ackPlace}
+use Rattle.grammar.specs.Tables.{Form, Place, publishPlace, subscribePlace, ackPlace}
 use Rattle.grammar.specs.Record.{Val, PropOf}
 use Rattle.reading.specs.Reader.{Fit, bad}
 use Rattle.reading.specs.Read.{propertyOf}
 use Rattle.reading.specs.Place.{Span, asPlaces, noItem, userAt}
 use Rattle.positions.specs.Position.{fromAt}
+use Rattle.property_value.specs.Told.{toldProperty, Typed}
+use Rattle.property_value.specs.declared.GotProperty.{GotProperty}
 
 -- 01, table of properties: the kinds that have a block with user properties
 unfoldable pub blocks : List (ℕ × Place)
@@ -32,3 +35,13 @@ propertyIn (some row) s at = fromAt (propertyOf asPlaces row (length s)) s at
 -- header: "`kind` is 3, 4 or 8; any other is 21"
 abbrev pub propertyAt : ℕ → List ℕ → ℕ → Fit (PropOf Span × ℕ)
 propertyAt kind = propertyIn (lookup blocks kind)
+
+-- 01, table of properties: the form of property k in a kind's row, if it has one
+abbrev pub formIn : Option Place → ℕ → Option Form
+formIn none k = none
+formIn (some row) k = lookup row k
+
+-- the contract of `property_at`: as `PropertyRead`, in the row of the kind
+pub record PropertyGiven (kind : ℕ) (s : List ℕ) (at : ℕ) (r : GotProperty) : Type 0 where
+  pub says : toldProperty r ≡ propertyAt kind s at
+  pub typed : Typed (formIn (lookup blocks kind)) r

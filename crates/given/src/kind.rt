@@ -8,8 +8,7 @@ use wire::property::PropertyPlace;
 ghost use mathlib.Core.Path.{_≡_};
 ghost use Rattle.records.specs.Told.{toldSpan};
 ghost use Rattle.records.specs.Answered.{toldUser};
-ghost use Rattle.property_value.specs.Told.{toldProperty};
-ghost use Rattle.given.specs.Kind.{userOf, propertyAt};
+ghost use Rattle.given.specs.Kind.{userOf, PropertyGiven};
 
 // Of the block of a kind that has one.
 pub fn user_item(stream: &[u8], kind: u8, p: Span, n: usize) -> UserItem
@@ -25,7 +24,7 @@ pub fn user_item(stream: &[u8], kind: u8, p: Span, n: usize) -> UserItem
 
 // In the row of a kind that has one.
 pub fn property_at(stream: &[u8], kind: u8, at: usize) -> GotProperty
-    ensures { λ r. ⌜ toldProperty r ≡ propertyAt kind (now (stream .entry)) at ⌝ }
+    ensures { λ r. ⌜ PropertyGiven kind (now (stream .entry)) at r ⌝ }
 {
     match kind {
         3 => read_property(PropertyPlace::Publish, stream, at),

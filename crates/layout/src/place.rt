@@ -1,4 +1,4 @@
-// The numbers of a record by name, and their places in the array that C is handed.
+// The numbers of a record by name, and their indices in the array that C is handed.
 use records::span::Span;
 ghost use mathlib.Core.Path.{_≡_};
 ghost use Rattle.layout.specs.Layout.{numbersOf};

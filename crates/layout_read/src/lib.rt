@@ -24,7 +24,7 @@ ghost use mathlib.Core.Path.{_≡_};
 ghost use lib.Seq.{sets};
 ghost use Rattle.grammar.specs.Record.{publish, ack, subscribe, ping};
 ghost use Rattle.reading.specs.Refusal.{refusedAs};
-ghost use Rattle.records.specs.Told.{toldError, toldSpan};
+ghost use Rattle.records.specs.Told.{toldError};
 ghost use Rattle.records.specs.Said.{toldPublish, toldSubscribe, toldPubAck, toldPacket};
 ghost use Rattle.records.specs.Answered.{told};
 ghost use Rattle.layout_read.specs.Record.{noSpan, refusedHead, plainHead, headOf, packetNumbers, numberOf, encoded};

@@ -5,10 +5,8 @@ use records::error;
 use records::error::Error;
 use records::packet_record::Packet;
 ghost use mathlib.Core.Path.{_≡_};
-ghost use mathlib.Core.List.{_++_};
 ghost use Prim.Native.Nat.{_+_, _≤_};
-ghost use lib.ListN.{length, getD, replicate};
-ghost use Rattle.records.specs.Told.{toldError, rowOf};
+ghost use lib.ListN.{getD, replicate};
 ghost use Rattle.lines.specs.Line.{Placed};
 ghost use Rattle.lines.specs.Tally.{kindAt, oneMore, refusedMore, kindsText, pingsText, refusalText, refusalsTo, endText, summaryLine};
 

@@ -11,6 +11,9 @@ ghost use Rattle.writing.specs.Order.{small};
 ghost use Rattle.records.specs.Answered.{toldWritten};
 ghost use Rattle.number_puts.specs.Leaf.{LeafWritten};
 
+// The largest number that can be spelled.
+pub const MOST: usize = 268435455;
+
 // How many bytes the shortest spelling has; four where the number is too large to spell.
 pub fn len_len(n: usize) -> usize
     ensures { λ r. ⌜ r ≡ list.length (short n) ⌝ }
@@ -61,7 +64,7 @@ pub fn put_length(out: &mut [u8], at: usize, n: usize) -> usize
 pub fn write_remaining_length(out: &mut [u8], n: usize) -> Written
     ensures { λ r. ⌜ LeafWritten (small n) (short n) (now (out .entry)) (now (out .exit)) (toldWritten r) ⌝ }
 {
-    if 268435455 < n {
+    if MOST < n {
         return Written::Refused(Error::PayloadTooLong);
     }
     let need = len_len(n);

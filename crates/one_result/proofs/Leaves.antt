@@ -8,7 +8,7 @@ use native.Mathlib.Omega.{arith}
 use lib.Dec.{eqb}
 use Rattle.grammar.specs.Choice.{pick, lookup}
 use Rattle.grammar.specs.Tables.{Form, u8, u16, u32, number, text, bytes, pair, Place, Layout, aPublish, anAck, aSubscribe, aPing}
-use Rattle.grammar.specs.Record.{Val, num, str, duo}
+use Rattle.grammar.specs.Record.{Val, num, str, duo, PropOf}
 use Rattle.reading.specs.Refusal.{nr, cut}
 use Rattle.reading.specs.Reader.{Fit, got, bad}
 use Rattle.reading.specs.Place as place
@@ -34,9 +34,10 @@ use Rattle.framing.specs.Told.{toldKind, toldHeader, toldChecked, frameAt}
 use Rattle.framing.proofs.Laws.Frame as frame
 use Rattle.framing.specs.declared.check.Checked.{Checked}
 use Rattle.framing.specs.declared.header.Kind.{Kind}
-use Rattle.property_value.specs.Told.{toldValue, formOf, PropertyRead}
+use Rattle.property_value.specs.Told.{toldValue, formOf, toldProperty, Typed, PropertyRead}
 use Rattle.property_value.specs.declared.Value.{Value}
 use Rattle.property_value.specs.declared.GotProperty.{GotProperty}
+use Rattle.given.specs.Kind.{blocks, propertyAt, formIn, PropertyGiven}
 use Rattle.one_result.specs.OneResult.{OneResult}
 use Rattle.one_result.proofs.Laws.{one-by}
 
@@ -228,17 +229,24 @@ back-value (Value.Pair p q) = simp back-span
 value-same : (v v′ : Value) → formOf v ≡ formOf v′ → toldValue v ≡ toldValue v′ → v ≡ v′
 value-same v v′ f t = sym (back-value v) ∙ ap (λ g. backValue g (toldValue v)) f ∙ ap (backValue (formOf v′)) t ∙ back-value v′
 
--- what is told may be a u8 or a u16; the row of the place says which
-pub property-same : (row : Place) (s : List ℕ) (at : ℕ) (a b : GotProperty) → PropertyRead row s at a → PropertyRead row s at b → a ≡ b
-property-same row s at (GotProperty.Found k v n) (GotProperty.Found k′ v′ n′) r r′ =
-    let e = got-inj (r .says ∙ sym (r′ .says)) in
+-- what is told may be a u8 or a u16; the forms f of the row say which
+typed-same : (f : ℕ → Option Form) (d : Fit (PropOf place.Span × ℕ)) (a b : GotProperty) → toldProperty a ≡ d → toldProperty b ≡ d → Typed f a → Typed f b → a ≡ b
+typed-same f d (GotProperty.Found k v n) (GotProperty.Found k′ v′ n′) r r′ o o′ =
+    let e = got-inj (r ∙ sym r′) in
     let i : k ≡ k′ = ap (λ z. z .0 .0) e in
-    let f : formOf v ≡ formOf v′ = let o : some (formOf v) ≡ some (formOf v′) = sym (r .typed) ∙ ap (lookup row) i ∙ r′ .typed in cc in
-    let t : v ≡ v′ = value-same v v′ f (ap (λ z. z .0 .1) e) in
+    let g : formOf v ≡ formOf v′ = let w : some (formOf v) ≡ some (formOf v′) = sym o ∙ ap f i ∙ o′ in cc in
+    let t : v ≡ v′ = value-same v v′ g (ap (λ z. z .0 .1) e) in
     let m : n ≡ n′ = ap (λ z. z .1) e in
     rw (i, t, m)
-property-same row s at (GotProperty.Found k v n) (GotProperty.Refused e) r r′ = absurd (bad-got (r′ .says ∙ sym (r .says)))
-property-same row s at (GotProperty.Refused e) (GotProperty.Found k v n) r r′ = absurd (bad-got (r .says ∙ sym (r′ .says)))
-property-same row s at (GotProperty.Refused e) (GotProperty.Refused e′) r r′ =
-    let i : bad (toldError e) ≡ bad (toldError e′) = r .says ∙ sym (r′ .says) in
+typed-same f d (GotProperty.Found k v n) (GotProperty.Refused e) r r′ o o′ = absurd (bad-got (r′ ∙ sym r))
+typed-same f d (GotProperty.Refused e) (GotProperty.Found k v n) r r′ o o′ = absurd (bad-got (r ∙ sym r′))
+typed-same f d (GotProperty.Refused e) (GotProperty.Refused e′) r r′ o o′ =
+    let i : bad (toldError e) ≡ bad (toldError e′) = r ∙ sym r′ in
     ap GotProperty.Refused (error-injective (let k : toldError e ≡ toldError e′ = cc in k))
+
+pub property-same : (row : Place) (s : List ℕ) (at : ℕ) (a b : GotProperty) → PropertyRead row s at a → PropertyRead row s at b → a ≡ b
+property-same row s at a b r r′ = typed-same (lookup row) (toldProperty b) a b (r .says ∙ sym (r′ .says)) refl (r .typed) (r′ .typed)
+
+-- the same by the number of a kind
+pub property-at-same : (kind : ℕ) (s : List ℕ) (at : ℕ) (a b : GotProperty) → PropertyGiven kind s at a → PropertyGiven kind s at b → a ≡ b
+property-at-same kind s at a b r r′ = typed-same (formIn (lookup blocks kind)) (propertyAt kind s at) a b (r .says) (r′ .says) (r .typed) (r′ .typed)

@@ -73,7 +73,7 @@ pub fn size(
     }
 }
 
-// The frame from place 0 on, and its size; a refused write leaves the output as it stood.
+// The frame from index 0 on, and its size; a refused write leaves the output as it stood.
 pub fn write(
     head: PacketHead,
     topic: &[u8],

@@ -1,4 +1,4 @@
-// The bytes of a Publish, after `write` of publish.rs: each function puts its part at an index and gives the place behind it.
+// The bytes of a Publish, after `write` of publish.rs: each function puts its part at an index and gives the index behind it.
 // What would lie past the end is not stored.
 use byte_puts::put_bytes;
 use number_puts::fixed;
@@ -133,7 +133,7 @@ fn put_pkid(out: &mut [u8], at: usize, qos: u8, pkid: u16) -> usize
     2
 }
 
-// The first byte, R, the topic and the identifier, from place 0 on.
+// The first byte, R, the topic and the identifier, from index 0 on.
 fn put_front(out: &mut [u8], head: PublishHead, rest: usize, topic: &[u8]) -> usize
     ensures { λ r. ⌜ ((a b u l i c p : List ℕ) → Behind (now (out .entry)) 0 (firstByte (publish (handed head (now (topic .entry)) a b u l i c p)) ∷ (short rest ++ (spelled (now (topic .entry)) ++ identBytes (toldQoS (head .qos)) (head .pkid)))) (now (out .exit)) r) ⌝ }
 {
@@ -178,7 +178,7 @@ fn put_back(
     put_bytes(&mut *out, third, payload);
 }
 
-// The frame, from place 0 on, where R and L are given.
+// The frame, from index 0 on, where R and L are given.
 pub fn put_frame(
     out: &mut [u8],
     head: PublishHead,

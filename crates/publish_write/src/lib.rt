@@ -51,7 +51,7 @@ pub fn size(
     settle::size(together, sizes.rest)
 }
 
-// The frame from place 0 on, and its size; a refused write leaves the output as it stood.
+// The frame from index 0 on, and its size; a refused write leaves the output as it stood.
 pub fn write(
     head: PublishHead,
     topic: &[u8],

@@ -2,6 +2,7 @@
 -- says once its places are looked up. A place in the stream is a `Span`; a place of the table of properties, whose row says what may
 -- stand in a block, is a `Place` (grammar). Assumes nothing.
 use mathlib.Core.Path.{_≡_}
+use mathlib.Core.Bool.{Bool}
 use mathlib.Core.Option.{Option, none, some}
 use mathlib.Core.List.{List, [], _∷_}
 use Prim.Native.Nat.{ℕ, zero, suc, _+_, _-_}
@@ -28,9 +29,13 @@ spanOf b end = record { start = end - length b; len = length b }
 abbrev pub partOf : List ℕ → Span → List ℕ
 partOf s p = take (p .len) (drop (p .start) s)
 
+-- 01, row 21: "the place .. of the lent bytes": where it ends, they have not ended before
+abbrev pub liesIn : List ℕ → Span → Bool
+liesIn s p = leb (p .start + p .len) (length s)
+
 -- demand 1: "any record may be handed to any public entry point": the part if it lies within the stream, else the empty part
 unfoldable pub heldOf : List ℕ → Span → List ℕ
-heldOf s p = pick (leb (p .start + p .len) (length s)) (partOf s p) []
+heldOf s p = pick (liesIn s p) (partOf s p) []
 
 -- a string is handed back as its span, a list as the span that its items fill
 abbrev pub asPlaces : Shape
@@ -58,7 +63,7 @@ orNoItem (bad k) = bad noItem
 -- what fills the part of s at p
 unfoldable pub again : {A : Type 0} → (ℕ → Filler A) → List ℕ → Span → Fit A
 again q s p = do
-  guard (leb (p .start + p .len) (length s)) noItem
+  guard (liesIn s p) noItem
   orNoItem (q (p .start + p .len) (partOf s p))
 
 -- 01, row 21: "or n is past its last item"

@@ -1,5 +1,6 @@
 // The bytes that a row takes, after `len` of the properties in publish.rs, subscribe.rs and puback.rs. A sum is cut off one above the
 // largest R, which is as much of it as refusal 17 needs: no sum can wrap.
+use number_puts::length::MOST;
 use number_puts::length::len_len;
 use records::span::MaybeU8;
 use records::span::MaybeU16;
@@ -10,9 +11,6 @@ ghost use Rattle.grammar.specs.Tables.{Form, u8, u16, u32, number, pair};
 ghost use Rattle.writing.specs.Handed.{several};
 ghost use Rattle.writing.specs.Size.{lenLen, withLength, givenSize, cap};
 ghost use Rattle.rows.specs.Given.{givenU8, givenU16, givenU32, givenLent, givenPairs};
-
-// 01, grammar: "Largest: 268,435,455".
-pub const MOST: usize = 268435455;
 
 // The sum, cut off.
 pub fn add(a: usize, b: usize) -> usize

@@ -1,8 +1,8 @@
 // The tests of fields as they are written (01, writing order): 18, and 9 for text; 17 for identifiers. Those of filters are in
 // `filters_write`. The crate makes none of them before it writes.
+use number_puts::length::MOST;
 use records::error::Error;
 use records::span::MaybeU32;
-use row_sizes::MOST;
 use rows::run;
 use string_puts::GotStringLength;
 use string_puts::string_length;

@@ -1,13 +1,13 @@
 // How every kind is written (01, writing order): the refusals in their order from what a kind has found, its size, and the first bytes
 // of its frame. The crate's `write` of each kind repeats these lines, and tests the limit first (D7).
 use number_puts::fixed;
+use number_puts::length::MOST;
 use number_puts::length::len_len;
 use number_puts::length::put_length;
 use records::answer::Limit;
 use records::answer::Sized;
 use records::answer::Written;
 use records::error::Error;
-use row_sizes::MOST;
 use row_tests::Tested;
 use rows::run;
 ghost use mathlib.Core.Path.{_≡_};

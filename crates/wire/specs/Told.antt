@@ -1,11 +1,8 @@
--- What the answer on a string tells: its place and the index after it, or 01's number and values of the refusal; when a place lies within;
--- and the bytes of a string that may be absent. Assumes nothing.
-use mathlib.Core.Bool.{Bool}
+-- What the answer on a string tells: its place and the index after it, or 01's number and values of the refusal; and the bytes of a string
+-- that may be absent. Assumes nothing.
 use mathlib.Core.Option.{Option, none, some}
 use mathlib.Core.List.{List, []}
-use Prim.Native.Nat.{ℕ, _+_}
-use lib.Dec.{leb}
-use lib.ListN.{length}
+use Prim.Native.Nat.{ℕ}
 use Rattle.grammar.specs.Record.{Val, num, str, duo}
 use Rattle.reading.specs.Reader.{Fit, got, bad}
 use Rattle.reading.specs.Place as place
@@ -16,10 +13,6 @@ use Rattle.wire.specs.declared.got.GotSpan.the-variants.{Value, Refused}
 abbrev pub toldPart : GotSpan → Fit (place.Span × ℕ)
 toldPart (Value p next) = got (toldSpan p, next)
 toldPart (Refused e) = bad (toldError e)
-
--- 01, row 21: "the place .. of the lent bytes": where it ends, they have not ended before
-abbrev pub liesIn : List ℕ → place.Span → Bool
-liesIn s p = leb (p .start + p .len) (length s)
 
 -- ---- strings that may be absent
 

@@ -9,10 +9,10 @@ use records::span::Span;
 ghost use mathlib.Core.Path.{_≡_};
 ghost use lib.ListN.{length};
 ghost use Rattle.reading.specs.Read.{bytesOf, textOf};
-ghost use Rattle.reading.specs.Place.{asPlaces, heldOf};
+ghost use Rattle.reading.specs.Place.{asPlaces, heldOf, liesIn};
 ghost use Rattle.positions.specs.Position.{fromAt};
 ghost use Rattle.records.specs.Told.{toldSpan, toldString};
-ghost use Rattle.wire.specs.Told.{toldPart, liesIn, stringIf};
+ghost use Rattle.wire.specs.Told.{toldPart, stringIf};
 
 // The place of a string of any bytes.
 pub fn read_mqtt_bytes(s: &[u8], at: usize) -> GotSpan

@@ -168,6 +168,9 @@ bench =
     ∷ case none 6 (acked 0 true no (run [] [])) (got (0x40 ∷ 0x04 ∷ 0x00 ∷ 0x0A ∷ 0x00 ∷ 0x00 ∷ []))
     ∷ case none 6 (acked 0x10 false no (run [] [])) (got (0x40 ∷ 0x04 ∷ 0x00 ∷ 0x0A ∷ 0x10 ∷ 0x00 ∷ []))
     ∷ case none 20 (acked 0 true (yes a) (run [] [])) (got (0x40 ∷ 0x08 ∷ 0x00 ∷ 0x0A ∷ 0x00 ∷ 0x04 ∷ 0x1F ∷ 0x00 ∷ 0x01 ∷ 0x61 ∷ []))
+    -- identifier 0 of a Subscribe and of a PubAck
+    ∷ case none 9 (subscribe (record { ident = 0; block = false; subscription = none; user = run [] []; filters = run a (1 ∷ []); options = 1 ∷ [] })) (got (0x82 ∷ 0x07 ∷ 0x00 ∷ 0x00 ∷ 0x00 ∷ 0x00 ∷ 0x01 ∷ 0x61 ∷ 0x01 ∷ []))
+    ∷ case none 4 (ack 4 (record { ident = 0; reason = 0; block = false; text = no; user = run [] [] })) (got (0x40 ∷ 0x02 ∷ 0x00 ∷ 0x00 ∷ []))
     -- pings
     ∷ case none 2 (ping 12) (got (0xC0 ∷ 0x00 ∷ []))
     ∷ case none 2 (ping 13) (got (0xD0 ∷ 0x00 ∷ []))

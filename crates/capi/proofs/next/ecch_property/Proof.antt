@@ -14,7 +14,7 @@ same-length : tie.Need-same-length
 same-length c = search needs
 
 returns : tie.Need-returns
-returns c = (c .before .before .store-property .ensures .0 ∙ rw (c .before .before .before .before .property-at .ensures), c .before .before .store-property .ensures .1 ∙ rw (c .before .before .before .before .property-at .ensures))
+returns c = (c .before .before .store-property .ensures .0 ∙ rw (c .before .before .before .before .property-at .ensures .says), c .before .before .store-property .ensures .1 ∙ rw (c .before .before .before .before .property-at .ensures .says))
 
 pub ecch-property-spec : {M : Type 1} → statement M
 ecch-property-spec =

@@ -16,19 +16,19 @@ read-property-requires-3 c κs = search needs
 
 returns : tie.Need-returns
 unfolding blocks
-returns c = rw (c .before .match .keys1) (c .read-property .ensures .says)
+returns c = record { says = rw (c .before .match .keys1) (c .read-property .ensures .says); typed = rw (c .before .match .keys1) (c .read-property .ensures .typed) }
 
 returns-2 : tie.Need-returns-2
 unfolding blocks
-returns-2 c = rw (c .before .match .keys2) (c .read-property2 .ensures .says)
+returns-2 c = record { says = rw (c .before .match .keys2) (c .read-property2 .ensures .says); typed = rw (c .before .match .keys2) (c .read-property2 .ensures .typed) }
 
 returns-3 : tie.Need-returns-3
 unfolding blocks
-returns-3 c = rw (c .before .match .keys3) (c .read-property3 .ensures .says)
+returns-3 c = record { says = rw (c .before .match .keys3) (c .read-property3 .ensures .says); typed = rw (c .before .match .keys3) (c .read-property3 .ensures .typed) }
 
 returns-4 : tie.Need-returns-4
 unfolding blocks
-returns-4 c = rw (lookup-absent blocks (c .before .before .args .kind) (c .match .rest))
+returns-4 c = record { says = rw (lookup-absent blocks (c .before .before .args .kind) (c .match .rest)); typed = tt }
 
 pub property-at-spec : {M : Type 1} → statement M
 property-at-spec =
