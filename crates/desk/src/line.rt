@@ -13,7 +13,7 @@ use records::publish_record::PublishProperties;
 use records::qos;
 use records::subscribe_record::MaybeSubscribeProperties;
 use records::subscribe_record::Subscribe;
-use wire::property::PropertyPlace;
+use tables::property::PropertyPlace;
 
 // The offset, the kind and the count: `kind` is lent with the words around it.
 fn head(out: &mut [u8], at: usize, offset: u64, kind: &[u8], taken: usize) -> usize {

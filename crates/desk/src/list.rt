@@ -8,7 +8,7 @@ use records::subscribe_record::Filter;
 use records::subscribe_record::rule_number;
 use subscribe::filter;
 use subscribe::filter::GotFilter;
-use wire::property::PropertyPlace;
+use tables::property::PropertyPlace;
 use wire::string;
 
 fn wide(b: u8) -> u64 {

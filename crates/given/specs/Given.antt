@@ -9,7 +9,7 @@ use Rattle.reading.specs.Reader.{Fit, got, _>>=_}
 use Rattle.writing.specs.Handed.{Lent, Handed, SubscribeHanded, publish, ack}
 use Rattle.records.specs.Told.{toldBool}
 use Rattle.records.specs.Answered.{reasonOf}
-use Rattle.wire.specs.Qos.{qosOf}
+use Rattle.tables.specs.Qos.{qosOf}
 use Rattle.rows.specs.Given.{run}
 
 -- header: "A flag that is handed over is false if it is 0, else true"

@@ -4,7 +4,7 @@ use property_value::read_property;
 use records::answer::UserItem;
 use records::error::Error;
 use records::span::Span;
-use wire::property::PropertyPlace;
+use tables::property::PropertyPlace;
 ghost use mathlib.Core.Path.{_≡_};
 ghost use Rattle.records.specs.Told.{toldSpan};
 ghost use Rattle.records.specs.Answered.{toldUser};

@@ -5,10 +5,10 @@ use property_value::Value;
 use records::answer::IdentifierItem;
 use records::answer::UserItem;
 use records::span::Span;
-use wire::property::PropertyPlace;
+use tables::property::PropertyPlace;
 use wire::string;
 ghost use Rattle.records.specs.Told.{toldSpan};
-ghost use Rattle.wire.specs.Property.{placeOf};
+ghost use Rattle.tables.specs.Property.{placeOf};
 ghost use Rattle.items.specs.Nth.{SeekOn, SeekIn, NthRead, NthUser, NthIdentifier};
 
 // The search for a value: how many are to be passed before it, or the value.

@@ -24,12 +24,12 @@ use Rattle.numbers.specs.declared.got.GotU32.{GotU32}
 use Rattle.numbers.specs.declared.length.GotLength.{GotLength}
 use Rattle.wire.specs.Told.{toldPart}
 use Rattle.string_puts.specs.Written.{toldStringLength}
-use Rattle.wire.specs.Qos.{toldGotQos}
-use Rattle.wire.specs.Property.{toldForm}
+use Rattle.tables.specs.Qos.{toldGotQos}
+use Rattle.tables.specs.Property.{toldForm}
 use Rattle.wire.specs.declared.got.GotSpan.{GotSpan}
 use Rattle.string_puts.specs.declared.GotStringLength.{GotStringLength}
-use Rattle.wire.specs.declared.qos.GotQos.{GotQos}
-use Rattle.wire.specs.declared.property.PropertyForm.{PropertyForm}
+use Rattle.tables.specs.declared.qos.GotQos.{GotQos}
+use Rattle.tables.specs.declared.property.PropertyForm.{PropertyForm}
 use Rattle.framing.specs.Told.{toldKind, toldHeader, toldChecked, frameAt}
 use Rattle.framing.proofs.Laws.Frame as frame
 use Rattle.framing.specs.declared.check.Checked.{Checked}

@@ -7,14 +7,14 @@ use numbers::got::GotU32;
 use numbers::length;
 use records::error::Error;
 use records::span::Span;
+use tables::property;
+use tables::property::PropertyForm;
+use tables::property::PropertyPlace;
 use wire::got::GotSpan;
-use wire::property;
-use wire::property::PropertyForm;
-use wire::property::PropertyPlace;
 use wire::string;
 ghost use mathlib.Core.Option.{some};
 ghost use Rattle.grammar.specs.Tables.{number, pair};
-ghost use Rattle.wire.specs.Property.{placeOf, toldForm};
+ghost use Rattle.tables.specs.Property.{placeOf, toldForm};
 ghost use Rattle.property_value.specs.Told.{ValueRead, PropertyRead, publishLists, ValuePassed, PropertyPassed};
 
 // A value, by its form.

@@ -21,7 +21,7 @@ use Rattle.positions.specs.Position.{fromAt}
 use Rattle.positions.proofs.Trails.{Trails, trails-reads, trails-big, trails-bytes, trails-block}
 use Rattle.positions.proofs.Position.{got-left, got-within, bad-left, left-at, left-bad}
 use Rattle.positions.proofs.Fill.{fill-bad, fill-got}
-use Rattle.wire.specs.Qos.{qosOf}
+use Rattle.tables.specs.Qos.{qosOf}
 
 -- ---- a reader whose value is tested
 

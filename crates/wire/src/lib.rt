@@ -1,5 +1,3 @@
-// Strings and tables of the codec, after the helpers of v5/mod.rs: what stands at an index of a slice, and what a number stands for.
+// Strings of the codec, after the helpers of v5/mod.rs: what stands at an index or a place of a slice.
 pub mod got;
-pub mod property;
-pub mod qos;
 pub mod string;

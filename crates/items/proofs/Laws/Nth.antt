@@ -26,9 +26,9 @@ use Rattle.positions.proofs.Less.{property-less}
 use Rattle.positions.proofs.Position.{bad-left}
 use Rattle.records.specs.Told.{toldError}
 use Rattle.records.specs.declared.error.Error.{Error}
-use Rattle.wire.specs.Property.{placeOf}
-use Rattle.wire.specs.declared.property.PropertyPlace.{PropertyPlace}
-use Rattle.wire.specs.declared.property.PropertyPlace.the-variants.{Publish, Subscribe, PubAck}
+use Rattle.tables.specs.Property.{placeOf}
+use Rattle.tables.specs.declared.property.PropertyPlace.{PropertyPlace}
+use Rattle.tables.specs.declared.property.PropertyPlace.the-variants.{Publish, Subscribe, PubAck}
 use Rattle.property_value.specs.Told.{toldValue, formOf, PropertyRead}
 use Rattle.property_value.proofs.Laws.Value.{property-left, property-ahead}
 use Rattle.property_value.specs.declared.Value.{Value}

@@ -1,7 +1,7 @@
 -- `property_value::pass_listed` is right since the identifier that was read says whether a list's value is to follow. Assumes nothing.
 use mathlib.Core.Path.{refl}
 use borrow.Author.Needs.{needs}
-use Rattle.wire.proofs.Laws.Property.{lookup-absent}
+use Rattle.tables.proofs.Laws.{lookup-absent}
 use Rattle.property_value.specs.Told.{publishLists}
 use Rattle.property_value.proofs.Laws.Value.{past-none, past-in, past-out}
 use Rattle.property_value.proofs.pass_listed.Statement.{statement}

@@ -5,7 +5,7 @@ use native.Mathlib.Omega.{arith}
 use borrow.Author.Needs.{needs}
 use lib.ListN.{length}
 use denote.Ref.{now}
-use Rattle.wire.specs.Property.{placeOf}
+use Rattle.tables.specs.Property.{placeOf}
 use Rattle.property_value.proofs.Laws.Value.{property-ahead}
 use Rattle.desk.proofs.list.values.Statement.{statement}
 use Rattle.desk.proofs.list.values.Tie as tie

@@ -1,10 +1,10 @@
 -- What the answers on properties tell: a row of 01's table, and the form of a value there. Assumes nothing.
 use mathlib.Core.Option.{Option, none, some}
 use Rattle.grammar.specs.Tables as tables
-use Rattle.wire.specs.declared.property.PropertyPlace.{PropertyPlace}
-use Rattle.wire.specs.declared.property.PropertyPlace.the-variants.{Publish, Subscribe, PubAck}
-use Rattle.wire.specs.declared.property.PropertyForm.{PropertyForm}
-use Rattle.wire.specs.declared.property.PropertyForm.the-variants.{U8, U16, U32, Number, Text, Bytes, Pair, NotHere}
+use Rattle.tables.specs.declared.property.PropertyPlace.{PropertyPlace}
+use Rattle.tables.specs.declared.property.PropertyPlace.the-variants.{Publish, Subscribe, PubAck}
+use Rattle.tables.specs.declared.property.PropertyForm.{PropertyForm}
+use Rattle.tables.specs.declared.property.PropertyForm.the-variants.{U8, U16, U32, Number, Text, Bytes, Pair, NotHere}
 
 -- 01, table of properties: the row of a place
 abbrev pub placeOf : PropertyPlace → tables.Place

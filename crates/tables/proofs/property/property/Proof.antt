@@ -1,7 +1,7 @@
--- `wire::property::property` meets its contract: each place hands over to the function of its row. Assumes nothing.
+-- `tables::property::property` meets its contract: each place hands over to the function of its row. Assumes nothing.
 use borrow.Author.Needs.{needs}
-use Rattle.wire.proofs.property.property.Statement.{statement}
-use Rattle.wire.proofs.property.property.Tie as tie
+use Rattle.tables.proofs.property.property.Statement.{statement}
+use Rattle.tables.proofs.property.property.Tie as tie
 
 enum-told : tie.Need-enum-told
 enum-told c = search needs

@@ -2,7 +2,7 @@
 use records::error::Error;
 use records::qos::QoS;
 ghost use mathlib.Core.Path.{_≡_};
-ghost use Rattle.wire.specs.Qos.{toldGotQos, qosOf};
+ghost use Rattle.tables.specs.Qos.{toldGotQos, qosOf};
 
 pub enum GotQos {
     Value(QoS),

@@ -3,7 +3,7 @@
 ghost use mathlib.Core.Path.{_≡_};
 ghost use Rattle.grammar.specs.Choice.{lookup};
 ghost use Rattle.grammar.specs.Tables.{publishPlace, subscribePlace, ackPlace};
-ghost use Rattle.wire.specs.Property.{toldForm, placeOf};
+ghost use Rattle.tables.specs.Property.{toldForm, placeOf};
 
 // Where a block stands.
 pub enum PropertyPlace {

@@ -1,8 +1,8 @@
--- `wire::qos::qos` meets its contract: 0, 1 and 2 are the numbers below 3. Assumes nothing.
+-- `tables::qos::qos` meets its contract: 0, 1 and 2 are the numbers below 3. Assumes nothing.
 use native.Mathlib.Omega.{arith}
 use borrow.Author.Tests.{le-ltb}
-use Rattle.wire.proofs.qos.qos.Statement.{statement}
-use Rattle.wire.proofs.qos.qos.Tie as tie
+use Rattle.tables.proofs.qos.qos.Statement.{statement}
+use Rattle.tables.proofs.qos.qos.Tie as tie
 
 returns : tie.Need-returns
 returns c = rw (c .match .keys1)

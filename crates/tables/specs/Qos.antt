@@ -5,8 +5,8 @@ use lib.Dec.{ltb}
 use Rattle.reading.specs.Refusal.{nr}
 use Rattle.reading.specs.Reader.{Fit, got, bad, _>>_, guard}
 use Rattle.records.specs.Told.{toldError, toldQoS}
-use Rattle.wire.specs.declared.qos.GotQos.{GotQos}
-use Rattle.wire.specs.declared.qos.GotQos.the-variants.{Value, Refused}
+use Rattle.tables.specs.declared.qos.GotQos.{GotQos}
+use Rattle.tables.specs.declared.qos.GotQos.the-variants.{Value, Refused}
 
 abbrev pub toldGotQos : GotQos → Fit ℕ
 toldGotQos (Value q) = got (toldQoS q)
