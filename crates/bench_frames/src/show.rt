@@ -15,7 +15,6 @@ use records::shown::Values;
 use records::span::Span;
 use records::subscribe_record::Filter;
 use records::subscribe_record::Subscribe;
-use subscribe::filter;
 use wire::string;
 
 fn byte(b: u8) -> u64 {
@@ -134,7 +133,7 @@ fn filter_of(s: &[u8], f: Filter) {
 fn subscribe_of(s: &[u8], m: Subscribe) {
     let mut n: usize = 0;
     while n < s.len() {
-        match filter::filter(s, m.filters, n) {
+        match filters::filter(s, m.filters, n) {
             FilterItem::NoItem => return,
             FilterItem::Filter(f) => {
                 if 0 < n {

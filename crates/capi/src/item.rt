@@ -2,7 +2,6 @@
 use given::kind::user_item;
 use layout::item;
 use records::span::Span;
-use subscribe::filter;
 ghost use mathlib.Core.Path.{_≡_};
 ghost use lib.Seq.{sets};
 ghost use Rattle.reading.specs.Place.{asPlaces, subscriptionAt, filterAt};
@@ -54,6 +53,6 @@ pub extern "C" fn ecch_filter(
     ensures number { λ r. ⌜ r ≡ fitNumber (filterAt asPlaces (now (stream .entry)) (record { start = start; len = len }) n) ⌝ }
     ensures stored { λ r. ⌜ now (into .exit) ≡ sets (now (into .entry)) 0 (filterNumbers (filterAt asPlaces (now (stream .entry)) (record { start = start; len = len }) n)) ⌝ }
 {
-    let found = filter::filter(stream, Span { start, len }, n);
+    let found = filters::filter(stream, Span { start, len }, n);
     item::store_filter(found, &mut *into)
 }

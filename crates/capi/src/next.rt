@@ -2,7 +2,6 @@
 use given::kind::property_at;
 use layout_next::store_filter;
 use layout_next::store_property;
-use subscribe::filter;
 ghost use mathlib.Core.Path.{_≡_};
 ghost use lib.ListN.{length};
 ghost use lib.Seq.{sets};
@@ -29,6 +28,6 @@ pub extern "C" fn ecch_next_filter(stream: &[u8], at: usize, into: &mut [u64]) -
     ensures number { λ r. ⌜ r ≡ fitNumber (fromAt (filterOf asPlaces (length (now (stream .entry)))) (now (stream .entry)) at) ⌝ }
     ensures stored { λ r. ⌜ now (into .exit) ≡ sets (now (into .entry)) 0 (nextFilterNumbers (fromAt (filterOf asPlaces (length (now (stream .entry)))) (now (stream .entry)) at)) ⌝ }
 {
-    let found = filter::read_filter(stream, at);
+    let found = filters::read_filter(stream, at);
     store_filter(found, &mut *into)
 }

@@ -1,13 +1,12 @@
 // The fields of lists, each list in one pass over its place: user properties and subscription identifiers of a block, filters of a run.
 use crate::field;
+use filters::GotFilter;
 use property_value::GotProperty;
 use property_value::Value;
 use records::qos;
 use records::span::Span;
 use records::subscribe_record::Filter;
 use records::subscribe_record::rule_number;
-use subscribe::filter;
-use subscribe::filter::GotFilter;
 use tables::property::PropertyPlace;
 use wire::string;
 
@@ -72,7 +71,7 @@ fn filters_in(out: &mut [u8], at: usize, s: &[u8]) -> usize {
     let mut next = at;
     let mut i: usize = 0;
     while i < s.len() {
-        match filter::read_filter(s, i) {
+        match filters::read_filter(s, i) {
             GotFilter::Refused(_) => return next,
             GotFilter::Value(f, end) => {
                 next = filter_of(&mut *out, next, s, f);

@@ -1,4 +1,5 @@
 // What is returned and stored of the property or filter at an index: with it the index after it, at which the next one begins.
+use filters::GotFilter;
 use layout::store::store;
 use layout::value::first_value;
 use layout::value::flag;
@@ -9,12 +10,11 @@ use records::error::number;
 use records::error::values;
 use records::qos::qos_number;
 use records::subscribe_record::rule_number;
-use subscribe::filter::GotFilter;
 ghost use mathlib.Core.Path.{_≡_};
 ghost use lib.Seq.{sets};
 ghost use Rattle.records.specs.Told.{toldError};
 ghost use Rattle.property_value.specs.Told.{toldValue, toldProperty};
-ghost use Rattle.subscribe.specs.Told.{toldGotFilter};
+ghost use Rattle.filters.specs.Told.{toldGotFilter};
 ghost use Rattle.layout.specs.Item.{fitNumber};
 ghost use Rattle.layout_next.specs.Next.{badNumbers, propertyRow, propertyNumbers, nextFilterNumbers};
 

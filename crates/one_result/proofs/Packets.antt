@@ -22,10 +22,11 @@ use Rattle.publish_properties.specs.Singles.{toldPublishBlockAt}
 use Rattle.publish_properties.specs.declared.GotPublishBlock.{GotPublishBlock}
 use Rattle.puback.specs.Told.{toldGotPubAck}
 use Rattle.puback.specs.declared.GotPubAck.{GotPubAck}
-use Rattle.subscribe.specs.Told.{toldGotFilter, toldGotFilters, toldGotSubscribe}
+use Rattle.filters.specs.Told.{toldGotFilter, toldGotFilters}
+use Rattle.filters.specs.declared.GotFilter.{GotFilter}
+use Rattle.filters.specs.declared.GotFilters.{GotFilters}
+use Rattle.subscribe.specs.Told.{toldGotSubscribe}
 use Rattle.subscribe.specs.declared.GotSubscribe.{GotSubscribe}
-use Rattle.subscribe.specs.declared.filter.GotFilter.{GotFilter}
-use Rattle.subscribe.specs.declared.filter.GotFilters.{GotFilters}
 use Rattle.publish.specs.Told.{toldGotPublish}
 use Rattle.publish.specs.declared.GotPublish.{GotPublish}
 use Rattle.one_result.specs.OneResult.{OneResult}

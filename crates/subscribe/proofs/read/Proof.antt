@@ -1,7 +1,7 @@
 -- `subscribe::read` is right since a Subscribe is an identifier, a block, and filters to the end, each read where the last ends. Assumes nothing.
 use borrow.Author.Needs.{needs}
 use denote.Ref.{now}
-use Rattle.subscribe.proofs.Laws.Fields.{fields-ident, fields-block, fields-filters, fields-fine}
+use Rattle.subscribe.proofs.Laws.{fields-ident, fields-block, fields-filters, fields-fine}
 use Rattle.subscribe.proofs.read.Statement.{statement}
 use Rattle.subscribe.proofs.read.Tie as tie
 

@@ -5,7 +5,7 @@ use native.Mathlib.Omega.{arith}
 use borrow.Author.Needs.{needs}
 use lib.ListN.{length}
 use denote.Ref.{now}
-use Rattle.subscribe.proofs.Laws.Filters.{filter-ahead}
+use Rattle.filters.proofs.Laws.{filter-ahead}
 use Rattle.desk.proofs.list.filters_in.Statement.{statement}
 use Rattle.desk.proofs.list.filters_in.Tie as tie
 

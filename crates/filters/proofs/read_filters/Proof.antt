@@ -1,12 +1,12 @@
--- `subscribe::filter::read_filters` is right since each turn passes one filter, and what stands at `i` decides. Assumes nothing.
+-- `filters::read_filters` is right since each turn passes one filter, and what stands at `i` decides. Assumes nothing.
 use Prim.Native.Nat.{_-_}
 use native.Mathlib.Omega.{arith}
 use borrow.Author.Needs.{needs}
 use lib.ListN.{length}
 use denote.Ref.{now}
-use Rattle.subscribe.proofs.Laws.Filters.{filter-ahead, run-empty, Going, going-start, going-bad, going-next, going-end}
-use Rattle.subscribe.proofs.filter.read_filters.Statement.{statement}
-use Rattle.subscribe.proofs.filter.read_filters.Tie as tie
+use Rattle.filters.proofs.Laws.{filter-ahead, run-empty, Going, going-start, going-bad, going-next, going-end}
+use Rattle.filters.proofs.read_filters.Statement.{statement}
+use Rattle.filters.proofs.read_filters.Tie as tie
 
 abbrev Inv-loop : tie.InvT-loop
 Inv-loop s at i₀ i = Going s at i

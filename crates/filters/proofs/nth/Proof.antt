@@ -1,12 +1,12 @@
--- `subscribe::filter::nth` is right since each turn passes one filter and keeps the n-th of those passed. Assumes nothing.
+-- `filters::nth` is right since each turn passes one filter and keeps the n-th of those passed. Assumes nothing.
 use Prim.Native.Nat.{_-_}
 use native.Mathlib.Omega.{arith}
 use borrow.Author.Needs.{needs}
 use lib.ListN.{length}
 use denote.Ref.{now}
-use Rattle.subscribe.proofs.Laws.Filters.{filter-ahead, Counting, counting-start, counting-bad, counting-next, counting-end}
-use Rattle.subscribe.proofs.filter.nth.Statement.{statement}
-use Rattle.subscribe.proofs.filter.nth.Tie as tie
+use Rattle.filters.proofs.Laws.{filter-ahead, Counting, counting-start, counting-bad, counting-next, counting-end}
+use Rattle.filters.proofs.nth.Statement.{statement}
+use Rattle.filters.proofs.nth.Tie as tie
 
 abbrev Inv-loop : tie.InvT-loop
 Inv-loop s at n item₀ turn₀ i₀ item turn i = Counting s at n item turn i

@@ -1,7 +1,7 @@
--- `subscribe::filter::choose` is right since its test is the one that is told. Assumes nothing.
+-- `filters::choose` is right since its test is the one that is told. Assumes nothing.
 use borrow.Author.Tests.{eq-eqb, ne-eqb}
-use Rattle.subscribe.proofs.filter.choose.Statement.{statement}
-use Rattle.subscribe.proofs.filter.choose.Tie as tie
+use Rattle.filters.proofs.choose.Statement.{statement}
+use Rattle.filters.proofs.choose.Tie as tie
 
 returns : tie.Need-returns
 returns c = rw (eq-eqb (c .before .args .turn) (c .before .args .n) (c .if1 .taken))

@@ -28,7 +28,7 @@ use Rattle.records.specs.declared.answer.FilterItem.{FilterItem}
 use Rattle.records.specs.declared.answer.FilterItem.the-variants.{NoItem}
 use Rattle.records.specs.declared.subscribe_record.Filter as said
 use Rattle.tables.specs.Qos.{qosOf}
-use Rattle.subscribe.specs.Told.{optionsOf, placeFit, chosen, nthFit}
+use Rattle.filters.specs.Told.{optionsOf, placeFit, chosen, nthFit}
 
 -- ---- the options byte
 

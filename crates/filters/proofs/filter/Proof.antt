@@ -1,4 +1,4 @@
--- `subscribe::filter::filter` is right since a place that lies within is the end of the slice that stops there. Assumes nothing.
+-- `filters::filter` is right since a place that lies within is the end of the slice that stops there. Assumes nothing.
 use mathlib.Core.Path.{sym, _∙_}
 use Prim.Native.Nat.{_+_}
 use native.Mathlib.Omega.{arith}
@@ -8,9 +8,9 @@ use lib.ListN.{length}
 use lib.Seq.{length-take-le}
 use denote.Ref.{now}
 use Rattle.records.specs.Told.{toldSpan}
-use Rattle.subscribe.proofs.Laws.Filters.{filter-outside, filter-within}
-use Rattle.subscribe.proofs.filter.filter.Statement.{statement}
-use Rattle.subscribe.proofs.filter.filter.Tie as tie
+use Rattle.filters.proofs.Laws.{filter-outside, filter-within}
+use Rattle.filters.proofs.filter.Statement.{statement}
+use Rattle.filters.proofs.filter.Tie as tie
 
 within-requires : tie.Need-within-requires
 within-requires c κs = search needs

@@ -19,7 +19,7 @@ ghost use Rattle.reading.specs.Place.{asPlaces};
 ghost use Rattle.positions.specs.Position.{fromAt};
 ghost use Rattle.records.specs.Told.{toldSpan};
 ghost use Rattle.records.specs.Answered.{toldFilterItem};
-ghost use Rattle.subscribe.specs.Told.{toldGotFilter, optionsOf, toldGotFilters, placeFit, chosen, nthFit, NthFilter};
+ghost use Rattle.filters.specs.Told.{toldGotFilter, optionsOf, toldGotFilters, placeFit, chosen, nthFit, NthFilter};
 
 // A filter and the index after it.
 pub enum GotFilter {

@@ -1,10 +1,10 @@
--- `subscribe::filter::read_filter` is right since a filter is a text, then an options byte, and its options decide. Assumes nothing.
+-- `filters::read_filter` is right since a filter is a text, then an options byte, and its options decide. Assumes nothing.
 use mathlib.Core.Path.{_∙_}
 use borrow.Author.Needs.{needs}
 use denote.Ref.{now}
-use Rattle.subscribe.proofs.Laws.Filters.{filter-text, filter-cut, filter-options}
-use Rattle.subscribe.proofs.filter.read_filter.Statement.{statement}
-use Rattle.subscribe.proofs.filter.read_filter.Tie as tie
+use Rattle.filters.proofs.Laws.{filter-text, filter-cut, filter-options}
+use Rattle.filters.proofs.read_filter.Statement.{statement}
+use Rattle.filters.proofs.read_filter.Tie as tie
 
 read-mqtt-string-requires : tie.Need-read-mqtt-string-requires
 read-mqtt-string-requires c κs = search needs

@@ -1,9 +1,9 @@
--- `subscribe::filter::with_options` is right since a filter is made of a rule, then of a quality of service. Assumes nothing.
+-- `filters::with_options` is right since a filter is made of a rule, then of a quality of service. Assumes nothing.
 use borrow.Author.Needs.{needs}
 use Rattle.records.specs.Told.{toldSpan}
-use Rattle.subscribe.proofs.Laws.Filters.{options-rule, options-qos, options-fine}
-use Rattle.subscribe.proofs.filter.with_options.Statement.{statement}
-use Rattle.subscribe.proofs.filter.with_options.Tie as tie
+use Rattle.filters.proofs.Laws.{options-rule, options-qos, options-fine}
+use Rattle.filters.proofs.with_options.Statement.{statement}
+use Rattle.filters.proofs.with_options.Tie as tie
 
 retain-forward-rule-requires : tie.Need-retain-forward-rule-requires
 retain-forward-rule-requires c κs = search needs
