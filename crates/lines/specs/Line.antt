@@ -1,4 +1,4 @@
--- The lines of docs/DESK.md that are names and numbers alone. Assumes nothing.
+-- The lines of docs/DESK.md for a refusal and for a frame that is too long. Assumes nothing.
 use mathlib.Core.Path.{_≡_}
 use mathlib.Core.List.{List, [], _∷_, _++_}
 use Prim.Native.Nat.{ℕ, _+_}

@@ -1,6 +1,6 @@
 // What was read: a count for each refusal at its number, for each kind and for all refusals; and the line that tells them.
-use crate::number;
-use crate::word;
+use byte_puts::put_bytes;
+use lines::put_number;
 use records::error;
 use records::error::Error;
 use records::packet_record::Packet;
@@ -9,8 +9,9 @@ ghost use mathlib.Core.List.{_++_};
 ghost use Prim.Native.Nat.{_+_, _≤_};
 ghost use lib.ListN.{length, getD, replicate};
 ghost use Rattle.records.specs.Told.{toldError, rowOf};
+ghost use Rattle.render.specs.Shown.{decimalOf};
 ghost use Rattle.lines.specs.Line.{Placed};
-ghost use Rattle.lines.specs.Tally.{kindAt, oneMore, refusedMore, kindsText, pingsText, refusalText, refusalsTo, endText, summaryLine};
+ghost use Rattle.tallies.specs.Tally.{kindAt, oneMore, refusedMore, kindsText, pingsText, refusalText, refusalsTo, endText, summaryLine};
 
 const PUBLISH: usize = 22;
 
@@ -74,6 +75,15 @@ pub fn add_refused(tally: &mut [u64], e: Error)
     add(&mut *tally, ALL);
 }
 
+// A number behind the words before it.
+fn number(out: &mut [u8], at: usize, w: &[u8], n: u64) -> usize
+    requires { ⌜ at ≤ 65535 ⌝ }
+    ensures placed { λ r. ⌜ Placed (now (out .entry)) at (now (w .entry) ++ decimalOf n) (now (out .exit)) r ⌝ }
+    ensures short { λ r. ⌜ r ≤ at + length (now (w .entry)) + 20 ⌝ }
+{
+    put_number(&mut *out, at as u16, w, n)
+}
+
 fn kinds(out: &mut [u8], tally: &[u64]) -> usize
     ensures placed { λ r. ⌜ Placed (now (out .entry)) 0 (kindsText (now (tally .entry))) (now (out .exit)) r ⌝ }
     ensures short { λ r. ⌜ r ≤ 256 ⌝ }
@@ -124,7 +134,8 @@ fn end(out: &mut [u8], at: usize, bytes: u64) -> usize
     ensures { λ r. ⌜ Placed (now (out .entry)) at (endText bytes) (now (out .exit)) r ⌝ }
 {
     let a = number(&mut *out, at, b" bytes=", bytes);
-    word(&mut *out, a, b"\n")
+    put_bytes(&mut *out, a, b"\n");
+    a + 1
 }
 
 // The line of what was read; gives how many bytes it is.
