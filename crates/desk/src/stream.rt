@@ -2,7 +2,6 @@
 // unfinished. An unfinished frame moves to the front of the buffer, once at most.
 use crate::line;
 use crate::output;
-use lines::tally;
 use records::answer::Limit;
 use records::answer::Read;
 use records::error::Error;
@@ -88,7 +87,7 @@ fn accepted(
     let held = d.held;
     let s = string::part(buf, held);
     let put = line::packet(&mut *out, d.put, d.offset, s, p, taken);
-    tally::add_packet(&mut *tally, p);
+    tallies::add_packet(&mut *tally, p);
     passed(d, put, taken)
 }
 
@@ -99,7 +98,7 @@ fn refused(out: &mut [u8], tally: &mut [u64], d: Desk, e: Error, taken: usize) -
         return Desk { state: DONE, ..d };
     }
     let put = output::refused(&mut *out, d.put, d.offset, e, taken);
-    tally::add_refused(&mut *tally, e);
+    tallies::add_refused(&mut *tally, e);
     if taken == 0 {
         return Desk {
             put,
@@ -261,7 +260,7 @@ fn too_long(out: &mut [u8], d: Desk, most: usize) {
 
 // What was read, on standard error.
 fn summary(out: &mut [u8], tally: &[u64], bytes: u64) {
-    let len = tally::put_summary(&mut *out, tally, bytes);
+    let len = tallies::put_summary(&mut *out, tally, bytes);
     io::write_all(
         libc::STDERR_FILENO,
         string::part(&*out, Span { start: 0, len }),
@@ -290,7 +289,7 @@ fn finish(out: &mut [u8], tally: &[u64], d: Desk, most: usize) -> u8 {
 pub fn read(fd: i32, name: &[u8], limit: Limit) -> u8 {
     let mut buf = buffer();
     let mut out = io::large_buffer();
-    let mut tally = tally::none();
+    let mut tally = tallies::none();
     let d = read_all(fd, name, limit, &mut buf, &mut out, &mut tally);
     finish(&mut out, &tally, d, 1048576)
 }

@@ -1,10 +1,9 @@
 -- What is put behind what was put is one put of both. Assumes nothing.
-use mathlib.Core.Path.{_≡_, refl, sym, subst, _∙_}
+use mathlib.Core.Path.{_≡_, refl, sym, _∙_}
 use mathlib.Core.List.{List, [], _++_}
 use Prim.Native.Nat.{ℕ, _+_, _≤_}
 use native.Mathlib.Omega.{arith}
-use native.Mathlib.Numerals.{add-one}
-use lib.ListN.{length, replicate, getD, length-append}
+use lib.ListN.{length, replicate, length-append}
 use lib.Seq.{sets, take-at}
 use Rattle.reading.specs.Place.{heldOf}
 use Rattle.records.specs.declared.error.Error.{Error}
@@ -12,7 +11,6 @@ use Rattle.names.specs.Names.{names, nameAt, nameOf}
 use Rattle.byte_puts.proofs.Laws.{sets-then}
 use Rattle.wire.proofs.Laws.Strings.{held-within}
 use Rattle.lines.specs.Line.{Placed}
-use Rattle.lines.specs.Tally.{refusalText, refusalsTo}
 
 pub placed-none : (l : List ℕ) (at : ℕ) → Placed l at [] l at
 placed-none l at = record { stores = refl; behind = omega arith }
@@ -49,13 +47,3 @@ name-short (Error.StringTooLong n) = omega arith
 name-short (Error.NoRoom n) = omega arith
 name-short Error.ListMismatch = omega arith
 name-short Error.NoItem = omega arith
-
--- ---- the refusals one after the other
-
-pub to-none : (t l : List ℕ) (at : ℕ) → Placed l at (refusalsTo t 0) l at
-unfolding refusalsTo
-to-none t l at = placed-none l at
-
-pub to-next : (t : List ℕ) (k : ℕ) {l l₁ l₂ : List ℕ} {at m n : ℕ} → Placed l at (refusalsTo t k) l₁ m → Placed l₁ m (refusalText (k + 1) (getD t (k + 1) 0)) l₂ n → Placed l at (refusalsTo t (k + 1)) l₂ n
-unfolding refusalsTo
-to-next t k {l} {l₁} {l₂} {at} {m} {n} p q = subst (λ (j : ℕ). Placed l at (refusalsTo t j) l₂ n) (sym (add-one k)) (then p q)

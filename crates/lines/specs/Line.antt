@@ -1,4 +1,4 @@
--- The lines of docs/DESK.md that are names and numbers alone. Assumes nothing.
+-- The lines of docs/DESK.md for a refusal and for a frame that is too long. Assumes nothing.
 use mathlib.Core.Path.{_≡_}
 use mathlib.Core.List.{List, [], _∷_, _++_}
 use Prim.Native.Nat.{ℕ, _+_}
@@ -9,7 +9,7 @@ use Rattle.records.specs.declared.error.Error.{Error}
 use Rattle.names.specs.Names.{codesOf, nameOf}
 use Rattle.render.specs.Shown.{decimalOf}
 
--- xs stand from `at` on, as far as there is room, no other byte was changed, and `next` is the place behind them
+-- xs stand from `at` on, as far as there is room, no other byte was changed, and `next` is the index behind them
 pub record Placed (before : List ℕ) (at : ℕ) (xs after : List ℕ) (next : ℕ) : Type 0 where
   pub stores : after ≡ sets before at xs
   pub behind : next ≡ at + length xs

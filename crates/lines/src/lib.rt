@@ -1,7 +1,5 @@
 // The lines of `desk` that are names and numbers alone, put at the front of a lent output: those of a refusal and of a frame that is too
-// long here, that of what was read in `tally`. docs/DESK.md has the format. What would lie past the end of the output is not stored.
-pub mod tally;
-
+// long here, that of what was read in `tallies`. docs/DESK.md has the format. What would lie past the end of the output is not stored.
 use byte_puts::put_bytes;
 use records::error;
 use records::error::Error;
@@ -25,7 +23,7 @@ fn word(out: &mut [u8], at: usize, w: &[u8]) -> usize
 }
 
 fn decimal(out: &mut [u8], at: usize, n: u64) -> usize
-    requires { ⌜ at ≤ 65536 ⌝ }
+    requires { ⌜ at + 20 ≤ 18446744073709551615 ⌝ }
     ensures placed { λ r. ⌜ Placed (now (out .entry)) at (decimalOf n) (now (out .exit)) r ⌝ }
     ensures short { λ r. ⌜ r ≤ at + 20 ⌝ }
 {
@@ -35,12 +33,20 @@ fn decimal(out: &mut [u8], at: usize, n: u64) -> usize
 
 // A number behind the words before it.
 fn number(out: &mut [u8], at: usize, w: &[u8], n: u64) -> usize
-    requires { ⌜ at + length (now w) ≤ 65536 ⌝ }
+    requires { ⌜ at ≤ 65536 ⌝ }
     ensures placed { λ r. ⌜ Placed (now (out .entry)) at (now (w .entry) ++ decimalOf n) (now (out .exit)) r ⌝ }
     ensures short { λ r. ⌜ r ≤ at + length (now (w .entry)) + 20 ⌝ }
 {
     let next = word(&mut *out, at, w);
     decimal(&mut *out, next, n)
+}
+
+// The same, of any index that 16 bits hold; gives the index behind it.
+pub fn put_number(out: &mut [u8], at: u16, w: &[u8], n: u64) -> usize
+    ensures placed { λ r. ⌜ Placed (now (out .entry)) at (now (w .entry) ++ decimalOf n) (now (out .exit)) r ⌝ }
+    ensures short { λ r. ⌜ r ≤ at + length (now (w .entry)) + 20 ⌝ }
+{
+    number(&mut *out, at as usize, w, n)
 }
 
 fn one_value(out: &mut [u8], at: usize, n: usize) -> usize

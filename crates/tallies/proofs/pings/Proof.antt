@@ -1,9 +1,9 @@
--- `lines::tally::pings` is right since its parts are put one behind the other. Assumes nothing.
+-- `tallies::pings` is right since its parts are put one behind the other. Assumes nothing.
 use native.Mathlib.Omega.{arith}
 use borrow.Author.Needs.{needs}
 use Rattle.lines.proofs.Laws.{then}
-use Rattle.lines.proofs.tally.pings.Statement.{statement}
-use Rattle.lines.proofs.tally.pings.Tie as tie
+use Rattle.tallies.proofs.pings.Statement.{statement}
+use Rattle.tallies.proofs.pings.Tie as tie
 
 slice-aggregate-number : tie.Need-slice-aggregate-number
 slice-aggregate-number c = search needs

@@ -1,10 +1,10 @@
--- `lines::tally::count` is right since what lies past the end counts as 0. Assumes nothing.
+-- `tallies::count` is right since what lies past the end counts as 0. Assumes nothing.
 use mathlib.Core.Path.{sym}
 use borrow.Author.Needs.{needs}
 use lib.ListN.{List·getD-eq-default}
 use denote.Ref.{now}
-use Rattle.lines.proofs.tally.count.Statement.{statement}
-use Rattle.lines.proofs.tally.count.Tie as tie
+use Rattle.tallies.proofs.count.Statement.{statement}
+use Rattle.tallies.proofs.count.Tie as tie
 
 mul-result : tie.Need-mul-result
 mul-result c = search needs

@@ -1,9 +1,9 @@
--- `lines::tally::kinds` is right since its parts are put one behind the other. Assumes nothing.
+-- `tallies::kinds` is right since its parts are put one behind the other. Assumes nothing.
 use native.Mathlib.Omega.{arith}
 use borrow.Author.Needs.{needs}
 use Rattle.lines.proofs.Laws.{then}
-use Rattle.lines.proofs.tally.kinds.Statement.{statement}
-use Rattle.lines.proofs.tally.kinds.Tie as tie
+use Rattle.tallies.proofs.kinds.Statement.{statement}
+use Rattle.tallies.proofs.kinds.Tie as tie
 
 slice-aggregate-number : tie.Need-slice-aggregate-number
 slice-aggregate-number c = search needs

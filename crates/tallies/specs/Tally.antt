@@ -10,28 +10,28 @@ use Rattle.records.specs.declared.packet_record.Packet.{Packet}
 use Rattle.names.specs.Names.{codesOf}
 use Rattle.render.specs.Shown.{decimalOf}
 
--- the counts of refusals stand at their numbers, 1 to 21; those of the kinds from 22 on; that of all refusals at 27
+-- the counts of refusals stand at their numbers, 1 to 21 and room for more; those of the kinds from 58 on; that of all refusals at 63
 abbrev pub kindAt : Packet → ℕ
-kindAt (Packet.Publish m) = 22
-kindAt (Packet.Subscribe m) = 23
-kindAt (Packet.PubAck m) = 24
-kindAt Packet.PingReq = 25
-kindAt Packet.PingResp = 26
+kindAt (Packet.Publish m) = 58
+kindAt (Packet.Subscribe m) = 59
+kindAt (Packet.PubAck m) = 60
+kindAt Packet.PingReq = 61
+kindAt Packet.PingResp = 62
 
--- one more at k, counted in 64 bits; a place past the end holds no count
+-- one more at k, counted in 64 bits; an index past the end holds no count
 abbrev pub oneMore : List ℕ → ℕ → List ℕ
 oneMore t k = set t k ((getD t k 0 + 1) % 2 ^ 64)
 
 abbrev pub refusedMore : List ℕ → Error → List ℕ
-refusedMore t e = oneMore (oneMore t (rowOf (toldError e))) 27
+refusedMore t e = oneMore (oneMore t (rowOf (toldError e))) 63
 
 -- docs/DESK.md: "the frames of each kind"
 abbrev pub kindsText : List ℕ → List ℕ
-kindsText t = ((codesOf "desk: publish=" ++ decimalOf (getD t 22 0)) ++ (codesOf " subscribe=" ++ decimalOf (getD t 23 0))) ++ (codesOf " puback=" ++ decimalOf (getD t 24 0))
+kindsText t = ((codesOf "desk: publish=" ++ decimalOf (getD t 58 0)) ++ (codesOf " subscribe=" ++ decimalOf (getD t 59 0))) ++ (codesOf " puback=" ++ decimalOf (getD t 60 0))
 
 -- the same, and all refusals
 abbrev pub pingsText : List ℕ → List ℕ
-pingsText t = ((codesOf " pingreq=" ++ decimalOf (getD t 25 0)) ++ (codesOf " pingresp=" ++ decimalOf (getD t 26 0))) ++ (codesOf " refused=" ++ decimalOf (getD t 27 0))
+pingsText t = ((codesOf " pingreq=" ++ decimalOf (getD t 61 0)) ++ (codesOf " pingresp=" ++ decimalOf (getD t 62 0))) ++ (codesOf " refused=" ++ decimalOf (getD t 63 0))
 
 -- docs/DESK.md: "the refusals by their numbers": k was given n times, if at all
 abbrev pub refusalText : ℕ → ℕ → List ℕ

@@ -1,10 +1,10 @@
--- `lines::tally::pair` is right since its parts are put one behind the other, or none is. Assumes nothing.
+-- `tallies::pair` is right since its parts are put one behind the other, or none is. Assumes nothing.
 use native.Mathlib.Omega.{arith}
 use borrow.Author.Needs.{needs}
 use borrow.Author.Tests.{ne-eqb}
 use Rattle.lines.proofs.Laws.{placed-none, then}
-use Rattle.lines.proofs.tally.pair.Statement.{statement}
-use Rattle.lines.proofs.tally.pair.Tie as tie
+use Rattle.tallies.proofs.pair.Statement.{statement}
+use Rattle.tallies.proofs.pair.Tie as tie
 
 returns : tie.Need-returns
 returns c = (rw (c .if1 .taken) (placed-none _ _), omega arith)

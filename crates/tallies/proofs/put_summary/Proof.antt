@@ -1,8 +1,8 @@
--- `lines::tally::put_summary` is right since its parts are put one behind the other. Assumes nothing.
+-- `tallies::put_summary` is right since its parts are put one behind the other. Assumes nothing.
 use borrow.Author.Needs.{needs}
 use Rattle.lines.proofs.Laws.{then}
-use Rattle.lines.proofs.tally.put_summary.Statement.{statement}
-use Rattle.lines.proofs.tally.put_summary.Tie as tie
+use Rattle.tallies.proofs.put_summary.Statement.{statement}
+use Rattle.tallies.proofs.put_summary.Tie as tie
 
 kinds-requires : tie.Need-kinds-requires
 kinds-requires c κs = search needs

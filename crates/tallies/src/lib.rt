@@ -1,31 +1,34 @@
 // What was read: a count for each refusal at its number, for each kind and for all refusals; and the line that tells them.
-use crate::number;
-use crate::word;
+use byte_puts::put_bytes;
+use lines::put_number;
 use records::error;
 use records::error::Error;
 use records::packet_record::Packet;
 ghost use mathlib.Core.Path.{_≡_};
+ghost use mathlib.Core.List.{_++_};
 ghost use Prim.Native.Nat.{_+_, _≤_};
-ghost use lib.ListN.{getD, replicate};
+ghost use lib.ListN.{length, getD, replicate};
+ghost use Rattle.render.specs.Shown.{decimalOf};
 ghost use Rattle.lines.specs.Line.{Placed};
-ghost use Rattle.lines.specs.Tally.{kindAt, oneMore, refusedMore, kindsText, pingsText, refusalText, refusalsTo, endText, summaryLine};
+ghost use Rattle.tallies.specs.Tally.{kindAt, oneMore, refusedMore, kindsText, pingsText, refusalText, refusalsTo, endText, summaryLine};
 
-const PUBLISH: usize = 22;
+// behind the numbers of refusals, those that are yet to come included
+const PUBLISH: usize = 58;
 
-const SUBSCRIBE: usize = 23;
+const SUBSCRIBE: usize = 59;
 
-const PUBACK: usize = 24;
+const PUBACK: usize = 60;
 
-const PINGREQ: usize = 25;
+const PINGREQ: usize = 61;
 
-const PINGRESP: usize = 26;
+const PINGRESP: usize = 62;
 
-const ALL: usize = 27;
+const ALL: usize = 63;
 
-pub fn none() -> [u64; 32]
-    ensures { λ r. ⌜ r ≡ replicate 32 0 ⌝ }
+pub fn none() -> [u64; 64]
+    ensures { λ r. ⌜ r ≡ replicate 64 0 ⌝ }
 {
-    [0; 32]
+    [0; 64]
 }
 
 fn count(tally: &[u64], k: usize) -> u64
@@ -70,6 +73,15 @@ pub fn add_refused(tally: &mut [u64], e: Error)
 {
     add(&mut *tally, error::number(e) as usize);
     add(&mut *tally, ALL);
+}
+
+// A number behind the words before it.
+fn number(out: &mut [u8], at: usize, w: &[u8], n: u64) -> usize
+    requires { ⌜ at ≤ 65535 ⌝ }
+    ensures placed { λ r. ⌜ Placed (now (out .entry)) at (now (w .entry) ++ decimalOf n) (now (out .exit)) r ⌝ }
+    ensures short { λ r. ⌜ r ≤ at + length (now (w .entry)) + 20 ⌝ }
+{
+    put_number(&mut *out, at as u16, w, n)
 }
 
 fn kinds(out: &mut [u8], tally: &[u64]) -> usize
@@ -122,7 +134,8 @@ fn end(out: &mut [u8], at: usize, bytes: u64) -> usize
     ensures { λ r. ⌜ Placed (now (out .entry)) at (endText bytes) (now (out .exit)) r ⌝ }
 {
     let a = number(&mut *out, at, b" bytes=", bytes);
-    word(&mut *out, a, b"\n")
+    put_bytes(&mut *out, a, b"\n");
+    a + 1
 }
 
 // The line of what was read; gives how many bytes it is.

@@ -1,15 +1,15 @@
--- `lines::tally::refusals` is right since each turn puts the next behind those before it. Assumes nothing.
+-- `tallies::refusals` is right since each turn puts the next behind those before it. Assumes nothing.
 use mathlib.Core.Path.{_≡_, refl}
 use Prim.Native.Nat.{_+_, _-_, _*_, _≤_}
 use native.Mathlib.Omega.{arith}
 use borrow.Author.Needs.{needs}
 use lib.ListN.{length}
 use denote.Ref.{now}
 use Rattle.lines.specs.Line.{Placed}
-use Rattle.lines.specs.Tally.{refusalsTo}
-use Rattle.lines.proofs.Laws.{to-none, to-next}
-use Rattle.lines.proofs.tally.refusals.Statement.{statement}
-use Rattle.lines.proofs.tally.refusals.Tie as tie
+use Rattle.tallies.specs.Tally.{refusalsTo}
+use Rattle.tallies.proofs.Laws.{to-none, to-next}
+use Rattle.tallies.proofs.refusals.Statement.{statement}
+use Rattle.tallies.proofs.refusals.Tie as tie
 
 abbrev Inv-loop : tie.InvT-loop
 Inv-loop out₀ at tally next₀ k₀ out next k = (length out ≡ length out₀) × (k ≤ 21) × (next ≤ at + 64 * k) × Placed out₀ at (refusalsTo tally k) out next
