@@ -11,7 +11,7 @@ ghost use Rattle.writing.specs.Size.{propsSize, noIdent, identSize, restIs, cap
 ghost use Rattle.publish_plan.specs.Handed.{handed};
 
 // L, cut off above the largest R.
-pub fn properties_size(
+fn properties_size(
     head: PublishHead,
     response_topic: &[u8],
     correlation_data: &[u8],

@@ -27,7 +27,7 @@ pub fn then(a: Tested, b: Tested) -> Tested
     ensures { λ r. ⌜ toldTested r ≡ first (toldTested a) (toldTested b) ⌝ }
 {
     match a {
-        Tested::Refused(e) => Tested::Refused(e),
+        Tested::Refused(first) => Tested::Refused(first),
         Tested::Fine => b,
     }
 }

@@ -25,7 +25,7 @@ pub enum PropertyForm {
 }
 
 // The form of a property of a Publish.
-pub fn publish_property(num: u8) -> PropertyForm
+fn publish_property(num: u8) -> PropertyForm
     ensures { λ r. ⌜ toldForm r ≡ lookup publishPlace num ⌝ }
 {
     match num {
@@ -42,7 +42,7 @@ pub fn publish_property(num: u8) -> PropertyForm
 }
 
 // The form of a property of a Subscribe.
-pub fn subscribe_property(num: u8) -> PropertyForm
+fn subscribe_property(num: u8) -> PropertyForm
     ensures { λ r. ⌜ toldForm r ≡ lookup subscribePlace num ⌝ }
 {
     match num {
@@ -53,7 +53,7 @@ pub fn subscribe_property(num: u8) -> PropertyForm
 }
 
 // The form of a property of a PubAck.
-pub fn puback_property(num: u8) -> PropertyForm
+fn puback_property(num: u8) -> PropertyForm
     ensures { λ r. ⌜ toldForm r ≡ lookup ackPlace num ⌝ }
 {
     match num {

@@ -163,7 +163,8 @@ pub fn with_word(a: Asked, w: &[u8], i: usize) -> Asked
 pub fn ended(a: Asked) -> Asked
     ensures { λ r. ⌜ r ≡ withEnd a ⌝ }
 {
-    if a.awaits {
+    let awaited = a.awaits;
+    if awaited {
         return Asked { bad: true, ..a };
     }
     a
