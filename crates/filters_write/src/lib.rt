@@ -33,7 +33,7 @@ fn how_many(lengths: &[usize], options: &[u8]) -> usize
     run::after(options.len(), 0, lengths.len())
 }
 
-// 20: lengths that add up, and an options byte for each.
+// False is 20: lengths that do not add up to the bytes, or options bytes that differ from them in number.
 pub fn filters_belong(bytes: &[u8], lengths: &[usize], options: &[u8]) -> bool
     ensures { λ r. ⌜ r ≡ (addsUp (runOf (now (bytes .entry)) (now (lengths .entry))) && eqb (length (now (lengths .entry))) (length (now (options .entry)))) ⌝ }
 {
@@ -86,7 +86,7 @@ pub fn test_filters(bytes: &[u8], lengths: &[usize], options: &[u8]) -> Tested
     Tested::Fine
 }
 
-// 13
+// 13 if there is no filter.
 pub fn test_asked(lengths: &[usize], options: &[u8]) -> Tested
     ensures { λ r. ⌜ ((bytes : List ℕ) → toldTested r ≡ guard (not (isEmpty (filtersOf bytes (now (lengths .entry)) (now (options .entry))))) (nr 13 [])) ⌝ }
 {

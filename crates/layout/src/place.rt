@@ -45,6 +45,7 @@ pub struct Block {
     pub subscription: Number,
 }
 
+// Each number at its index in the header.
 pub fn numbers(h: Head, b: Block) -> [u64; 38]
     ensures { λ r. ⌜ r ≡ numbersOf h b ⌝ }
 {

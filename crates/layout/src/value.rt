@@ -4,12 +4,14 @@ ghost use mathlib.Core.Path.{_≡_};
 ghost use Rattle.records.specs.Told.{toldBool, toldValues};
 ghost use Rattle.layout.specs.Value.{valueAt};
 
+// 1 if true, else 0.
 pub fn flag(b: bool) -> u64
     ensures { λ r. ⌜ r ≡ toldBool b ⌝ }
 {
     if b { 1 } else { 0 }
 }
 
+// The first value of a refusal, 0 if it has none.
 pub fn first_value(v: Values) -> u64
     ensures { λ r. ⌜ r ≡ valueAt (toldValues v) 0 ⌝ }
 {
@@ -20,6 +22,7 @@ pub fn first_value(v: Values) -> u64
     }
 }
 
+// The second value of a refusal, 0 if it has none.
 pub fn second_value(v: Values) -> u64
     ensures { λ r. ⌜ r ≡ valueAt (toldValues v) 1 ⌝ }
 {

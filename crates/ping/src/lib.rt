@@ -1,4 +1,4 @@
-// PingReq and PingResp, written: two bytes each. The crate's ping.rs is not in the text.
+// PingReq and PingResp, written, after `write` and `size` of ping.rs: two bytes each.
 use records::answer::Limit;
 use records::answer::Sized;
 use records::answer::Written;

@@ -37,7 +37,7 @@ pub struct PubAckHead {
     pub reason_string: bool,
 }
 
-// 20
+// False is 20: the reason string or the user properties do not belong together.
 fn belongs(m: PubAckHead, reason_string: &[u8], user: &[u8], user_lengths: &[usize]) -> bool
     ensures { λ r. ⌜ r ≡ belongsOf (ack 4 (handed m (now («reason_string» .entry)) (now (user .entry)) (now («user_lengths» .entry)))) ⌝ }
 {

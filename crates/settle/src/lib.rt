@@ -43,7 +43,7 @@ pub fn size(belongs: bool, rest: usize) -> Sized
     Sized::Size(frame_size(rest))
 }
 
-// 16
+// 16 if the size is above the limit.
 fn within(limit: Limit, size: usize) -> Tested
     ensures { λ r. ⌜ toldTested r ≡ judge (limitTests (limitOf limit) size) ⌝ }
 {
@@ -58,7 +58,7 @@ fn within(limit: Limit, size: usize) -> Tested
     }
 }
 
-// 19
+// 19 if the output is shorter than the size, else the size.
 fn fit(size: usize, room: usize) -> Written
     ensures { λ r. ⌜ toldWritten r ≡ roomOf size room ⌝ }
 {

@@ -35,7 +35,7 @@ pub struct SubscribeHead {
     pub id: MaybeU32,
 }
 
-// 20
+// False is 20: the subscription identifier, the user properties or the filters do not belong together.
 fn belongs(
     m: SubscribeHead,
     user: &[u8],
