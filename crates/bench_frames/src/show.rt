@@ -1,20 +1,20 @@
 // A frame and its answer in 01's words, on standard output.
-use publish;
+use codes;
+use codes::reason_code;
+use publish_parts;
 use records::answer::FilterItem;
 use records::answer::IdentifierItem;
 use records::answer::Limit;
-use records::error;
 use records::error::Error;
 use records::packet_record::Packet;
 use records::puback_record::PubAck;
-use records::puback_record::reason_code;
 use records::publish_record::MaybePublishProperties;
 use records::publish_record::Publish;
-use records::qos;
 use records::shown::Values;
 use records::span::Span;
 use records::subscribe_record::Filter;
 use records::subscribe_record::Subscribe;
+use refusals;
 use wire::string;
 
 fn byte(b: u8) -> u64 {
@@ -51,8 +51,8 @@ pub fn taken(taken: usize) {
 
 // The number of the row, and its values.
 pub fn refusal(e: Error) {
-    io::print_decimal(1, byte(error::number(e)));
-    match error::values(e) {
+    io::print_decimal(1, byte(refusals::number(e)));
+    match refusals::values(e) {
         Values::None => {}
         Values::One(n) => {
             io::write_all(1, b" with ");
@@ -112,13 +112,13 @@ fn identifiers(s: &[u8], block: Span) {
 
 fn publish_of(s: &[u8], m: Publish) {
     io::write_all(1, b"topic ");
-    part(publish::topic(s, m));
+    part(publish_parts::topic(s, m));
     let properties = m.properties;
     if let MaybePublishProperties::Present(p) = properties {
         identifiers(s, p.block);
     }
     io::write_all(1, b", payload ");
-    part(publish::payload(s, m));
+    part(publish_parts::payload(s, m));
 }
 
 fn filter_of(s: &[u8], f: Filter) {
@@ -126,14 +126,14 @@ fn filter_of(s: &[u8], f: Filter) {
     part(string::part(s, f.path));
     io::write_all(1, b", QoS ");
     let q = f.qos;
-    io::print_decimal(1, byte(qos::qos_number(q)));
+    io::print_decimal(1, byte(codes::qos_number(q)));
 }
 
 // The filters of the run; it has fewer than it has bytes.
 fn subscribe_of(s: &[u8], m: Subscribe) {
     let mut n: usize = 0;
     while n < s.len() {
-        match filters::filter(s, m.filters, n) {
+        match filter_runs::filter(s, m.filters, n) {
             FilterItem::NoItem => return,
             FilterItem::Filter(f) => {
                 if 0 < n {

@@ -2,9 +2,9 @@
 use records::answer::Limit;
 use records::answer::Sized;
 use records::answer::Written;
-use records::error;
 use records::error::Error;
 use records::shown::Values;
+use refusals;
 
 fn byte(b: u8) -> u64 {
     b as u64
@@ -37,8 +37,8 @@ fn limit(limit: Limit) {
 
 // The number of the row, and its values.
 fn refusal(e: Error) {
-    io::print_decimal(1, byte(error::number(e)));
-    match error::values(e) {
+    io::print_decimal(1, byte(refusals::number(e)));
+    match refusals::values(e) {
         Values::None => {}
         Values::One(n) => {
             io::write_all(1, b" with ");

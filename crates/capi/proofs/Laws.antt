@@ -13,8 +13,8 @@ use Rattle.writing.specs.Write.{Written}
 use Rattle.names.specs.Names.{padded}
 use Rattle.names.specs.declared.shown.Name.{Name}
 use Rattle.wire.proofs.Laws.Strings.{held-within}
-use Rattle.layout.specs.Item.{fitNumber}
-use Rattle.layout.specs.Answer.{answerNumbers}
+use Rattle.layout.specs.Value.{fitNumber}
+use Rattle.layout_answer.specs.Answer.{answerNumbers}
 use Rattle.given.specs.Written.{answeredBehind, outBehind}
 
 -- ---- what is returned and stored

@@ -1,11 +1,12 @@
 // The n-th item of a list at a place of the stream.
 use given::kind::user_item;
-use layout::item;
+use layout_item;
 use records::span::Span;
 ghost use mathlib.Core.Path.{_≡_};
 ghost use lib.Seq.{sets};
 ghost use Rattle.reading.specs.Place.{asPlaces, subscriptionAt, filterAt};
-ghost use Rattle.layout.specs.Item.{fitNumber, userNumbers, identifierNumbers, filterNumbers};
+ghost use Rattle.layout.specs.Value.{fitNumber};
+ghost use Rattle.layout_item.specs.Item.{userNumbers, identifierNumbers, filterNumbers};
 ghost use Rattle.given.specs.Kind.{userOf};
 
 // Key and value.
@@ -22,7 +23,7 @@ pub extern "C" fn ecch_user_property(
     ensures stored { λ r. ⌜ now (into .exit) ≡ sets (now (into .entry)) 0 (userNumbers (userOf kind (now (stream .entry)) (record { start = start; len = len }) n)) ⌝ }
 {
     let found = user_item(stream, kind, Span { start, len }, n);
-    item::store_user(found, &mut *into)
+    layout_item::store_user(found, &mut *into)
 }
 
 // Of a Publish.
@@ -38,7 +39,7 @@ pub extern "C" fn ecch_subscription_identifier(
     ensures stored { λ r. ⌜ now (into .exit) ≡ sets (now (into .entry)) 0 (identifierNumbers (subscriptionAt asPlaces (now (stream .entry)) (record { start = start; len = len }) n)) ⌝ }
 {
     let found = items::subscription_identifier(stream, Span { start, len }, n);
-    item::store_identifier(found, &mut *into)
+    layout_item::store_identifier(found, &mut *into)
 }
 
 // Text and options.
@@ -53,6 +54,6 @@ pub extern "C" fn ecch_filter(
     ensures number { λ r. ⌜ r ≡ fitNumber (filterAt asPlaces (now (stream .entry)) (record { start = start; len = len }) n) ⌝ }
     ensures stored { λ r. ⌜ now (into .exit) ≡ sets (now (into .entry)) 0 (filterNumbers (filterAt asPlaces (now (stream .entry)) (record { start = start; len = len }) n)) ⌝ }
 {
-    let found = filters::filter(stream, Span { start, len }, n);
-    item::store_filter(found, &mut *into)
+    let found = filter_runs::filter(stream, Span { start, len }, n);
+    layout_item::store_filter(found, &mut *into)
 }

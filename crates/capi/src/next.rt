@@ -8,7 +8,7 @@ ghost use lib.Seq.{sets};
 ghost use Rattle.reading.specs.Read.{filterOf};
 ghost use Rattle.reading.specs.Place.{asPlaces};
 ghost use Rattle.positions.specs.Position.{fromAt};
-ghost use Rattle.layout.specs.Item.{fitNumber};
+ghost use Rattle.layout.specs.Value.{fitNumber};
 ghost use Rattle.layout_next.specs.Next.{propertyNumbers, nextFilterNumbers};
 ghost use Rattle.given.specs.Kind.{propertyAt};
 

@@ -3,11 +3,11 @@ use given::number::bound;
 use given::puback_by::puback_head;
 use given::puback_by::size_puback;
 use given::puback_by::write_puback;
-use layout::answer;
+use layout_answer;
 ghost use mathlib.Core.Path.{_≡_};
 ghost use lib.Seq.{sets};
-ghost use Rattle.layout.specs.Item.{fitNumber};
-ghost use Rattle.layout.specs.Answer.{answerNumbers};
+ghost use Rattle.layout.specs.Value.{fitNumber};
+ghost use Rattle.layout_answer.specs.Answer.{answerNumbers};
 ghost use Rattle.given.specs.Given.{limitGiven, ackBy};
 ghost use Rattle.given.specs.Written.{sizedBehind, answeredBehind, outBehind};
 
@@ -27,7 +27,7 @@ pub extern "C" fn ecch_puback_size(
 {
     let head = puback_head(pkid, reason, block, reason_string_on);
     let size = size_puback(head, reason_string, user, user_lengths);
-    answer::store_written(size, &mut *answer)
+    layout_answer::store_written(size, &mut *answer)
 }
 
 #[no_mangle]
@@ -57,5 +57,5 @@ pub extern "C" fn ecch_puback_write(
         bound(limited, limit),
         &mut *out,
     );
-    answer::store_written(written, &mut *answer)
+    layout_answer::store_written(written, &mut *answer)
 }

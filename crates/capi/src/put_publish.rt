@@ -3,11 +3,11 @@ use given::number::bound;
 use given::publish_by::publish_head;
 use given::publish_by::size_publish;
 use given::publish_by::write_publish;
-use layout::answer;
+use layout_answer;
 ghost use mathlib.Core.Path.{_≡_};
 ghost use lib.Seq.{sets};
-ghost use Rattle.layout.specs.Item.{fitNumber};
-ghost use Rattle.layout.specs.Answer.{answerNumbers};
+ghost use Rattle.layout.specs.Value.{fitNumber};
+ghost use Rattle.layout_answer.specs.Answer.{answerNumbers};
 ghost use Rattle.given.specs.Given.{limitGiven, publishBy};
 ghost use Rattle.given.specs.Written.{sizedBehind, answeredBehind, outBehind};
 
@@ -67,7 +67,7 @@ pub extern "C" fn ecch_publish_size(
         content,
         payload,
     );
-    answer::store_written(size, &mut *answer)
+    layout_answer::store_written(size, &mut *answer)
 }
 
 #[no_mangle]
@@ -132,5 +132,5 @@ pub extern "C" fn ecch_publish_write(
         bound(limited, limit),
         &mut *out,
     );
-    answer::store_written(written, &mut *answer)
+    layout_answer::store_written(written, &mut *answer)
 }

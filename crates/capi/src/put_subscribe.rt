@@ -1,14 +1,14 @@
 // A Subscribe: its size, and written.
 use given::number::bound;
 use given::subscribe_by::subscribe_head;
-use layout::answer;
+use layout_answer;
 ghost use mathlib.Core.Path.{_≡_};
 ghost use lib.ListN.{length};
 ghost use lib.Seq.{sets};
 ghost use Rattle.writing.specs.Handed.{subscribe};
 ghost use Rattle.writing.specs.Write.{sizeOf, answerOf, outOf};
-ghost use Rattle.layout.specs.Item.{fitNumber};
-ghost use Rattle.layout.specs.Answer.{answerNumbers};
+ghost use Rattle.layout.specs.Value.{fitNumber};
+ghost use Rattle.layout_answer.specs.Answer.{answerNumbers};
 ghost use Rattle.given.specs.Given.{limitGiven, subscribeBy};
 
 #[no_mangle]
@@ -29,7 +29,7 @@ pub extern "C" fn ecch_subscribe_size(
 {
     let head = subscribe_head(pkid, block, identifier_on, identifier);
     let size = subscribe_write::size(head, user, user_lengths, filters, filter_lengths, options);
-    answer::store_written(answer::as_written(size), &mut *answer)
+    layout_answer::store_written(layout_answer::as_written(size), &mut *answer)
 }
 
 #[no_mangle]
@@ -63,5 +63,5 @@ pub extern "C" fn ecch_subscribe_write(
         bound(limited, limit),
         &mut *out,
     );
-    answer::store_written(written, &mut *answer)
+    layout_answer::store_written(written, &mut *answer)
 }

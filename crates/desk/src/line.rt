@@ -2,15 +2,15 @@
 use crate::field;
 use crate::list;
 use crate::output;
-use publish;
+use codes;
+use codes::reason_code;
+use publish_parts;
 use records::packet_record::Packet;
 use records::puback_record::MaybePubAckProperties;
 use records::puback_record::PubAck;
-use records::puback_record::reason_code;
 use records::publish_record::MaybePublishProperties;
 use records::publish_record::Publish;
 use records::publish_record::PublishProperties;
-use records::qos;
 use records::subscribe_record::MaybeSubscribeProperties;
 use records::subscribe_record::Subscribe;
 use tables::property::PropertyPlace;
@@ -35,11 +35,11 @@ fn wide(b: u8) -> u64 {
 
 fn publish_flags(out: &mut [u8], at: usize, s: &[u8], m: Publish) -> usize {
     let qos = m.qos;
-    let q = wide(qos::qos_number(qos));
+    let q = wide(codes::qos_number(qos));
     let a = field::flag(&mut *out, at, b" dup=", m.dup);
     let b = field::number(&mut *out, a, b" qos=", q);
     let c = field::flag(&mut *out, b, b" retain=", m.retain);
-    let d = field::bytes(&mut *out, c, b" topic=", publish::topic(s, m));
+    let d = field::bytes(&mut *out, c, b" topic=", publish_parts::topic(s, m));
     identifier(&mut *out, d, q, m.pkid)
 }
 
@@ -76,7 +76,7 @@ fn publish_of(out: &mut [u8], at: usize, s: &[u8], m: Publish) -> usize {
     let properties = m.properties;
     let a = publish_flags(&mut *out, at, s, m);
     let b = publish_block(&mut *out, a, s, properties);
-    field::bytes(&mut *out, b, b" payload=", publish::payload(s, m))
+    field::bytes(&mut *out, b, b" payload=", publish_parts::payload(s, m))
 }
 
 fn subscribe_block(

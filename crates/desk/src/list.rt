@@ -1,12 +1,12 @@
 // The fields of lists, each list in one pass over its place: user properties and subscription identifiers of a block, filters of a run.
 use crate::field;
+use codes;
+use codes::rule_number;
 use filters::GotFilter;
 use property_value::GotProperty;
 use property_value::Value;
-use records::qos;
 use records::span::Span;
 use records::subscribe_record::Filter;
-use records::subscribe_record::rule_number;
 use tables::property::PropertyPlace;
 use wire::string;
 
@@ -60,7 +60,7 @@ fn filter_of(out: &mut [u8], at: usize, s: &[u8], f: Filter) -> usize {
     let q = f.qos;
     let rule = f.retain_forward_rule;
     let a = field::bytes(&mut *out, at, b" filter=", string::part(s, path));
-    let b = field::number(&mut *out, a, b" qos=", wide(qos::qos_number(q)));
+    let b = field::number(&mut *out, a, b" qos=", wide(codes::qos_number(q)));
     let c = field::flag(&mut *out, b, b" no-local=", f.nolocal);
     let d = field::flag(&mut *out, c, b" preserve-retain=", f.preserve_retain);
     field::number(&mut *out, d, b" forward=", wide(rule_number(rule)))

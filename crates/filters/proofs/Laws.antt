@@ -1,34 +1,26 @@
--- A filter is its text, then its options; a run of filters is what a loop over them passes; the n-th is the one whose turn is n.
--- Assumes nothing.
-use mathlib.Core.Path.{_≡_, refl, sym, _∙_}
+-- A filter is its text, then its options. Assumes nothing.
+use mathlib.Core.Path.{_≡_, refl, sym}
 use mathlib.Core.Bool.{Bool, true, false}
-use mathlib.Core.List.{List, [], _∷_, _++_}
-use Prim.Native.Nat.{ℕ, zero, suc, _+_, _-_, _/_, _%_, _≤_, _<_}
+use mathlib.Core.List.{List, [], _∷_}
+use Prim.Native.Nat.{ℕ, zero, suc, _/_, _%_, _≤_, _<_}
 use native.Mathlib.Nat.{mod-lt}
 use native.Mathlib.Omega.{arith}
 use lib.Dec.{ltb}
-use lib.ListN.{length, take, drop, length-append, length-drop, drop-of-length-le}
-use lib.Seq.{length-take-le}
+use lib.ListN.{length, drop}
 use Rattle.grammar.specs.Record.{Filter, mkFilter}
-use Rattle.grammar.specs.Sentence.{notThree, qosFine, ruleFine, someOf}
+use Rattle.grammar.specs.Sentence.{notThree, qosFine, ruleFine}
 use Rattle.reading.specs.Refusal.{Refusal, nr, cut}
-use Rattle.reading.specs.Reader.{Fit, got, bad, Reader, _>>=_, _>>_, guard, mapOf, onlyOf, thenOf, handFit, onlyFit, runFit, chainFit, manyFit}
-use Rattle.reading.specs.Read.{byteOf, textOf, filterOf, filtersFit}
-use Rattle.reading.specs.Place.{Span, asPlaces, noItem, again, nthOf, filterAt}
-use Rattle.reading.proofs.Lists.{leb-yes, leb-no}
+use Rattle.reading.specs.Reader.{Fit, got, bad, Reader, _>>=_, _>>_, guard, mapOf, onlyOf, thenOf}
+use Rattle.reading.specs.Read.{byteOf, textOf, filterOf}
+use Rattle.reading.specs.Place.{Span, asPlaces}
 use Rattle.positions.specs.Position.{fromAt}
-use Rattle.positions.proofs.At.{part-slice}
 use Rattle.positions.proofs.Less.{filter-less}
 use Rattle.positions.proofs.Trails.{trails-byte, trails-text, trails-filter}
 use Rattle.positions.proofs.Position.{got-left, got-within, bad-left, left-at, left-bad}
-use Rattle.positions.proofs.Run.{Passed, none-passed, item-ahead, passed-end, passed-bad, passed-next, nth-behind}
-use Rattle.records.specs.Said.{toldFilter}
-use Rattle.records.specs.Answered.{toldFilterItem, ruleOf}
-use Rattle.records.specs.declared.answer.FilterItem.{FilterItem}
-use Rattle.records.specs.declared.answer.FilterItem.the-variants.{NoItem}
-use Rattle.records.specs.declared.subscribe_record.Filter as said
+use Rattle.positions.proofs.Run.{item-ahead}
+use Rattle.records.specs.Answered.{ruleOf}
 use Rattle.tables.specs.Qos.{qosOf}
-use Rattle.filters.specs.Told.{optionsOf, placeFit, chosen, nthFit}
+use Rattle.filters.specs.Told.{optionsOf}
 
 -- ---- the options byte
 
@@ -99,107 +91,6 @@ module _ (s : List ℕ) (at : ℕ) where
       pub filter-options : optionsOf path o next ≡ fromAt one s at
       filter-options = by-options (ruleFine o) (qosFine o) refl refl
 
--- ---- a run
-
--- the filters passed from `at` to i
-pub record Going (s : List ℕ) (at i : ℕ) : Type 0 where
-  pub filters : List (Filter Span)
-  pub passed : Passed (filterOf asPlaces (length s)) s at i filters
-  pub some : at < i → someOf filters ≡ true
-
--- behind any items there is one
-some-behind : {A : Type 0} (vs : List A) (v : A) → someOf (vs ++ (v ∷ [])) ≡ true
-some-behind [] v = refl
-some-behind (a ∷ vs) v = refl
-
 -- the readers of a filter go ahead, within the slice
 pub filter-ahead : (s : List ℕ) {i m : ℕ} {v : Filter Span} → i < length s → got (v, m) ≡ fromAt (filterOf asPlaces (length s)) s i → (i < m) × (m ≤ length s)
 filter-ahead s h e = item-ahead s (filter-less (length s)) (trails-filter asPlaces (length s)) h (sym e)
-
-module _ (s : List ℕ) (at : ℕ) where
-  abbrev run : Fit (List (Filter Span))
-  run = manyFit (filterOf asPlaces (length s)) (drop at s)
-
-  pub run-empty : length s ≤ at → bad (nr 13 []) ≡ placeFit (length s) (drop at s)
-  unfolding handFit filtersFit onlyFit chainFit runFit
-  run-empty h = rw (drop-of-length-le s h)
-
-  run-bad : {k : Refusal} → run ≡ bad k → bad k ≡ placeFit (length s) (drop at s)
-  unfolding handFit filtersFit onlyFit
-  run-bad e = rw e
-
-  run-got : {vs : List (Filter Span)} → run ≡ got vs → someOf vs ≡ true → at ≤ length s → got (record { start = at; len = length s - at }) ≡ placeFit (length s) (drop at s)
-  unfolding handFit filtersFit onlyFit
-  run-got e f h =
-      let n : length s - (length s - at) ≡ at = omega arith in
-      rw (e, f, length-drop at s, n)
-
-  pub going-start : Going s at at
-  going-start = record { filters = []; passed = none-passed s (filter-less (length s)) at; some = λ h. absurd (omega arith) }
-
-module _ {s : List ℕ} {at i : ℕ} (G : Going s at i) where
-  pub going-bad : i < length s → {k : Refusal} → bad k ≡ fromAt (filterOf asPlaces (length s)) s i → bad k ≡ placeFit (length s) (drop at s)
-  going-bad h {k = k} e = run-bad s at (passed-bad s (filter-less (length s)) (G .passed) h k (sym e))
-
-  pub going-next : i < length s → {v : Filter Span} {m : ℕ} → got (v, m) ≡ fromAt (filterOf asPlaces (length s)) s i → Going s at m
-  going-next h {v = v} e = record {
-    filters = G .filters ++ (v ∷ []);
-    passed = passed-next s (filter-less (length s)) (G .passed) (trails-filter asPlaces (length s)) h (sym e);
-    some = λ _. some-behind (G .filters) v;
-  }
-
-  pub going-end : at < length s → length s ≤ i → got (record { start = at; len = length s - at }) ≡ placeFit (length s) (drop at s)
-  going-end h o = run-got s at (passed-end s (filter-less (length s)) (G .passed) o) (G .some (omega arith)) (omega arith)
-
--- ---- the n-th filter
-
--- the filters passed from `at` to i, `turn` of them, and the n-th of these if there are as many
-pub record Counting (s : List ℕ) (at n : ℕ) (item : FilterItem) (turn i : ℕ) : Type 0 where
-  pub filters : List (Filter Span)
-  pub passed : Passed (filterOf asPlaces (length s)) s at i filters
-  pub count : turn ≡ length filters
-  pub held : toldFilterItem item ≡ nthOf n filters
-  pub room : turn + at ≤ i
-
-module _ (n end : ℕ) (l : List ℕ) where
-  nth-bad : {k : Refusal} → manyFit (filterOf asPlaces end) l ≡ bad k → bad noItem ≡ nthFit n end l
-  unfolding filtersFit onlyFit
-  nth-bad e = rw e
-
-  nth-got : (vs : List (Filter Span)) → manyFit (filterOf asPlaces end) l ≡ got vs → nthOf n vs ≡ nthFit n end l
-  unfolding filtersFit onlyFit
-  nth-got [] e = rw e
-  nth-got (v ∷ vs) e = rw e
-
-pub counting-start : (s : List ℕ) (at n : ℕ) → Counting s at n NoItem 0 at
-counting-start s at n = record { filters = []; passed = none-passed s (filter-less (length s)) at; count = refl; held = refl; room = omega arith }
-
-module _ {s : List ℕ} {at n : ℕ} {item : FilterItem} {turn i : ℕ} (C : Counting s at n item turn i) where
-  pub counting-bad : i < length s → {k : Refusal} → bad k ≡ fromAt (filterOf asPlaces (length s)) s i → bad noItem ≡ nthFit n (length s) (drop at s)
-  counting-bad h {k = k} e = nth-bad n (length s) (drop at s) (passed-bad s (filter-less (length s)) (C .passed) h k (sym e))
-
-  pub counting-next : i < length s → (f : said.Filter) {m : ℕ} → got (toldFilter f, m) ≡ fromAt (filterOf asPlaces (length s)) s i
-      → {item′ : FilterItem} → toldFilterItem item′ ≡ chosen item f turn n → Counting s at n item′ (turn + 1) m
-  counting-next h f {m = m} e j =
-      let a : (i < m) × (m ≤ length s) = filter-ahead s h e in
-      record {
-        filters = C .filters ++ (toldFilter f ∷ []);
-        passed = passed-next s (filter-less (length s)) (C .passed) (trails-filter asPlaces (length s)) h (sym e);
-        count = rw length-append (omega (arith, C .count));
-        held = j ∙ rw (C .count, C .held) (sym (nth-behind n (C .filters) (toldFilter f)));
-        room = omega (arith, C .room, a .0);
-      }
-
-  pub counting-end : length s ≤ i → toldFilterItem item ≡ nthFit n (length s) (drop at s)
-  counting-end o = C .held ∙ nth-got n (length s) (drop at s) (C .filters) (passed-end s (filter-less (length s)) (C .passed) o)
-
--- ---- at a place of any bytes
-
-module _ (s : List ℕ) (p : Span) (n : ℕ) where
-  pub filter-outside : length s < p .start + p .len → bad noItem ≡ filterAt asPlaces s p n
-  unfolding filterAt again
-  filter-outside h = rw (leb-no (p .start + p .len) (length s) h)
-
-  pub filter-within : p .start + p .len ≤ length s → nthFit n (length (take (p .start + p .len) s)) (drop (p .start) (take (p .start + p .len) s)) ≡ filterAt asPlaces s p n
-  unfolding filterAt again
-  filter-within h = rw (length-take-le (p .start + p .len) s h, sym (part-slice s (p .len) (p .start) h), leb-yes (p .start + p .len) (length s) h)

@@ -2,9 +2,9 @@
 // order: 14, then 11 after a filter's text) and their bytes. An empty list is refused (D6).
 use number_puts::fixed;
 use records::error::Error;
+use row_belongs;
 use row_tests::Tested;
 use row_tests::test_word;
-use rows::belong;
 use rows::run;
 use string_puts::put_string;
 ghost use mathlib.Core.Path.{_≡_};
@@ -38,7 +38,7 @@ pub fn filters_belong(bytes: &[u8], lengths: &[usize], options: &[u8]) -> bool
     ensures { λ r. ⌜ r ≡ (addsUp (runOf (now (bytes .entry)) (now (lengths .entry))) && eqb (length (now (lengths .entry))) (length (now (options .entry)))) ⌝ }
 {
     let same = lengths.len() == options.len();
-    belong::both(belong::adds_up(bytes, lengths), same)
+    row_belongs::both(run::adds_up(bytes, lengths), same)
 }
 
 // Their bytes, cut off where they are too many: a filter has two bytes of length and its options byte.

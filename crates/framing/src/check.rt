@@ -1,9 +1,9 @@
 // Whether a stream starts with a whole frame, after `parse_fixed_header` and `check` of v5/mod.rs: refusals 1, 2 and 3 in 01's order.
 use crate::header::FixedHeader;
-use numbers::length;
-use numbers::length::GotLength;
 use records::answer::Limit;
 use records::error::Error;
+use var_length;
+use var_length::GotLength;
 ghost use mathlib.Core.Path.{_≡_};
 ghost use Rattle.positions.specs.Position.{fromAt};
 ghost use Rattle.records.specs.Told.{limitOf};
@@ -22,7 +22,7 @@ pub fn parse_fixed_header(stream: &[u8]) -> Checked
         return Checked::Refused(Error::InsufficientBytes(2));
     }
     let byte1 = stream[0];
-    match length::length(stream, 1) {
+    match var_length::length(stream, 1) {
         GotLength::Number(n, count) => {
             let start = 1 + count;
             Checked::Header(FixedHeader {

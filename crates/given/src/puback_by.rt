@@ -1,12 +1,12 @@
 // A PubAck that C hands over: its numbers and presence, its size, and written.
 use crate::number::is_on;
-use layout::answer;
+use codes::reason as reason_of;
+use layout_answer;
 use puback_write::PubAckHead;
 use records::answer::Limit;
 use records::answer::Written;
 use records::error::Error;
 use records::puback_record::GotReason;
-use records::puback_record::reason as reason_of;
 ghost use mathlib.Core.Path.{_≡_};
 ghost use mathlib.Core.List.{List};
 ghost use Prim.Native.Nat.{ℕ};
@@ -49,7 +49,7 @@ pub fn size_puback(
 {
     match head {
         GotPubAckHead::Refused(e) => Written::Refused(e),
-        GotPubAckHead::Value(h) => answer::as_written(puback_write::size(
+        GotPubAckHead::Value(h) => layout_answer::as_written(puback_write::size(
             h,
             reason_string,
             user,

@@ -3,7 +3,7 @@ use crate::number::is_on;
 use crate::number::maybe_u8;
 use crate::number::maybe_u16;
 use crate::number::maybe_u32;
-use layout::answer;
+use layout_answer;
 use publish_plan::head::PublishHead;
 use records::answer::Limit;
 use records::answer::Written;
@@ -82,7 +82,7 @@ pub fn size_publish(
 {
     match head {
         GotPublishHead::Refused(e) => Written::Refused(e),
-        GotPublishHead::Value(h) => answer::as_written(publish_write::size(
+        GotPublishHead::Value(h) => layout_answer::as_written(publish_write::size(
             h,
             topic,
             response,

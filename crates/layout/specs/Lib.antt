@@ -1,4 +1,2 @@
 pub mod Layout
 pub mod Value
-pub mod Item
-pub mod Answer

@@ -1,4 +1,6 @@
 // What is returned and stored of the property or filter at an index: with it the index after it, at which the next one begins.
+use codes::qos_number;
+use codes::rule_number;
 use filters::GotFilter;
 use layout::store::store;
 use layout::value::first_value;
@@ -6,16 +8,14 @@ use layout::value::flag;
 use property_value::GotProperty;
 use property_value::Value;
 use records::error::Error;
-use records::error::number;
-use records::error::values;
-use records::qos::qos_number;
-use records::subscribe_record::rule_number;
+use refusals::number;
+use refusals::values;
 ghost use mathlib.Core.Path.{_≡_};
 ghost use lib.Seq.{sets};
 ghost use Rattle.records.specs.Told.{toldError};
 ghost use Rattle.property_value.specs.Told.{toldValue, toldProperty};
 ghost use Rattle.filters.specs.Told.{toldGotFilter};
-ghost use Rattle.layout.specs.Item.{fitNumber};
+ghost use Rattle.layout.specs.Value.{fitNumber};
 ghost use Rattle.layout_next.specs.Next.{badNumbers, propertyRow, propertyNumbers, nextFilterNumbers};
 
 // The refusal's value.

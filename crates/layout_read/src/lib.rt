@@ -1,4 +1,6 @@
 // What of a read stands under which name of the layout.
+use codes::qos_number;
+use codes::reason_code;
 use layout::place::Head;
 use layout::place::numbers;
 use layout::store::store;
@@ -11,15 +13,13 @@ use layout_properties::publish_block;
 use layout_properties::subscribe_block;
 use records::answer::Read;
 use records::error::Error;
-use records::error::number;
-use records::error::values;
 use records::packet_record::Packet;
 use records::puback_record::PubAck;
-use records::puback_record::reason_code;
 use records::publish_record::Publish;
-use records::qos::qos_number;
 use records::span::Span;
 use records::subscribe_record::Subscribe;
+use refusals::number;
+use refusals::values;
 ghost use mathlib.Core.Path.{_≡_};
 ghost use lib.Seq.{sets};
 ghost use Rattle.grammar.specs.Record.{publish, ack, subscribe, ping};

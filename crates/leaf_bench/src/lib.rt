@@ -1,7 +1,7 @@
 // Leaves (`numbers`, `utf8`) for the benchmark in oracle/, as functions that Rust calls: one text or one number a call, or a whole run of numbers.
 use numbers::got::GotU32;
-use numbers::length;
 use std::num;
+use var_length;
 ghost use mathlib.Core.Path.{_≡_};
 ghost use Rattle.reading.specs.Refusal.{cut};
 ghost use Rattle.reading.specs.Read.{isText, numOf};
@@ -21,7 +21,7 @@ pub extern "C" fn leaf_bench_is_utf8(s: &[u8]) -> bool
 pub extern "C" fn leaf_bench_length(s: &[u8], at: usize, value: &mut u32) -> usize
     ensures { λ r. ⌜ (r ≡ nextOf (fromAt (numOf cut 4) (now (s .entry)) at)) × (now (value .exit) ≡ valueOf (now (value .entry)) (fromAt (numOf cut 4) (now (s .entry)) at)) ⌝ }
 {
-    match length::read_length(s, at) {
+    match var_length::read_length(s, at) {
         GotU32::Value(n, next) => {
             *value = n;
             next
@@ -38,7 +38,7 @@ pub extern "C" fn leaf_bench_sum(s: &[u8]) -> u64
     let mut sum: u64 = 0;
     let mut at: usize = 0;
     while at < s.len() {
-        match length::read_length(s, at) {
+        match var_length::read_length(s, at) {
             GotU32::Value(n, next) => {
                 sum = num::wrapping_add_u64(sum, n as u64);
                 at = next;

@@ -1,10 +1,10 @@
 // The lines of `desk` that are names and numbers alone, put at the front of a lent output: those of a refusal and of a frame that is too
 // long here, that of what was read in `tallies`. docs/DESK.md has the format. What would lie past the end of the output is not stored.
 use byte_puts::put_bytes;
-use records::error;
 use records::error::Error;
 use records::shown::Values;
 use records::span::Span;
+use refusals;
 use wire::string;
 ghost use mathlib.Core.List.{_++_};
 ghost use Prim.Native.Nat.{_+_, _≤_};
@@ -85,7 +85,7 @@ fn refused_head(out: &mut [u8], offset: u64, e: Error) -> usize
     ensures short { λ r. ⌜ r ≤ 64 ⌝ }
 {
     let a = decimal(&mut *out, 0, offset);
-    let b = number(&mut *out, a, b" refused ", error::number(e) as u64);
+    let b = number(&mut *out, a, b" refused ", refusals::number(e) as u64);
     word(&mut *out, b, b" ")
 }
 
@@ -117,7 +117,7 @@ pub fn put_refused(out: &mut [u8], offset: u64, e: Error, taken: usize) -> usize
 {
     let a = refused_head(&mut *out, offset, e);
     let b = name(&mut *out, a, e);
-    let c = values(&mut *out, b, error::values(e));
+    let c = values(&mut *out, b, refusals::values(e));
     taken_text(&mut *out, c, taken)
 }
 

@@ -3,7 +3,7 @@ pub mod shown;
 
 use crate::shown::Name;
 use records::error::Error;
-use records::error::number;
+use refusals::number;
 ghost use mathlib.Core.Path.{_≡_};
 ghost use Rattle.names.specs.Names.{made, nameAt, nameOf, padded};
 

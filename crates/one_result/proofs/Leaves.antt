@@ -17,11 +17,11 @@ use Rattle.records.specs.Told.{toldError}
 use Rattle.records.proofs.Told.{back-error, error-injective, backFit, backQoS, back-qos, backSpan, back-span}
 use Rattle.records.specs.declared.span.Span.{Span}
 use Rattle.numbers.specs.Told.{toldGotU8, toldGotU16, toldGotU32}
-use Rattle.numbers.specs.Length.{toldLength}
+use Rattle.var_length.specs.Length.{toldLength}
 use Rattle.numbers.specs.declared.got.GotU8.{GotU8}
 use Rattle.numbers.specs.declared.got.GotU16.{GotU16}
 use Rattle.numbers.specs.declared.got.GotU32.{GotU32}
-use Rattle.numbers.specs.declared.length.GotLength.{GotLength}
+use Rattle.var_length.specs.declared.GotLength.{GotLength}
 use Rattle.wire.specs.Told.{toldPart}
 use Rattle.string_puts.specs.Written.{toldStringLength}
 use Rattle.tables.specs.Qos.{toldGotQos}

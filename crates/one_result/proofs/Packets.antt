@@ -22,9 +22,10 @@ use Rattle.publish_properties.specs.Singles.{toldPublishBlockAt}
 use Rattle.publish_properties.specs.declared.GotPublishBlock.{GotPublishBlock}
 use Rattle.puback.specs.Told.{toldGotPubAck}
 use Rattle.puback.specs.declared.GotPubAck.{GotPubAck}
-use Rattle.filters.specs.Told.{toldGotFilter, toldGotFilters}
+use Rattle.filters.specs.Told.{toldGotFilter}
+use Rattle.filter_runs.specs.Told.{toldGotFilters}
 use Rattle.filters.specs.declared.GotFilter.{GotFilter}
-use Rattle.filters.specs.declared.GotFilters.{GotFilters}
+use Rattle.filter_runs.specs.declared.GotFilters.{GotFilters}
 use Rattle.subscribe.specs.Told.{toldGotSubscribe}
 use Rattle.subscribe.specs.declared.GotSubscribe.{GotSubscribe}
 use Rattle.publish.specs.Told.{toldGotPublish}

@@ -8,7 +8,7 @@ use lib.ListN.{length}
 use Rattle.grammar.specs.Choice.{isEmpty}
 use Rattle.writing.specs.Lists.{all}
 use Rattle.writing.proofs.Tests.{eq-when, eq-not}
-use Rattle.rows.proofs.Laws.Belong.{empty-length}
+use Rattle.row_belongs.proofs.Laws.{empty-length}
 
 module _ {A : Type 0} (l : List A) where
   pub some-lent : (length l ≡ 0 → ⊥) → isEmpty l ≡ false

@@ -3,7 +3,7 @@
 pub mod head;
 
 use crate::head::PacketHead;
-use rows::belong::both;
+use row_belongs::both;
 ghost use mathlib.Core.Path.{_≡_};
 ghost use mathlib.Core.List.{[], _∷_};
 ghost use Rattle.grammar.specs.Choice.{isEmpty};

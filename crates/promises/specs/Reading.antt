@@ -16,8 +16,8 @@ use Rattle.records.specs.declared.span.Span.{Span}
 use Rattle.wire.specs.Told.{stringIf, inBlock}
 use Rattle.items.specs.Nth.{NthUser, NthIdentifier}
 use Rattle.puback.specs.Told.{reasonIn}
-use Rattle.filters.specs.Told.{NthFilter}
-use Rattle.publish.specs.Told.{topicIn, payloadIn, responseIn, correlationIn, contentIn}
+use Rattle.filter_runs.specs.Told.{NthFilter}
+use Rattle.publish_parts.specs.Parts.{topicIn, payloadIn, responseIn, correlationIn, contentIn}
 
 -- ---- parts
 
@@ -25,7 +25,7 @@ use Rattle.publish.specs.Told.{topicIn, payloadIn, responseIn, correlationIn, c
 abbrev pub itself : List ℕ → List ℕ
 itself b = b
 
--- 01: "topic and payload are handed back as parts of the caller's stream": the parts that `publish` gives of m, each by its contract, are
+-- 01: "topic and payload are handed back as parts of the caller's stream": the parts that `publish_parts` gives of m, each by its contract, are
 -- the strings of w
 pub record PublishParts (s : List ℕ) (m : Publish) (w : record-of.Publish (List ℕ) List) : Type 0 where
   pub topic : topicIn s m ≡ w .topic

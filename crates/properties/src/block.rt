@@ -1,9 +1,9 @@
 // Where a property block stands: its length, as the `read`s of publish.rs, subscribe.rs and puback.rs begin. The end of the slice is
 // the end of its room.
 use numbers::got::GotU32;
-use numbers::length;
 use records::error::Error;
 use records::span::Span;
+use var_length;
 use wire::got::GotSpan;
 ghost use mathlib.Core.Path.{_≡_};
 ghost use lib.ListN as list;
@@ -15,7 +15,7 @@ ghost use Rattle.properties.specs.Block.{roomOf};
 pub fn read_room(s: &[u8], at: usize) -> GotSpan
     ensures { λ r. ⌜ toldPart r ≡ fromAt (roomOf (list.length (now (s .entry)))) (now (s .entry)) at ⌝ }
 {
-    match length::read_length(s, at) {
+    match var_length::read_length(s, at) {
         GotU32::Refused(e) => GotSpan::Refused(e),
         GotU32::Value(n, start) => {
             let len = n as usize;

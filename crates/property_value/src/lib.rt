@@ -4,12 +4,12 @@ use numbers::fixed;
 use numbers::got::GotU8;
 use numbers::got::GotU16;
 use numbers::got::GotU32;
-use numbers::length;
 use records::error::Error;
 use records::span::Span;
 use tables::property;
 use tables::property::PropertyForm;
 use tables::property::PropertyPlace;
+use var_length;
 use wire::got::GotSpan;
 use wire::string;
 ghost use mathlib.Core.Option.{some};
@@ -64,7 +64,7 @@ fn read_value(form: PropertyForm, k: u8, s: &[u8], at: usize) -> GotProperty
             GotU32::Value(x, n) => GotProperty::Found(k, Value::U32(x), n),
             GotU32::Refused(e) => GotProperty::Refused(e),
         },
-        PropertyForm::Number => match length::read_length(s, at) {
+        PropertyForm::Number => match var_length::read_length(s, at) {
             GotU32::Value(x, n) => GotProperty::Found(k, Value::Number(x), n),
             GotU32::Refused(e) => GotProperty::Refused(e),
         },
@@ -111,7 +111,7 @@ fn pass_pair(s: &[u8], at: usize, start: usize) -> usize
 fn pass_number(s: &[u8], at: usize, start: usize) -> usize
     ensures { λ r. ⌜ ValuePassed number 11 (now (s .entry)) at start r ⌝ }
 {
-    match length::read_length(s, start) {
+    match var_length::read_length(s, start) {
         GotU32::Refused(_) => at,
         GotU32::Value(_, n) => n,
     }

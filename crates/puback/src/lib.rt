@@ -60,7 +60,7 @@ fn read_rest(s: &[u8], at: usize, pkid: u16) -> GotPubAck
             properties: MaybePubAckProperties::Absent,
         });
     }
-    match records::puback_record::reason(s[at]) {
+    match codes::reason(s[at]) {
         GotReason::Refused(e) => GotPubAck::Refused(e),
         GotReason::Value(reason) => match read_last_block(s, at + 1) {
             GotLastBlock::Refused(e) => GotPubAck::Refused(e),

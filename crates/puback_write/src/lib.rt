@@ -1,5 +1,6 @@
 // A PubAck, written, after `write` and `size` of puback.rs: first every refusal and the size, touching nothing, then the bytes. A plain
 // success is four bytes.
+use codes::reason_code;
 use number_puts::fixed;
 use number_puts::length::put_length;
 use records::answer::Limit;
@@ -7,9 +8,8 @@ use records::answer::Sized;
 use records::answer::Written;
 use records::error::Error;
 use records::puback_record::PubAckReason;
-use records::puback_record::reason_code;
+use row_belongs;
 use row_tests::Tested;
-use rows::belong;
 use rows::run;
 ghost use mathlib.Core.Path.{_≡_};
 ghost use mathlib.Core.Bool.{true};
@@ -41,9 +41,9 @@ pub struct PubAckHead {
 fn belongs(m: PubAckHead, reason_string: &[u8], user: &[u8], user_lengths: &[usize]) -> bool
     ensures { λ r. ⌜ r ≡ belongsOf (ack 4 (handed m (now («reason_string» .entry)) (now (user .entry)) (now («user_lengths» .entry)))) ⌝ }
 {
-    belong::both(
-        belong::lent_belongs(m.block, m.reason_string, reason_string),
-        belong::pairs_belong(m.block, user, user_lengths),
+    row_belongs::both(
+        row_belongs::lent_belongs(m.block, m.reason_string, reason_string),
+        row_belongs::pairs_belong(m.block, user, user_lengths),
     )
 }
 
@@ -99,7 +99,7 @@ fn early(m: PubAckHead, reason_string: &[u8], user: &[u8], user_lengths: &[usize
     }
     row_tests::then(
         row_tests::test_text(m.reason_string, reason_string),
-        row_tests::test_words(user, user_lengths),
+        list_tests::test_words(user, user_lengths),
     )
 }
 
@@ -122,7 +122,7 @@ fn put_block(
     let second = run::after(out.len(), first, n);
     let k = row_puts::put_lent(&mut *out, second, 31, m.reason_string, reason_string);
     let third = run::after(out.len(), second, k);
-    row_puts::put_pairs(&mut *out, third, user, user_lengths);
+    list_puts::put_pairs(&mut *out, third, user, user_lengths);
 }
 
 // The frame.

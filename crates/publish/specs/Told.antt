@@ -1,56 +1,12 @@
--- What the answer on a Publish tells, and what its parts are. Assumes nothing.
-use mathlib.Core.Path.{_≡_}
-use mathlib.Core.Option.{Option}
-use mathlib.Core.List.{List}
-use Prim.Native.Nat.{ℕ}
-use Rattle.grammar.specs.Record.{Val, publish}
+-- What the answer on a Publish tells. Assumes nothing.
+use Rattle.grammar.specs.Record.{publish}
 use Rattle.reading.specs.Reader.{Fit, got, bad}
-use Rattle.reading.specs.Place.{Placed, heldOf}
-use Rattle.reading.specs.Place as place
-use Rattle.records.specs.Told.{toldError, toldSpan, toldString}
-use Rattle.records.specs.Said.{toldPublishBlock, toldPublish}
-use Rattle.records.specs.declared.publish_record.Publish.{Publish}
-use Rattle.records.specs.declared.publish_record.PublishProperties.{PublishProperties}
-use Rattle.wire.specs.Told.{stringIf, inBlock}
+use Rattle.reading.specs.Place.{Placed}
+use Rattle.records.specs.Told.{toldError}
+use Rattle.records.specs.Said.{toldPublish}
 use Rattle.publish.specs.declared.GotPublish.{GotPublish}
 
 -- 01, grammar: "Publish (3)", or the refusal
 abbrev pub toldGotPublish : GotPublish → Fit Placed
 toldGotPublish (GotPublish.Value m) = got (publish (toldPublish m))
 toldGotPublish (GotPublish.Refused e) = bad (toldError e)
-
--- ---- 01: "topic and payload are handed back as parts of the caller's stream"
-
--- the strings of the block of m, each absent where there is no block; 01, table of properties, 8, 9 and 3
-module _ (m : Publish) where
-  abbrev pub response : Option (Val place.Span)
-  response = inBlock (λ ps. ps .response) (toldPublishBlock (m .properties))
-
-  abbrev pub correlation : Option (Val place.Span)
-  correlation = inBlock (λ ps. ps .correlation) (toldPublishBlock (m .properties))
-
-  abbrev pub content : Option (Val place.Span)
-  content = inBlock (λ ps. ps .content) (toldPublishBlock (m .properties))
-
-  -- r has them
-  pub record Strings (r : PublishProperties) : Type 0 where
-    pub response-topic : toldString (r .«response_topic») ≡ response
-    pub correlation-data : toldString (r .«correlation_data») ≡ correlation
-    pub content-type : toldString (r .«content_type») ≡ content
-
--- the parts of m in the stream s; demand 1: any record with any stream, so what lies outside is empty, and what is absent
-module _ (s : List ℕ) (m : Publish) where
-  abbrev pub topicIn : List ℕ
-  topicIn = heldOf s (toldSpan (m .topic))
-
-  abbrev pub payloadIn : List ℕ
-  payloadIn = heldOf s (toldSpan (m .payload))
-
-  abbrev pub responseIn : List ℕ
-  responseIn = stringIf (heldOf s) (response m)
-
-  abbrev pub correlationIn : List ℕ
-  correlationIn = stringIf (heldOf s) (correlation m)
-
-  abbrev pub contentIn : List ℕ
-  contentIn = stringIf (heldOf s) (content m)

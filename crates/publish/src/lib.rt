@@ -1,16 +1,10 @@
-// A Publish, after publish.rs: the read of its fields, and its strings as parts of the stream.
+// A Publish, after publish.rs: the read of its fields.
 use numbers::fixed;
 use numbers::got::GotU16;
 use publish_properties::GotPublishBlock;
 use records::error::Error;
-use records::publish_record::MaybePublishProperties;
 use records::publish_record::Publish;
-use records::publish_record::PublishProperties;
 use records::qos::QoS;
-use records::span::MaybeSpan;
-use records::span::MaybeU8;
-use records::span::MaybeU16;
-use records::span::MaybeU32;
 use records::span::Span;
 use tables::qos;
 use tables::qos::GotQos;
@@ -26,7 +20,7 @@ ghost use Rattle.positions.specs.Position.{fromAt};
 ghost use Rattle.records.specs.Told.{toldQoS};
 ghost use Rattle.numbers.specs.Told.{toldGotU16};
 ghost use Rattle.wire.specs.Told.{toldPart};
-ghost use Rattle.publish.specs.Told.{toldGotPublish, topicIn, payloadIn, Strings, responseIn, correlationIn, contentIn};
+ghost use Rattle.publish.specs.Told.{toldGotPublish};
 
 pub enum GotPublish {
     Value(Publish),
@@ -76,17 +70,15 @@ pub fn read(s: &[u8], at: usize, byte1: u8) -> GotPublish
         GotQos::Value(q) => q,
     };
     match read_topic(s, at) {
-        GotSpan::Refused(e) => GotPublish::Refused(e),
+        GotSpan::Refused(e) => return GotPublish::Refused(e),
         GotSpan::Value(topic, a) => match read_pkid(s, a, qos) {
-            GotU16::Refused(e) => GotPublish::Refused(e),
+            GotU16::Refused(e) => return GotPublish::Refused(e),
             GotU16::Value(pkid, b) => match publish_properties::read_publish_block(s, b) {
-                GotPublishBlock::Refused(e) => GotPublish::Refused(e),
+                GotPublishBlock::Refused(e) => return GotPublish::Refused(e),
                 GotPublishBlock::Value(properties, start) => {
-                    let payload = Span {
-                        start,
-                        len: s.len() - start,
-                    };
-                    GotPublish::Value(Publish {
+                    let len = s.len() - start;
+                    let payload = Span { start, len };
+                    return GotPublish::Value(Publish {
                         dup: fixed::flag(byte1 / 8),
                         qos,
                         retain: fixed::flag(byte1),
@@ -94,69 +86,9 @@ pub fn read(s: &[u8], at: usize, byte1: u8) -> GotPublish
                         pkid,
                         payload,
                         properties,
-                    })
+                    });
                 }
             },
         },
     }
-}
-
-// The topic of `m`, which was read from `s`; the empty part if it lies outside. The same goes for every part.
-pub fn topic<'a>(s: &'a [u8], m: Publish) -> &'a [u8]
-    ensures { λ r. ⌜ now r ≡ topicIn (now (s .entry)) m ⌝ }
-{
-    string::part(s, m.topic)
-}
-
-// The payload of `m`.
-pub fn payload<'a>(s: &'a [u8], m: Publish) -> &'a [u8]
-    ensures { λ r. ⌜ now r ≡ payloadIn (now (s .entry)) m ⌝ }
-{
-    string::part(s, m.payload)
-}
-
-// The properties, each of them absent where there is no block.
-fn given(m: Publish) -> PublishProperties
-    ensures { λ r. ⌜ Strings m r ⌝ }
-{
-    let properties = m.properties;
-    match properties {
-        MaybePublishProperties::Present(p) => p,
-        MaybePublishProperties::Absent => PublishProperties {
-            payload_format_indicator: MaybeU8::Absent,
-            message_expiry_interval: MaybeU32::Absent,
-            topic_alias: MaybeU16::Absent,
-            response_topic: MaybeSpan::Absent,
-            correlation_data: MaybeSpan::Absent,
-            content_type: MaybeSpan::Absent,
-            block: Span { start: 0, len: 0 },
-        },
-    }
-}
-
-// Empty if it is absent, as the next two.
-pub fn response_topic<'a>(s: &'a [u8], m: Publish) -> &'a [u8]
-    ensures { λ r. ⌜ now r ≡ responseIn (now (s .entry)) m ⌝ }
-{
-    let p = given(m);
-    let place = p.response_topic;
-    string::part_if(s, place)
-}
-
-// The correlation data of `m`.
-pub fn correlation_data<'a>(s: &'a [u8], m: Publish) -> &'a [u8]
-    ensures { λ r. ⌜ now r ≡ correlationIn (now (s .entry)) m ⌝ }
-{
-    let p = given(m);
-    let place = p.correlation_data;
-    string::part_if(s, place)
-}
-
-// The content type of `m`.
-pub fn content_type<'a>(s: &'a [u8], m: Publish) -> &'a [u8]
-    ensures { λ r. ⌜ now r ≡ contentIn (now (s .entry)) m ⌝ }
-{
-    let p = given(m);
-    let place = p.content_type;
-    string::part_if(s, place)
 }

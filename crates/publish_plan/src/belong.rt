@@ -1,7 +1,7 @@
 // Whether what is handed over of a Publish belongs together (01, row 20).
 use crate::head::PublishHead;
-use rows::belong;
-use rows::belong::both;
+use row_belongs;
+use row_belongs::both;
 ghost use mathlib.Core.Path.{_≡_};
 ghost use mathlib.Core.List.{List};
 ghost use Prim.Native.Nat.{ℕ};
@@ -24,18 +24,18 @@ pub fn all_belong(
     let format = head.payload_format_indicator;
     let expiry = head.message_expiry_interval;
     let alias = head.topic_alias;
-    let ids = belong::ids_belong(block, subscription_identifiers);
-    let content = belong::lent_belongs(block, head.content_type, content_type);
+    let ids = row_belongs::ids_belong(block, subscription_identifiers);
+    let content = row_belongs::lent_belongs(block, head.content_type, content_type);
     let lists = both(
-        belong::pairs_belong(block, user, user_lengths),
+        row_belongs::pairs_belong(block, user, user_lengths),
         both(ids, content),
     );
-    let correlation = belong::lent_belongs(block, head.correlation_data, correlation_data);
-    let response = belong::lent_belongs(block, head.response_topic, response_topic);
+    let correlation = row_belongs::lent_belongs(block, head.correlation_data, correlation_data);
+    let response = row_belongs::lent_belongs(block, head.response_topic, response_topic);
     let strings = both(response, both(correlation, lists));
-    let numbers = both(belong::u16_belongs(block, alias), strings);
+    let numbers = both(row_belongs::u16_belongs(block, alias), strings);
     both(
-        belong::u8_belongs(block, format),
-        both(belong::u32_belongs(block, expiry), numbers),
+        row_belongs::u8_belongs(block, format),
+        both(row_belongs::u32_belongs(block, expiry), numbers),
     )
 }

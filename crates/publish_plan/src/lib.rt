@@ -1,5 +1,5 @@
-// What is found of a Publish before a byte is put, touching nothing (01, writing order): what belongs together, the tests in order, R and L.
+// What is found of a Publish before a byte is put, touching nothing (01, writing order): what belongs together and the tests in order. R
+// and L are counted by `publish_sizes`.
 pub mod belong;
 pub mod head;
-pub mod size;
 pub mod test;

@@ -1,8 +1,8 @@
 // What refuses a Publish but its size, in 01's writing order.
 use crate::belong::all_belong;
 use crate::head::PublishHead;
+use codes::qos_number;
 use records::error::Error;
-use records::qos::qos_number;
 use row_tests as test;
 use row_tests::Tested;
 use row_tests::then;
@@ -32,7 +32,7 @@ fn test_fields(
     ensures { λ r. ⌜ ((i p : List ℕ) → toldTested r ≡ judge (flat fieldTests (fieldsOf (publish (handed head (now (topic .entry)) (now («response_topic» .entry)) (now («correlation_data» .entry)) (now (user .entry)) (now («user_lengths» .entry)) i (now («content_type» .entry)) p))))) ⌝ }
 {
     let content = test::test_text(head.content_type, content_type);
-    let lists = then(test::test_words(user, user_lengths), content);
+    let lists = then(list_tests::test_words(user, user_lengths), content);
     let correlation = test::test_bytes(head.correlation_data, correlation_data);
     let response = test::test_text(head.response_topic, response_topic);
     then(
@@ -95,5 +95,5 @@ pub fn late(head: PublishHead, subscription_identifiers: &[u32]) -> Tested
     if !is_named(qos_number(qos), head.pkid) {
         return Tested::Refused(Error::PacketIdZero);
     }
-    test::test_numbers(subscription_identifiers)
+    list_tests::test_numbers(subscription_identifiers)
 }

@@ -1,11 +1,11 @@
 // The bytes of a Publish, after `write` of publish.rs: each function puts its part at an index and gives the index behind it.
 // What would lie past the end is not stored.
 use byte_puts::put_bytes;
+use codes::qos_number;
 use number_puts::fixed;
 use number_puts::length::put_length;
 use publish_plan::head::PublishHead;
-use publish_plan::size::no_pkid;
-use records::qos::qos_number;
+use publish_sizes::no_pkid;
 use rows::run::after;
 use string_puts::put_string;
 ghost use mathlib.Core.Path.{_≡_};
@@ -71,9 +71,9 @@ fn put_lists(
 ) -> usize
     ensures { λ r. ⌜ Behind (now (out .entry)) at (rowBytes (38, pair) (givenPairs (now (user .entry)) (now («user_lengths» .entry))) ++ (rowBytes (11, number) (several (now («subscription_identifiers» .entry))) ++ rowBytes (3, text) (givenLent (head .«content_type») (now («content_type» .entry))))) (now (out .exit)) r ⌝ }
 {
-    let n = row_puts::put_pairs(&mut *out, at, user, user_lengths);
+    let n = list_puts::put_pairs(&mut *out, at, user, user_lengths);
     let second = after(out.len(), at, n);
-    let m = row_puts::put_ids(&mut *out, second, subscription_identifiers);
+    let m = list_puts::put_ids(&mut *out, second, subscription_identifiers);
     let third = after(out.len(), second, m);
     let k = row_puts::put_lent(&mut *out, third, 3, head.content_type, content_type);
     after(out.len(), third, k)

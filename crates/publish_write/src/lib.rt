@@ -1,7 +1,6 @@
 // A Publish, written, after `write` and `size` of publish.rs: first every refusal and the size, touching nothing, then the bytes.
 use publish_plan::belong;
 use publish_plan::head::PublishHead;
-use publish_plan::size;
 use publish_plan::test;
 use publish_put::put_frame;
 use records::answer::Limit;
@@ -37,7 +36,7 @@ pub fn size(
         subscription_identifiers,
         content_type,
     );
-    let sizes = size::sizes(
+    let sizes = publish_sizes::sizes(
         head,
         topic,
         response_topic,
@@ -77,7 +76,7 @@ pub fn write(
         subscription_identifiers,
         content_type,
     );
-    let sizes = size::sizes(
+    let sizes = publish_sizes::sizes(
         head,
         topic,
         response_topic,

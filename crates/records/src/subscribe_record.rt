@@ -1,7 +1,4 @@
 // A Subscribe as read, and one filter, after subscribe.rs.
-ghost use mathlib.Core.Path.{_≡_};
-ghost use Rattle.records.specs.Told.{toldRule};
-ghost use Rattle.records.specs.Answered.{toldGotRule, ruleOf};
 use crate::error::Error;
 use crate::qos::QoS;
 use crate::span::MaybeU32;
@@ -43,27 +40,4 @@ pub struct Filter {
 pub enum GotRule {
     Value(RetainForwardRule),
     Refused(Error),
-}
-
-// The forward rule of a number, or refusal 14.
-pub fn retain_forward_rule(num: u8) -> GotRule
-    ensures { λ r. ⌜ toldGotRule r ≡ ruleOf num ⌝ }
-{
-    match num {
-        0 => GotRule::Value(RetainForwardRule::OnEverySubscribe),
-        1 => GotRule::Value(RetainForwardRule::OnNewSubscribe),
-        2 => GotRule::Value(RetainForwardRule::Never),
-        3..=255 => GotRule::Refused(Error::InvalidRetainForwardRule(num)),
-    }
-}
-
-// The number in the two bits.
-pub fn rule_number(rule: RetainForwardRule) -> u8
-    ensures { λ r. ⌜ r ≡ toldRule rule ⌝ }
-{
-    match rule {
-        RetainForwardRule::OnEverySubscribe => 0,
-        RetainForwardRule::OnNewSubscribe => 1,
-        RetainForwardRule::Never => 2,
-    }
 }

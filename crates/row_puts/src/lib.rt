@@ -1,5 +1,5 @@
 // The bytes of a row, after `write` of the properties in publish.rs, subscribe.rs and puback.rs: each function puts them at an index of
-// an output and gives how many they are. What would lie past the end is not stored.
+// an output and gives how many they are. What would lie past the end is not stored. The rows that are lists are put by `list_puts`.
 use number_puts::fixed;
 use number_puts::length::put_length;
 use records::span::MaybeU8;
@@ -8,18 +8,17 @@ use records::span::MaybeU32;
 use rows::run;
 use string_puts::put_string;
 ghost use mathlib.Core.Path.{_≡_};
-ghost use mathlib.Core.List.{_∷_, [], _++_};
-ghost use Prim.Native.Nat.{_+_, _^_, _≤_, _<_, min};
+ghost use mathlib.Core.List.{_∷_, []};
+ghost use Prim.Native.Nat.{_+_, _≤_, min};
 ghost use lib.ListN.{length};
 ghost use lib.Seq.{sets};
-ghost use Rattle.grammar.specs.Tables.{Form, u8, u16, u32, number, pair};
-ghost use Rattle.writing.specs.Handed.{several};
-ghost use Rattle.writing.specs.Spell.{short, string, rowBytes};
-ghost use Rattle.rows.specs.Given.{givenU8, givenU16, givenU32, givenLent, givenPairs};
+ghost use Rattle.grammar.specs.Tables.{Form, u8, u16, u32, number};
+ghost use Rattle.writing.specs.Spell.{short, rowBytes};
+ghost use Rattle.rows.specs.Given.{givenU8, givenU16, givenU32, givenLent};
 ghost use Rattle.row_puts.specs.Put.{Put};
 
-// An identifier byte; gives the index after it.
-fn put_id(out: &mut [u8], at: usize, id: u8) -> usize
+// An identifier byte; gives the index after it, the end at most.
+pub fn put_id(out: &mut [u8], at: usize, id: u8) -> usize
     ensures { λ r. ⌜ (now (out .exit) ≡ sets (now (out .entry)) at (id ∷ [])) × (r ≡ min (at + 1) (length (now (out .exit)))) ⌝ }
 {
     fixed::put_u8(&mut *out, at, id);
@@ -68,8 +67,8 @@ pub fn put_u32_if(out: &mut [u8], at: usize, id: u8, v: MaybeU32) -> usize
     }
 }
 
-// An identifier byte, and the shortest spelling.
-fn put_number(out: &mut [u8], at: usize, id: u8, n: u32) -> usize
+// An identifier byte, and the shortest spelling, of four bytes at most.
+pub fn put_number(out: &mut [u8], at: usize, id: u8, n: u32) -> usize
     ensures { λ r. ⌜ Put (now (out .entry)) at (id ∷ short n) (now (out .exit)) r × (r ≤ 5) ⌝ }
 {
     let next = put_id(&mut *out, at, id);
@@ -96,54 +95,4 @@ pub fn put_lent(out: &mut [u8], at: usize, id: u8, on: bool, s: &[u8]) -> usize
         return 3 + s.len();
     }
     0
-}
-
-fn put_pair(out: &mut [u8], at: usize, key: &[u8], value: &[u8]) -> usize
-    requires { ⌜ length (now key) + length (now value) + 5 < 2 ^ 64 ⌝ }
-    ensures { λ r. ⌜ Put (now (out .entry)) at (38 ∷ (string (now (key .entry)) ++ string (now (value .entry)))) (now (out .exit)) r ⌝ }
-{
-    let next = put_id(&mut *out, at, 38);
-    put_string(&mut *out, next, key);
-    let last = run::after(out.len(), at, 3 + key.len());
-    put_string(&mut *out, last, value);
-    5 + key.len() + value.len()
-}
-
-// User properties one after the other: the strings that the lengths cut the run into, two by two.
-pub fn put_pairs(out: &mut [u8], at: usize, bytes: &[u8], lengths: &[usize]) -> usize
-    ensures { λ r. ⌜ Put (now (out .entry)) at (rowBytes (38, pair) (givenPairs (now (bytes .entry)) (now (lengths .entry)))) (now (out .exit)) r ⌝ }
-{
-    let mut n: usize = 0;
-    let mut from: usize = 0;
-    let mut i: usize = 0;
-    while i + 1 < lengths.len() {
-        let k = lengths[i];
-        let v = lengths[i + 1];
-        let mid = run::after(bytes.len(), from, k);
-        let to = run::after(out.len(), at, n);
-        n = n
-            + put_pair(
-                &mut *out,
-                to,
-                run::piece(bytes, from, k),
-                run::piece(bytes, mid, v),
-            );
-        from = run::after(bytes.len(), mid, v);
-        i = i + 2;
-    }
-    n
-}
-
-// Subscription identifiers one after the other.
-pub fn put_ids(out: &mut [u8], at: usize, ids: &[u32]) -> usize
-    ensures { λ r. ⌜ Put (now (out .entry)) at (rowBytes (11, number) (several (now (ids .entry)))) (now (out .exit)) r ⌝ }
-{
-    let mut n: usize = 0;
-    let mut i: usize = 0;
-    while i < ids.len() {
-        let to = run::after(out.len(), at, n);
-        n = n + put_number(&mut *out, to, 11, ids[i]);
-        i = i + 1;
-    }
-    n
 }

@@ -1,2 +1,2 @@
-pub mod Belong
+pub mod Taken
 pub mod Run

@@ -1,7 +1,9 @@
-// Indexes in a run of bytes or in an output: an index past the end is the end, so that no sum can wrap.
+// Indexes in a run of bytes or in an output: an index past the end is the end, so that no sum can wrap. Whether lengths add up to a run.
 ghost use mathlib.Core.Path.{_≡_};
 ghost use Prim.Native.Nat.{_+_, min};
 ghost use lib.ListN.{take, drop};
+ghost use Rattle.writing.specs.Handed.{addsUp};
+ghost use Rattle.rows.specs.Given.{run as runOf};
 
 // The index n bytes after `at`, where there are `room` in all.
 pub fn after(room: usize, at: usize, n: usize) -> usize
@@ -25,4 +27,21 @@ pub fn piece<'a>(run: &'a [u8], at: usize, n: usize) -> &'a [u8]
     }
     let end = after(run.len(), at, n);
     &run[at..end]
+}
+
+// Whether the lengths add up to the bytes (01, row 20). Each is taken off the bytes that are left: no sum can wrap.
+pub fn adds_up(bytes: &[u8], lengths: &[usize]) -> bool
+    ensures { λ r. ⌜ r ≡ addsUp (runOf (now (bytes .entry)) (now (lengths .entry))) ⌝ }
+{
+    let mut left = bytes.len();
+    let mut i: usize = 0;
+    while i < lengths.len() {
+        let n = lengths[i];
+        if left < n {
+            return false;
+        }
+        left = left - n;
+        i = i + 1;
+    }
+    left == 0
 }

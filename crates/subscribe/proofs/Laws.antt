@@ -13,7 +13,7 @@ use Rattle.reading.specs.Place.{Span, Placed, asPlaces}
 use Rattle.positions.specs.Position.{fromAt}
 use Rattle.positions.proofs.Trails.{trails-big, trails-block}
 use Rattle.positions.proofs.Fill.{fill-bad, fill-got}
-use Rattle.filters.specs.Told.{placeFit}
+use Rattle.filter_runs.specs.Told.{placeFit}
 
 -- the properties of a Subscribe, if there are any
 abbrev Block : Type 0

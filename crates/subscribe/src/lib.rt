@@ -1,5 +1,6 @@
 // Subscribe, after `Subscribe::read` of subscribe.rs: the fields of a frame from an index to the end of the slice.
-use filters::GotFilters;
+use filter_runs::GotFilters;
+use filter_runs::read_filters;
 use numbers::fixed;
 use numbers::got::GotU16;
 use properties::subscribe_block;
@@ -27,7 +28,7 @@ pub fn read(s: &[u8], at: usize) -> GotSubscribe
         GotU16::Refused(e) => GotSubscribe::Refused(e),
         GotU16::Value(pkid, next) => match subscribe_block::read_subscribe_block(s, next) {
             GotSubscribeBlock::Refused(e) => GotSubscribe::Refused(e),
-            GotSubscribeBlock::Value(properties, start) => match filters::read_filters(s, start) {
+            GotSubscribeBlock::Value(properties, start) => match read_filters(s, start) {
                 GotFilters::Refused(e) => GotSubscribe::Refused(e),
                 GotFilters::Place(filters) => GotSubscribe::Value(Subscribe {
                     pkid,

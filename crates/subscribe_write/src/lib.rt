@@ -7,8 +7,8 @@ use records::answer::Sized;
 use records::answer::Written;
 use records::error::Error;
 use records::span::MaybeU32;
+use row_belongs;
 use row_tests::Tested;
-use rows::belong;
 use rows::run;
 ghost use mathlib.Core.Path.{_≡_};
 ghost use mathlib.Core.Bool.{true};
@@ -47,11 +47,11 @@ fn belongs(
     ensures { λ r. ⌜ r ≡ belongsOf (subscribe (handed m (now (user .entry)) (now («user_lengths» .entry)) (now (filters .entry)) (now («filter_lengths» .entry)) (now (options .entry)))) ⌝ }
 {
     let id = m.id;
-    let block = belong::both(
-        belong::u32_belongs(m.block, id),
-        belong::pairs_belong(m.block, user, user_lengths),
+    let block = row_belongs::both(
+        row_belongs::u32_belongs(m.block, id),
+        row_belongs::pairs_belong(m.block, user, user_lengths),
     );
-    belong::both(
+    row_belongs::both(
         block,
         filters_write::filters_belong(filters, filter_lengths, options),
     )
@@ -117,7 +117,7 @@ fn early(
         return Tested::Refused(Error::ListMismatch);
     }
     row_tests::then(
-        row_tests::test_words(user, user_lengths),
+        list_tests::test_words(user, user_lengths),
         filters_write::test_filters(filters, filter_lengths, options),
     )
 }
@@ -149,7 +149,7 @@ fn put_block(
     let first = run::after(out.len(), at, n);
     let k = row_puts::put_number_if(&mut *out, first, 11, id);
     let second = run::after(out.len(), first, k);
-    let j = row_puts::put_pairs(&mut *out, second, user, user_lengths);
+    let j = list_puts::put_pairs(&mut *out, second, user, user_lengths);
     run::after(out.len(), second, j)
 }
 

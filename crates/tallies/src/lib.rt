@@ -1,9 +1,9 @@
 // What was read: a count for each refusal at its number, for each kind and for all refusals; and the line that tells them.
 use byte_puts::put_bytes;
 use lines::put_number;
-use records::error;
 use records::error::Error;
 use records::packet_record::Packet;
+use refusals::number as number_of;
 ghost use mathlib.Core.Path.{_≡_};
 ghost use mathlib.Core.List.{_++_};
 ghost use Prim.Native.Nat.{_+_, _≤_};
@@ -71,7 +71,7 @@ pub fn add_packet(tally: &mut [u64], p: Packet)
 pub fn add_refused(tally: &mut [u64], e: Error)
     ensures { λ r. ⌜ now (tally .exit) ≡ refusedMore (now (tally .entry)) e ⌝ }
 {
-    add(&mut *tally, error::number(e) as usize);
+    add(&mut *tally, number_of(e) as usize);
     add(&mut *tally, ALL);
 }
 

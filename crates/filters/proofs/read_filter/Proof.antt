@@ -53,11 +53,11 @@ read-filter-spec =
     (tie.spec
     read-mqtt-string-requires
     enum-known-e
+    returns
     enum-known-path
     read-u8-requires
     enum-known-e-2
+    returns-2
     enum-known-options
     with-options-requires
-    returns
-    returns-2
     returns-3)

@@ -55,12 +55,12 @@ with-options-spec =
     (tie.spec
     retain-forward-rule-requires
     enum-known-e
+    returns
     enum-known-retain-forward-rule
     qos-requires
     enum-known-e-2
+    returns-2
     enum-known-qos
     flag-requires
     flag-requires-2
-    returns
-    returns-2
     returns-3)

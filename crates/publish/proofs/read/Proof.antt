@@ -48,8 +48,8 @@ enum-known-e-4 c = search needs
 enum-known-properties : tie.Need-enum-known-properties
 enum-known-properties c = search needs
 
-sub-t28 : tie.Need-sub-t28
-sub-t28 c =
+sub-len : tie.Need-sub-len
+sub-len c =
     let pkid = c .before .before .before .before .before in
     let a = pkid .before .before .before .before .before .before .before .before .before .before .before .before .args in
     block-within (now (a .s)) (pkid .pkid .given .0 .1 .0) _ _ (rw (c .before .properties .given .1) at (c .before .before .before .read-publish-block .ensures))
@@ -101,17 +101,17 @@ read-spec =
     enum-known-q
     read-topic-requires
     enum-known-e-2
+    returns-2
     enum-known-topic
     read-pkid-requires
     enum-known-e-3
+    returns-3
     enum-known-pkid
     read-publish-block-requires
     enum-known-e-4
+    returns-4
     enum-known-properties
-    sub-t28
+    sub-len
     flag-requires
     flag-requires-2
-    returns-2
-    returns-3
-    returns-4
     returns-5)

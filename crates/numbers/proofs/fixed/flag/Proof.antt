@@ -1,6 +1,6 @@
 -- `numbers::fixed::flag` is right since a bit is 0 or 1. Assumes nothing.
 use native.Mathlib.Omega.{arith}
-use Rattle.numbers.proofs.Laws.Fixed.{flag-told}
+use Rattle.numbers.proofs.Laws.{flag-told}
 use Rattle.numbers.proofs.fixed.flag.Statement.{statement}
 use Rattle.numbers.proofs.fixed.flag.Tie as tie
 

@@ -2,7 +2,7 @@
 use borrow.Author.Needs.{needs}
 use native.Mathlib.Omega.{arith}
 use Rattle.reading.specs.Refusal.{cut}
-use Rattle.numbers.proofs.Laws.Fixed.{fixed-at, fixed-cut}
+use Rattle.numbers.proofs.Laws.{fixed-at, fixed-cut}
 use Rattle.numbers.proofs.fixed.read_u16.Statement.{statement}
 use Rattle.numbers.proofs.fixed.read_u16.Tie as tie
 

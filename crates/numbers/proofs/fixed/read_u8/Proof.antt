@@ -3,7 +3,7 @@ use borrow.Author.Needs.{needs}
 use native.Mathlib.Omega.{arith}
 use mathlib.Core.Path.{_∙_}
 use Rattle.reading.specs.Refusal.{cut}
-use Rattle.numbers.proofs.Laws.Fixed.{fixed-at, fixed-cut, byte-width}
+use Rattle.numbers.proofs.Laws.{fixed-at, fixed-cut, byte-width}
 use Rattle.numbers.proofs.fixed.read_u8.Statement.{statement}
 use Rattle.numbers.proofs.fixed.read_u8.Tie as tie
 

@@ -1,0 +1,108 @@
+// What is returned and stored of an item.
+use codes::qos_number;
+use codes::rule_number;
+use layout::store::store;
+use layout::value::flag;
+use records::answer::FilterItem;
+use records::answer::IdentifierItem;
+use records::answer::UserItem;
+ghost use mathlib.Core.Path.{_≡_};
+ghost use lib.Seq.{sets};
+ghost use Rattle.records.specs.Answered.{toldUser, toldIdentifier, toldFilterItem};
+ghost use Rattle.layout.specs.Value.{fitNumber};
+ghost use Rattle.layout_item.specs.Item.{userNumbers, identifierNumbers, filterNumbers};
+
+fn user_number(item: UserItem) -> u32
+    ensures { λ r. ⌜ r ≡ fitNumber (toldUser item) ⌝ }
+{
+    match item {
+        UserItem::Pair(_, _) => 0,
+        UserItem::NoItem => 21,
+    }
+}
+
+fn user_numbers(item: UserItem) -> [u64; 4]
+    ensures { λ r. ⌜ r ≡ userNumbers (toldUser item) ⌝ }
+{
+    match item {
+        UserItem::Pair(k, v) => [k.start as u64, k.len as u64, v.start as u64, v.len as u64],
+        UserItem::NoItem => [0, 0, 0, 0],
+    }
+}
+
+fn identifier_number(item: IdentifierItem) -> u32
+    ensures { λ r. ⌜ r ≡ fitNumber (toldIdentifier item) ⌝ }
+{
+    match item {
+        IdentifierItem::Number(_) => 0,
+        IdentifierItem::NoItem => 21,
+    }
+}
+
+fn identifier_numbers(item: IdentifierItem) -> [u64; 1]
+    ensures { λ r. ⌜ r ≡ identifierNumbers (toldIdentifier item) ⌝ }
+{
+    match item {
+        IdentifierItem::Number(n) => [n as u64],
+        IdentifierItem::NoItem => [0],
+    }
+}
+
+fn filter_number(item: FilterItem) -> u32
+    ensures { λ r. ⌜ r ≡ fitNumber (toldFilterItem item) ⌝ }
+{
+    match item {
+        FilterItem::Filter(_) => 0,
+        FilterItem::NoItem => 21,
+    }
+}
+
+fn filter_numbers(item: FilterItem) -> [u64; 6]
+    ensures { λ r. ⌜ r ≡ filterNumbers (toldFilterItem item) ⌝ }
+{
+    match item {
+        FilterItem::Filter(f) => {
+            let qos = f.qos;
+            let rule = f.retain_forward_rule;
+            [
+                f.path.start as u64,
+                f.path.len as u64,
+                qos_number(qos) as u64,
+                flag(f.nolocal),
+                flag(f.preserve_retain),
+                rule_number(rule) as u64,
+            ]
+        }
+        FilterItem::NoItem => [0, 0, 0, 0, 0, 0],
+    }
+}
+
+// 0, or 21 if there is none; key and value are stored.
+pub fn store_user(item: UserItem, into: &mut [u64]) -> u32
+    ensures number { λ r. ⌜ r ≡ fitNumber (toldUser item) ⌝ }
+    ensures stored { λ r. ⌜ now (into .exit) ≡ sets (now (into .entry)) 0 (userNumbers (toldUser item)) ⌝ }
+{
+    let numbers = user_numbers(item);
+    store(&mut *into, &numbers);
+    user_number(item)
+}
+
+// The same of an identifier.
+pub fn store_identifier(item: IdentifierItem, into: &mut [u64]) -> u32
+    ensures number { λ r. ⌜ r ≡ fitNumber (toldIdentifier item) ⌝ }
+    ensures stored { λ r. ⌜ now (into .exit) ≡ sets (now (into .entry)) 0 (identifierNumbers (toldIdentifier item)) ⌝ }
+{
+    let numbers = identifier_numbers(item);
+    store(&mut *into, &numbers);
+    identifier_number(item)
+}
+
+// The same of a filter: its text and options.
+pub fn store_filter(item: FilterItem, into: &mut [u64]) -> u32
+    ensures number { λ r. ⌜ r ≡ fitNumber (toldFilterItem item) ⌝ }
+    ensures stored { λ r. ⌜ now (into .exit) ≡ sets (now (into .entry)) 0 (filterNumbers (toldFilterItem item)) ⌝ }
+{
+    let numbers = filter_numbers(item);
+    store(&mut *into, &numbers);
+    filter_number(item)
+}

@@ -1,0 +1,47 @@
+-- What the parts of a Publish are. 01: "topic and payload are handed back as parts of the caller's stream". Assumes nothing.
+use mathlib.Core.Path.{_≡_}
+use mathlib.Core.Option.{Option}
+use mathlib.Core.List.{List}
+use Prim.Native.Nat.{ℕ}
+use Rattle.grammar.specs.Record.{Val}
+use Rattle.reading.specs.Place.{heldOf}
+use Rattle.reading.specs.Place as place
+use Rattle.records.specs.Told.{toldSpan, toldString}
+use Rattle.records.specs.Said.{toldPublishBlock}
+use Rattle.records.specs.declared.publish_record.Publish.{Publish}
+use Rattle.records.specs.declared.publish_record.PublishProperties.{PublishProperties}
+use Rattle.wire.specs.Told.{stringIf, inBlock}
+
+-- the strings of the block of m, each absent where there is no block; 01, table of properties, 8, 9 and 3
+module _ (m : Publish) where
+  abbrev pub response : Option (Val place.Span)
+  response = inBlock (λ ps. ps .response) (toldPublishBlock (m .properties))
+
+  abbrev pub correlation : Option (Val place.Span)
+  correlation = inBlock (λ ps. ps .correlation) (toldPublishBlock (m .properties))
+
+  abbrev pub content : Option (Val place.Span)
+  content = inBlock (λ ps. ps .content) (toldPublishBlock (m .properties))
+
+  -- r has them
+  pub record Strings (r : PublishProperties) : Type 0 where
+    pub response-topic : toldString (r .«response_topic») ≡ response
+    pub correlation-data : toldString (r .«correlation_data») ≡ correlation
+    pub content-type : toldString (r .«content_type») ≡ content
+
+-- the parts of m in the stream s; demand 1: any record with any stream, so what lies outside is empty, and what is absent
+module _ (s : List ℕ) (m : Publish) where
+  abbrev pub topicIn : List ℕ
+  topicIn = heldOf s (toldSpan (m .topic))
+
+  abbrev pub payloadIn : List ℕ
+  payloadIn = heldOf s (toldSpan (m .payload))
+
+  abbrev pub responseIn : List ℕ
+  responseIn = stringIf (heldOf s) (response m)
+
+  abbrev pub correlationIn : List ℕ
+  correlationIn = stringIf (heldOf s) (correlation m)
+
+  abbrev pub contentIn : List ℕ
+  contentIn = stringIf (heldOf s) (content m)

@@ -1,0 +1,72 @@
+// The strings of a Publish, as parts of the stream that it was read from.
+use records::publish_record::MaybePublishProperties;
+use records::publish_record::Publish;
+use records::publish_record::PublishProperties;
+use records::span::MaybeSpan;
+use records::span::MaybeU8;
+use records::span::MaybeU16;
+use records::span::MaybeU32;
+use records::span::Span;
+use wire::string;
+ghost use mathlib.Core.Path.{_≡_};
+ghost use Rattle.publish_parts.specs.Parts.{topicIn, payloadIn, Strings, responseIn, correlationIn, contentIn};
+
+// The topic of `m`, which was read from `s`; the empty part if it lies outside. The same goes for every part.
+pub fn topic<'a>(s: &'a [u8], m: Publish) -> &'a [u8]
+    ensures { λ r. ⌜ now r ≡ topicIn (now (s .entry)) m ⌝ }
+{
+    string::part(s, m.topic)
+}
+
+// The payload of `m`.
+pub fn payload<'a>(s: &'a [u8], m: Publish) -> &'a [u8]
+    ensures { λ r. ⌜ now r ≡ payloadIn (now (s .entry)) m ⌝ }
+{
+    string::part(s, m.payload)
+}
+
+// The properties, each of them absent where there is no block.
+fn given(m: Publish) -> PublishProperties
+    ensures { λ r. ⌜ Strings m r ⌝ }
+{
+    let properties = m.properties;
+    match properties {
+        MaybePublishProperties::Present(p) => p,
+        MaybePublishProperties::Absent => PublishProperties {
+            payload_format_indicator: MaybeU8::Absent,
+            message_expiry_interval: MaybeU32::Absent,
+            topic_alias: MaybeU16::Absent,
+            response_topic: MaybeSpan::Absent,
+            correlation_data: MaybeSpan::Absent,
+            content_type: MaybeSpan::Absent,
+            block: Span { start: 0, len: 0 },
+        },
+    }
+}
+
+// Empty if it is absent, as the next two.
+pub fn response_topic<'a>(s: &'a [u8], m: Publish) -> &'a [u8]
+    ensures { λ r. ⌜ now r ≡ responseIn (now (s .entry)) m ⌝ }
+{
+    let p = given(m);
+    let place = p.response_topic;
+    string::part_if(s, place)
+}
+
+// The correlation data of `m`.
+pub fn correlation_data<'a>(s: &'a [u8], m: Publish) -> &'a [u8]
+    ensures { λ r. ⌜ now r ≡ correlationIn (now (s .entry)) m ⌝ }
+{
+    let p = given(m);
+    let place = p.correlation_data;
+    string::part_if(s, place)
+}
+
+// The content type of `m`.
+pub fn content_type<'a>(s: &'a [u8], m: Publish) -> &'a [u8]
+    ensures { λ r. ⌜ now r ≡ contentIn (now (s .entry)) m ⌝ }
+{
+    let p = given(m);
+    let place = p.content_type;
+    string::part_if(s, place)
+}
