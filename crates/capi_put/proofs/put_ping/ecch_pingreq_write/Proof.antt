@@ -1,9 +1,9 @@
--- `capi::put_ping::ecch_pingreq_write` is right since what is returned and stored is of the answer that the writer gives. Assumes nothing.
+-- `capi_put::put_ping::ecch_pingreq_write` is right since what is returned and stored is of the answer that the writer gives. Assumes nothing.
 use mathlib.Core.Path.{refl}
 use borrow.Author.Needs.{needs}
-use Rattle.capi.proofs.Laws.{answered-by, written-by}
-use Rattle.capi.proofs.put_ping.ecch_pingreq_write.Statement.{statement}
-use Rattle.capi.proofs.put_ping.ecch_pingreq_write.Tie as tie
+use Rattle.capi_put.proofs.Laws.{answered-by, written-by}
+use Rattle.capi_put.proofs.put_ping.ecch_pingreq_write.Statement.{statement}
+use Rattle.capi_put.proofs.put_ping.ecch_pingreq_write.Tie as tie
 
 bound-requires : tie.Need-bound-requires
 bound-requires c κs = search needs

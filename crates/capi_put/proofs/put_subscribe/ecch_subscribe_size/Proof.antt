@@ -1,12 +1,12 @@
--- `capi::put_subscribe::ecch_subscribe_size` is right since the head is what is handed over, and what is returned and stored is of its size. Assumes nothing.
+-- `capi_put::put_subscribe::ecch_subscribe_size` is right since the head is what is handed over, and what is returned and stored is of its size. Assumes nothing.
 use mathlib.Core.Path.{ap, _∙_}
 use borrow.Author.Needs.{needs}
 use denote.Ref.{now}
 use Rattle.writing.specs.Handed.{subscribe}
 use Rattle.writing.specs.Write.{sizeOf}
-use Rattle.capi.proofs.Laws.{answered-by}
-use Rattle.capi.proofs.put_subscribe.ecch_subscribe_size.Statement.{statement}
-use Rattle.capi.proofs.put_subscribe.ecch_subscribe_size.Tie as tie
+use Rattle.capi_put.proofs.Laws.{answered-by}
+use Rattle.capi_put.proofs.put_subscribe.ecch_subscribe_size.Statement.{statement}
+use Rattle.capi_put.proofs.put_subscribe.ecch_subscribe_size.Tie as tie
 
 subscribe-head-requires : tie.Need-subscribe-head-requires
 subscribe-head-requires c κs = search needs

@@ -1,9 +1,9 @@
--- `capi::put_ping::ecch_ping_size` is right since what is returned and stored is of the size that `ping_size` gives. Assumes nothing.
+-- `capi_put::put_ping::ecch_ping_size` is right since what is returned and stored is of the size that `ping_size` gives. Assumes nothing.
 use mathlib.Core.Path.{_∙_}
 use borrow.Author.Needs.{needs}
-use Rattle.capi.proofs.Laws.{answered-by}
-use Rattle.capi.proofs.put_ping.ecch_ping_size.Statement.{statement}
-use Rattle.capi.proofs.put_ping.ecch_ping_size.Tie as tie
+use Rattle.capi_put.proofs.Laws.{answered-by}
+use Rattle.capi_put.proofs.put_ping.ecch_ping_size.Statement.{statement}
+use Rattle.capi_put.proofs.put_ping.ecch_ping_size.Tie as tie
 
 ping-size-requires : tie.Need-ping-size-requires
 ping-size-requires c κs = search needs

@@ -1,9 +1,9 @@
--- `capi::put_puback::ecch_puback_write` is right since what is returned and stored is of the answer that `write_puback` gives. Assumes nothing.
+-- `capi_put::put_puback::ecch_puback_write` is right since what is returned and stored is of the answer that `write_puback` gives. Assumes nothing.
 use borrow.Author.Needs.{needs}
 use denote.Ref.{now}
-use Rattle.capi.proofs.Laws.{answered-by, behind-by}
-use Rattle.capi.proofs.put_puback.ecch_puback_write.Statement.{statement}
-use Rattle.capi.proofs.put_puback.ecch_puback_write.Tie as tie
+use Rattle.capi_put.proofs.Laws.{answered-by, behind-by}
+use Rattle.capi_put.proofs.put_puback.ecch_puback_write.Statement.{statement}
+use Rattle.capi_put.proofs.put_puback.ecch_puback_write.Tie as tie
 
 puback-head-requires : tie.Need-puback-head-requires
 puback-head-requires c κs = search needs

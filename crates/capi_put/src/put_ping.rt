@@ -16,8 +16,8 @@ ghost use Rattle.given.specs.Given.{limitGiven};
 pub extern "C" fn ecch_ping_size(answer: &mut [u64]) -> u32
     ensures { λ r. ⌜ ((k : ℕ) → (r ≡ fitNumber (sizeOf (ping k))) × (now (answer .exit) ≡ sets (now (answer .entry)) 0 (answerNumbers (sizeOf (ping k))))) ⌝ }
 {
-    let written = answer::as_written(ping::ping_size());
-    answer::store_written(written, &mut *answer)
+    let size = answer::as_written(ping::ping_size());
+    answer::store_written(size, &mut *answer)
 }
 
 #[no_mangle]

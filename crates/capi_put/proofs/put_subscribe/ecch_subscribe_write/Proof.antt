@@ -1,11 +1,11 @@
--- `capi::put_subscribe::ecch_subscribe_write` is right since the head is what is handed over, and what is returned and stored is of the answer that the writer gives. Assumes nothing.
+-- `capi_put::put_subscribe::ecch_subscribe_write` is right since the head is what is handed over, and what is returned and stored is of the answer that the writer gives. Assumes nothing.
 use mathlib.Core.Path.{ap}
 use borrow.Author.Needs.{needs}
 use denote.Ref.{now}
 use Rattle.writing.specs.Handed.{subscribe}
-use Rattle.capi.proofs.Laws.{answered-by, written-by}
-use Rattle.capi.proofs.put_subscribe.ecch_subscribe_write.Statement.{statement}
-use Rattle.capi.proofs.put_subscribe.ecch_subscribe_write.Tie as tie
+use Rattle.capi_put.proofs.Laws.{answered-by, written-by}
+use Rattle.capi_put.proofs.put_subscribe.ecch_subscribe_write.Statement.{statement}
+use Rattle.capi_put.proofs.put_subscribe.ecch_subscribe_write.Tie as tie
 
 subscribe-head-requires : tie.Need-subscribe-head-requires
 subscribe-head-requires c κs = search needs

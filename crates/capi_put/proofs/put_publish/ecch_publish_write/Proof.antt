@@ -1,9 +1,9 @@
--- `capi::put_publish::ecch_publish_write` is right since what is returned and stored is of the answer that `write_publish` gives. Assumes nothing.
+-- `capi_put::put_publish::ecch_publish_write` is right since what is returned and stored is of the answer that `write_publish` gives. Assumes nothing.
 use borrow.Author.Needs.{needs}
 use denote.Ref.{now}
-use Rattle.capi.proofs.Laws.{answered-by, behind-by}
-use Rattle.capi.proofs.put_publish.ecch_publish_write.Statement.{statement}
-use Rattle.capi.proofs.put_publish.ecch_publish_write.Tie as tie
+use Rattle.capi_put.proofs.Laws.{answered-by, behind-by}
+use Rattle.capi_put.proofs.put_publish.ecch_publish_write.Statement.{statement}
+use Rattle.capi_put.proofs.put_publish.ecch_publish_write.Tie as tie
 
 publish-head-requires : tie.Need-publish-head-requires
 publish-head-requires c κs = search needs
