@@ -1,7 +1,7 @@
 -- `capi_put::put_puback::ecch_puback_write` is right since what is returned and stored is of the answer that `write_puback` gives. Assumes nothing.
 use borrow.Author.Needs.{needs}
 use denote.Ref.{now}
-use Rattle.capi_put.proofs.Laws.{answered-by, behind-by}
+use Rattle.capi_put.proofs.Laws.{behind-by}
 use Rattle.capi_put.proofs.put_puback.ecch_puback_write.Statement.{statement}
 use Rattle.capi_put.proofs.put_puback.ecch_puback_write.Tie as tie
 
@@ -25,9 +25,7 @@ same-length-2 c = search needs
 
 returns : tie.Need-returns
 returns c = let a = c .before .before .before .before .before .before .before .before .before .before .before .before .before .before .before .args in
-    let w = behind-by (now (a .out)) (c .before .before .before .before .before .before .before .before .bound .ensures) (c .before .before .before .before .before .before .before .before .before .puback-head .ensures (now (a .reason-string)) (now (a .user)) (now (a .user-lengths))) (c .before .before .before .before .before .before .write-puback .ensures) in
-    let s = answered-by _ (c .before .before .store-written .ensures) (w .0) in
-    (s .0, (w .1, s .1))
+    behind-by _ (now (a .out)) (c .before .before .store-written .ensures) (c .before .before .before .before .before .before .before .before .bound .ensures) (c .before .before .before .before .before .before .before .before .before .puback-head .ensures (now (a .reason-string)) (now (a .user)) (now (a .user-lengths))) (c .before .before .before .before .before .before .write-puback .ensures)
 
 pub ecch-puback-write-spec : {M : Type 1} → statement M
 ecch-puback-write-spec =

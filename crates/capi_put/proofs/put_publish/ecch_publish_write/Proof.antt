@@ -1,7 +1,7 @@
 -- `capi_put::put_publish::ecch_publish_write` is right since what is returned and stored is of the answer that `write_publish` gives. Assumes nothing.
 use borrow.Author.Needs.{needs}
 use denote.Ref.{now}
-use Rattle.capi_put.proofs.Laws.{answered-by, behind-by}
+use Rattle.capi_put.proofs.Laws.{behind-by}
 use Rattle.capi_put.proofs.put_publish.ecch_publish_write.Statement.{statement}
 use Rattle.capi_put.proofs.put_publish.ecch_publish_write.Tie as tie
 
@@ -25,9 +25,7 @@ same-length-2 c = search needs
 
 returns : tie.Need-returns
 returns c = let a = c .before .before .before .before .before .before .before .before .before .before .before .before .before .before .before .before .before .before .before .before .args in
-    let w = behind-by (now (a .out)) (c .before .before .before .before .before .before .before .before .bound .ensures) (c .before .before .before .before .before .before .before .before .before .publish-head .ensures (now (a .topic)) (now (a .response)) (now (a .correlation)) (now (a .user)) (now (a .user-lengths)) (now (a .identifiers)) (now (a .content)) (now (a .payload))) (c .before .before .before .before .before .before .write-publish .ensures) in
-    let s = answered-by _ (c .before .before .store-written .ensures) (w .0) in
-    (s .0, (w .1, s .1))
+    behind-by _ (now (a .out)) (c .before .before .store-written .ensures) (c .before .before .before .before .before .before .before .before .bound .ensures) (c .before .before .before .before .before .before .before .before .before .publish-head .ensures (now (a .topic)) (now (a .response)) (now (a .correlation)) (now (a .user)) (now (a .user-lengths)) (now (a .identifiers)) (now (a .content)) (now (a .payload))) (c .before .before .before .before .before .before .write-publish .ensures)
 
 pub ecch-publish-write-spec : {M : Type 1} → statement M
 ecch-publish-write-spec =

@@ -3,7 +3,7 @@ use mathlib.Core.Path.{ap}
 use borrow.Author.Needs.{needs}
 use denote.Ref.{now}
 use Rattle.writing.specs.Handed.{subscribe}
-use Rattle.capi_put.proofs.Laws.{answered-by, written-by}
+use Rattle.capi_put.proofs.Laws.{written-by}
 use Rattle.capi_put.proofs.put_subscribe.ecch_subscribe_write.Statement.{statement}
 use Rattle.capi_put.proofs.put_subscribe.ecch_subscribe_write.Tie as tie
 
@@ -27,9 +27,7 @@ same-length-2 c = search needs
 
 returns : tie.Need-returns
 returns c = let a = c .before .before .before .before .before .before .before .before .before .before .before .before .before .before .before .before .before .args in
-    let w = written-by (c .before .before .before .before .before .before .before .before .bound .ensures) (ap subscribe (c .before .before .before .before .before .before .before .before .before .subscribe-head .ensures (now (a .user)) (now (a .user-lengths)) (now (a .filters)) (now (a .filter-lengths)) (now (a .options)))) (c .before .before .before .before .before .before .write .ensures) in
-    let s = answered-by _ (c .before .before .store-written .ensures) (w .answer) in
-    (s .0, (w .output, s .1))
+    written-by _ _ (c .before .before .store-written .ensures) (c .before .before .before .before .before .before .before .before .bound .ensures) (ap subscribe (c .before .before .before .before .before .before .before .before .before .subscribe-head .ensures (now (a .user)) (now (a .user-lengths)) (now (a .filters)) (now (a .filter-lengths)) (now (a .options)))) (c .before .before .before .before .before .before .write .ensures)
 
 pub ecch-subscribe-write-spec : {M : Type 1} → statement M
 ecch-subscribe-write-spec =
