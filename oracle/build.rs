@@ -1,4 +1,4 @@
-// Says where `rt staticlib` leaves the libraries, and links those that are asked for.
+// Says where the static libraries are left, and links those that are asked for.
 use std::{env, path::Path};
 
 fn main() {
@@ -9,7 +9,7 @@ fn main() {
         Err(_) => Path::new(&env::var("CARGO_MANIFEST_DIR").unwrap()).join("../target/staticlib"),
     };
     println!("cargo:rustc-link-search=native={}", dir.display());
-    for lib in ["leaf_bench", "read_bench", "write_bench", "capi"] {
+    for lib in ["leaf_bench", "read_bench", "write_bench", "ecchjulmina"] {
         println!("cargo:rerun-if-changed={}", dir.join(format!("lib{lib}.a")).display());
     }
 }

@@ -1,4 +1,5 @@
-/* Ecchjulmina for C: MQTT 5 packets read and written by proved code (crates/capi). x86-64; link with libcapi.a (`rt staticlib capi`).
+/* Ecchjulmina for C: MQTT 5 packets read and written by proved code (crates/capi, crates/capi_put). x86-64; link with libecchjulmina.a
+ * (bindings/library).
  *
  * Every function ends, allocates nothing, keeps nothing, and calls nothing but its own code and C's memcpy. What each gives for every
  * input is proved (docs/PROMISES.md); that a C caller hands over what the declarations below say is assumed:

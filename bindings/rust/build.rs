@@ -1,11 +1,11 @@
-// Links the proved library, which oracle/staticlib capi leaves in target/staticlib of the repository.
+// Links the proved library, which bindings/library leaves in target/staticlib of the repository.
 use std::{env, path::Path};
 
 fn main() {
     let dir = Path::new(&env::var("CARGO_MANIFEST_DIR").unwrap()).join("../../target/staticlib");
-    let library = dir.join("libcapi.a");
+    let library = dir.join("libecchjulmina.a");
     println!("cargo:rerun-if-changed={}", library.display());
-    assert!(library.exists(), "libcapi.a is not there: run oracle/staticlib capi first");
+    assert!(library.exists(), "libecchjulmina.a is not there: run bindings/library first");
     println!("cargo:rustc-link-search=native={}", dir.display());
-    println!("cargo:rustc-link-lib=static=capi");
+    println!("cargo:rustc-link-lib=static=ecchjulmina");
 }

@@ -1,7 +1,7 @@
 // A PubAck of the file: its size, and written. The places: 0 numbers, 1 reason string, 2 user properties, 3 their lengths.
 use crate::file;
-use capi::put_puback::ecch_puback_size;
-use capi::put_puback::ecch_puback_write;
+use capi_put::put_puback::ecch_puback_size;
+use capi_put::put_puback::ecch_puback_write;
 
 struct Numbers {
     pkid: u16,

@@ -1,8 +1,8 @@
 // A Publish of the file: its size, and written. The places: 0 numbers, 1 topic, 2 the set's numbers, 3 response topic, 4 whether there is
 // correlation data, 5 it, 6 user properties, 7 their lengths, 8 identifiers, 9 whether there is a content type, 10 it, 11 payload.
 use crate::file;
-use capi::put_publish::ecch_publish_size;
-use capi::put_publish::ecch_publish_write;
+use capi_put::put_publish::ecch_publish_size;
+use capi_put::put_publish::ecch_publish_write;
 
 struct Flags {
     dup: u8,

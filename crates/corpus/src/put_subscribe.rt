@@ -1,8 +1,8 @@
 // A Subscribe of the file: its size, and written. The places: 0 numbers, 1 user properties, 2 their lengths, 3 filters, 4 their lengths,
 // 5 options.
 use crate::file;
-use capi::put_subscribe::ecch_subscribe_size;
-use capi::put_subscribe::ecch_subscribe_write;
+use capi_put::put_subscribe::ecch_subscribe_size;
+use capi_put::put_subscribe::ecch_subscribe_write;
 
 struct Numbers {
     pkid: u16,

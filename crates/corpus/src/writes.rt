@@ -9,9 +9,9 @@ use crate::put_subscribe;
 use crate::row;
 use crate::row::Outcome;
 use crate::row::UNSET;
-use capi::put_ping::ecch_ping_size;
-use capi::put_ping::ecch_pingreq_write;
-use capi::put_ping::ecch_pingresp_write;
+use capi_put::put_ping::ecch_ping_size;
+use capi_put::put_ping::ecch_pingreq_write;
+use capi_put::put_ping::ecch_pingresp_write;
 
 // No number of an answer.
 const NOT_WRITTEN: u32 = 256;

@@ -1,5 +1,5 @@
-//! The port, reached through its C interface (feature `capi`, bindings/c/ecchjulmina.h). Without the feature the hand-written reader of
-//! limit.rs and the model of the writer stand in for it.
+//! The port, reached through its C interface (feature `ecchjulmina`, bindings/c/ecchjulmina.h). Without the feature the hand-written reader
+//! of limit.rs and the model of the writer stand in for it.
 use super::shape::*;
 
 /// The numbers of `record`, after enum ecch_record_layout.
@@ -51,7 +51,7 @@ pub fn numbers(answer: &Answer) -> [u64; RECORD] {
 }
 
 /// The record that the numbers tell. Numbers that tell none give a record of kind 0, which no side has.
-#[cfg(feature = "capi")]
+#[cfg(feature = "ecchjulmina")]
 fn told(n: &[u64; RECORD]) -> Record {
     let span = |at: usize| Span {
         start: n[at] as usize,
@@ -87,14 +87,14 @@ fn told(n: &[u64; RECORD]) -> Record {
     }
 }
 
-#[cfg(feature = "capi")]
+#[cfg(feature = "ecchjulmina")]
 mod side {
     use super::*;
     type Bytes = *const u8;
     /// The arguments of a Publish, as the header has them.
     macro_rules! externs {
         ($($name:ident($($arg:ident: $type:ty),* $(,)?) -> $gives:ty;)*) => {
-            #[link(name = "capi", kind = "static")]
+            #[link(name = "ecchjulmina", kind = "static")]
             extern "C" { $(fn $name($($arg: $type),*) -> $gives;)* }
         };
     }
@@ -140,7 +140,7 @@ mod side {
     }
 
     pub fn name() -> &'static str {
-        "libcapi.a"
+        "libecchjulmina.a"
     }
 
     pub fn read(s: &[u8], limit: Option<u64>) -> Answer {
@@ -280,7 +280,7 @@ mod side {
     }
 }
 
-#[cfg(not(feature = "capi"))]
+#[cfg(not(feature = "ecchjulmina"))]
 mod side {
     use super::super::{model, model_write};
     use super::*;

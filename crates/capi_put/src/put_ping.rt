@@ -1,0 +1,51 @@
+// PingReq and PingResp: their size, and written.
+use given::number::bound;
+use layout_answer;
+ghost use mathlib.Core.Path.{_≡_};
+ghost use lib.ListN.{length};
+ghost use lib.Seq.{sets};
+ghost use Prim.Native.Nat.{ℕ};
+ghost use Rattle.writing.specs.Handed.{ping};
+ghost use Rattle.writing.specs.Write.{sizeOf, answerOf, outOf};
+ghost use Rattle.layout.specs.Value.{fitNumber};
+ghost use Rattle.layout_answer.specs.Answer.{answerNumbers};
+ghost use Rattle.given.specs.Given.{limitGiven};
+
+// Of either ping.
+#[no_mangle]
+pub extern "C" fn ecch_ping_size(answer: &mut [u64]) -> u32
+    ensures { λ r. ⌜ ((k : ℕ) → (r ≡ fitNumber (sizeOf (ping k))) × (now (answer .exit) ≡ sets (now (answer .entry)) 0 (answerNumbers (sizeOf (ping k))))) ⌝ }
+{
+    let size = layout_answer::as_written(ping::ping_size());
+    layout_answer::store_written(size, &mut *answer)
+}
+
+#[no_mangle]
+pub extern "C" fn ecch_pingreq_write(
+    limited: u8,
+    limit: usize,
+    out: &mut [u8],
+    answer: &mut [u64],
+) -> u32
+    ensures number { λ r. ⌜ r ≡ fitNumber (answerOf (limitGiven limited limit) (length (now (out .entry))) (ping 12)) ⌝ }
+    ensures output { λ r. ⌜ now (out .exit) ≡ outOf (limitGiven limited limit) (now (out .entry)) (ping 12) ⌝ }
+    ensures stored { λ r. ⌜ now (answer .exit) ≡ sets (now (answer .entry)) 0 (answerNumbers (answerOf (limitGiven limited limit) (length (now (out .entry))) (ping 12))) ⌝ }
+{
+    let written = ping::write_ping_req(&mut *out, bound(limited, limit));
+    layout_answer::store_written(written, &mut *answer)
+}
+
+#[no_mangle]
+pub extern "C" fn ecch_pingresp_write(
+    limited: u8,
+    limit: usize,
+    out: &mut [u8],
+    answer: &mut [u64],
+) -> u32
+    ensures number { λ r. ⌜ r ≡ fitNumber (answerOf (limitGiven limited limit) (length (now (out .entry))) (ping 13)) ⌝ }
+    ensures output { λ r. ⌜ now (out .exit) ≡ outOf (limitGiven limited limit) (now (out .entry)) (ping 13) ⌝ }
+    ensures stored { λ r. ⌜ now (answer .exit) ≡ sets (now (answer .entry)) 0 (answerNumbers (answerOf (limitGiven limited limit) (length (now (out .entry))) (ping 13))) ⌝ }
+{
+    let written = ping::write_ping_resp(&mut *out, bound(limited, limit));
+    layout_answer::store_written(written, &mut *answer)
+}
