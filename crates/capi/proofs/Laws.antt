@@ -15,7 +15,7 @@ use Rattle.names.specs.declared.shown.Name.{Name}
 use Rattle.wire.proofs.Laws.Strings.{held-within}
 use Rattle.layout.specs.Item.{fitNumber}
 use Rattle.layout.specs.Answer.{answerNumbers}
-use Rattle.given.specs.Written.{answeredBehind, outBehind}
+use Rattle.given.specs.Written.{WrittenBehind}
 
 -- ---- what is returned and stored
 
@@ -27,8 +27,8 @@ pub written-by : {limit limit′ : Option ℕ} {h h′ : Handed} {before after :
 written-by e f w = rw (sym e, sym f) w
 
 -- the same where a number may be refused before all else
-pub behind-by : (before : List ℕ) {limit limit′ : Option ℕ} {h h′ : Fit Handed} {after : List ℕ} {t : Fit ℕ} → limit ≡ limit′ → h ≡ h′ → (t ≡ answeredBehind h limit before) × (after ≡ outBehind h limit before) → (t ≡ answeredBehind h′ limit′ before) × (after ≡ outBehind h′ limit′ before)
-behind-by before e f w = rw (sym e, sym f) w
+pub behind-by : {limit limit′ : Option ℕ} {h h′ : Fit Handed} {before after : List ℕ} {t : Fit ℕ} → limit ≡ limit′ → h ≡ h′ → WrittenBehind limit h before after t → WrittenBehind limit′ h′ before after t
+behind-by e f w = rw (sym e, sym f) w
 
 -- ---- names
 

@@ -25,9 +25,9 @@ same-length-2 c = search needs
 
 returns : tie.Need-returns
 returns c = let a = c .before .before .before .before .before .before .before .before .before .before .before .before .before .before .before .args in
-    let w = behind-by (now (a .out)) (c .before .before .before .before .before .before .before .before .bound .ensures) (c .before .before .before .before .before .before .before .before .before .puback-head .ensures (now (a .reason-string)) (now (a .user)) (now (a .user-lengths))) (c .before .before .before .before .before .before .write-puback .ensures) in
-    let s = answered-by _ (c .before .before .store-written .ensures) (w .0) in
-    (s .0, (w .1, s .1))
+    let w = behind-by (c .before .before .before .before .before .before .before .before .bound .ensures) (c .before .before .before .before .before .before .before .before .before .puback-head .ensures (now (a .reason-string)) (now (a .user)) (now (a .user-lengths))) (c .before .before .before .before .before .before .write-puback .ensures) in
+    let s = answered-by _ (c .before .before .store-written .ensures) (w .answer) in
+    (s .0, (w .output, s .1))
 
 pub ecch-puback-write-spec : {M : Type 1} → statement M
 ecch-puback-write-spec =

@@ -25,9 +25,9 @@ same-length-2 c = search needs
 
 returns : tie.Need-returns
 returns c = let a = c .before .before .before .before .before .before .before .before .before .before .before .before .before .before .before .before .before .before .before .before .args in
-    let w = behind-by (now (a .out)) (c .before .before .before .before .before .before .before .before .bound .ensures) (c .before .before .before .before .before .before .before .before .before .publish-head .ensures (now (a .topic)) (now (a .response)) (now (a .correlation)) (now (a .user)) (now (a .user-lengths)) (now (a .identifiers)) (now (a .content)) (now (a .payload))) (c .before .before .before .before .before .before .write-publish .ensures) in
-    let s = answered-by _ (c .before .before .store-written .ensures) (w .0) in
-    (s .0, (w .1, s .1))
+    let w = behind-by (c .before .before .before .before .before .before .before .before .bound .ensures) (c .before .before .before .before .before .before .before .before .before .publish-head .ensures (now (a .topic)) (now (a .response)) (now (a .correlation)) (now (a .user)) (now (a .user-lengths)) (now (a .identifiers)) (now (a .content)) (now (a .payload))) (c .before .before .before .before .before .before .write-publish .ensures) in
+    let s = answered-by _ (c .before .before .store-written .ensures) (w .answer) in
+    (s .0, (w .output, s .1))
 
 pub ecch-publish-write-spec : {M : Type 1} → statement M
 ecch-publish-write-spec =
