@@ -10,7 +10,7 @@ use Rattle.writing.specs.Handed.{Handed}
 use Rattle.writing.specs.Write.{Written, answerOf, outOf}
 use Rattle.layout.specs.Value.{fitNumber}
 use Rattle.layout_answer.specs.Answer.{answerNumbers}
-use Rattle.given.specs.Written.{answeredBehind, outBehind}
+use Rattle.given.specs.Written.{answeredBehind, outBehind, WrittenBehind}
 
 -- what is returned, and the array before and after
 abbrev Stored : ℕ → List ℕ → List ℕ → Fit ℕ → Type 0
@@ -28,5 +28,5 @@ pub written-by : (array before : List ℕ) {limit limit′ : Option ℕ} {h h′
 written-by array before s e f w = rw (sym e, sym f) (with-output array s (w .answer) (w .output))
 
 -- the same where a number may be refused before all else
-pub behind-by : (array before : List ℕ) {limit limit′ : Option ℕ} {h h′ : Fit Handed} {r : ℕ} {stored after : List ℕ} {t : Fit ℕ} → Stored r array stored t → limit ≡ limit′ → h ≡ h′ → (t ≡ answeredBehind h limit before) × (after ≡ outBehind h limit before) → (r ≡ fitNumber (answeredBehind h′ limit′ before)) × ((after ≡ outBehind h′ limit′ before) × (stored ≡ sets array 0 (answerNumbers (answeredBehind h′ limit′ before))))
-behind-by array before s e f w = rw (sym e, sym f) (with-output array s (w .0) (w .1))
+pub behind-by : (array before : List ℕ) {limit limit′ : Option ℕ} {h h′ : Fit Handed} {r : ℕ} {stored after : List ℕ} {t : Fit ℕ} → Stored r array stored t → limit ≡ limit′ → h ≡ h′ → WrittenBehind limit h before after t → (r ≡ fitNumber (answeredBehind h′ limit′ before)) × ((after ≡ outBehind h′ limit′ before) × (stored ≡ sets array 0 (answerNumbers (answeredBehind h′ limit′ before))))
+behind-by array before s e f w = rw (sym e, sym f) (with-output array s (w .answer) (w .output))

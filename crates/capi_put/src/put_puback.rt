@@ -1,8 +1,8 @@
 // A PubAck: its size, and written.
 use given::number::bound;
 use given::puback_by::puback_head;
-use given::puback_by::size_puback;
-use given::puback_by::write_puback;
+use given_write::size::size_puback;
+use given_write::write::write_puback;
 use layout_answer;
 ghost use mathlib.Core.Path.{_≡_};
 ghost use lib.Seq.{sets};

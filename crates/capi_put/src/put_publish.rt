@@ -1,8 +1,8 @@
 // A Publish: its size, and written.
 use given::number::bound;
 use given::publish_by::publish_head;
-use given::publish_by::size_publish;
-use given::publish_by::write_publish;
+use given_write::size::size_publish;
+use given_write::write::write_publish;
 use layout_answer;
 ghost use mathlib.Core.Path.{_≡_};
 ghost use lib.Seq.{sets};

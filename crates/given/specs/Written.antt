@@ -1,4 +1,5 @@
 -- What a size and a write give where a number may be none of the record's, which is refused before all else. Assumes nothing.
+use mathlib.Core.Path.{_≡_}
 use mathlib.Core.Option.{Option}
 use mathlib.Core.List.{List}
 use Prim.Native.Nat.{ℕ}
@@ -19,3 +20,8 @@ answeredBehind h limit before = h >>= answerOf limit (length before)
 abbrev pub outBehind : Fit Handed → Option ℕ → List ℕ → List ℕ
 outBehind (got h) limit before = outOf limit before h
 outBehind (bad k) limit before = before
+
+-- the contract of a write: its answer and the output
+pub record WrittenBehind (limit : Option ℕ) (h : Fit Handed) (before after : List ℕ) (told : Fit ℕ) : Type 0 where
+  pub answer : told ≡ answeredBehind h limit before
+  pub output : after ≡ outBehind h limit before

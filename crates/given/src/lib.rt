@@ -1,4 +1,4 @@
-// What C hands over: its numbers as flags, limits and kinds, and its arguments as a packet to write. bindings/c/ecchjulmina.h has the words.
+// What C hands over: its numbers as flags, limits and kinds, and as the head of a packet to write. bindings/c/ecchjulmina.h has the words.
 pub mod kind;
 pub mod number;
 pub mod puback_by;

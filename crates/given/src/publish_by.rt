@@ -1,23 +1,17 @@
-// A Publish that C hands over: its numbers and presence, its size, and written.
+// A Publish that C hands over: its numbers and presence.
 use crate::number::is_on;
 use crate::number::maybe_u8;
 use crate::number::maybe_u16;
 use crate::number::maybe_u32;
-use layout_answer;
 use publish_plan::head::PublishHead;
-use records::answer::Limit;
-use records::answer::Written;
 use records::error::Error;
 use tables::qos;
 use tables::qos::GotQos;
 ghost use mathlib.Core.Path.{_≡_};
 ghost use mathlib.Core.List.{List};
 ghost use Prim.Native.Nat.{ℕ};
-ghost use Rattle.records.specs.Told.{limitOf};
-ghost use Rattle.records.specs.Answered.{toldWritten};
 ghost use Rattle.given.specs.Given.{publishBy};
 ghost use Rattle.given.specs.Head.{publishOf};
-ghost use Rattle.given.specs.Written.{sizedBehind, answeredBehind, outBehind};
 
 // Numbers and presence, or refusal 11.
 pub enum GotPublishHead {
@@ -64,68 +58,5 @@ pub fn publish_head(
             };
             GotPublishHead::Value(head)
         }
-    }
-}
-
-pub fn size_publish(
-    head: GotPublishHead,
-    topic: &[u8],
-    response: &[u8],
-    correlation: &[u8],
-    user: &[u8],
-    user_lengths: &[usize],
-    identifiers: &[u32],
-    content: &[u8],
-    payload: &[u8],
-) -> Written
-    ensures { λ r. ⌜ toldWritten r ≡ sizedBehind (publishOf head (now (topic .entry)) (now (response .entry)) (now (correlation .entry)) (now (user .entry)) (now («user_lengths» .entry)) (now (identifiers .entry)) (now (content .entry)) (now (payload .entry))) ⌝ }
-{
-    match head {
-        GotPublishHead::Refused(e) => Written::Refused(e),
-        GotPublishHead::Value(h) => layout_answer::as_written(publish_write::size(
-            h,
-            topic,
-            response,
-            correlation,
-            user,
-            user_lengths,
-            identifiers,
-            content,
-            payload,
-        )),
-    }
-}
-
-pub fn write_publish(
-    head: GotPublishHead,
-    topic: &[u8],
-    response: &[u8],
-    correlation: &[u8],
-    user: &[u8],
-    user_lengths: &[usize],
-    identifiers: &[u32],
-    content: &[u8],
-    payload: &[u8],
-    limit: Limit,
-    out: &mut [u8],
-) -> Written
-    ensures answer { λ r. ⌜ toldWritten r ≡ answeredBehind (publishOf head (now (topic .entry)) (now (response .entry)) (now (correlation .entry)) (now (user .entry)) (now («user_lengths» .entry)) (now (identifiers .entry)) (now (content .entry)) (now (payload .entry))) (limitOf limit) (now (out .entry)) ⌝ }
-    ensures output { λ r. ⌜ now (out .exit) ≡ outBehind (publishOf head (now (topic .entry)) (now (response .entry)) (now (correlation .entry)) (now (user .entry)) (now («user_lengths» .entry)) (now (identifiers .entry)) (now (content .entry)) (now (payload .entry))) (limitOf limit) (now (out .entry)) ⌝ }
-{
-    match head {
-        GotPublishHead::Refused(e) => Written::Refused(e),
-        GotPublishHead::Value(h) => publish_write::write(
-            h,
-            topic,
-            response,
-            correlation,
-            user,
-            user_lengths,
-            identifiers,
-            content,
-            payload,
-            limit,
-            &mut *out,
-        ),
     }
 }

@@ -13,25 +13,17 @@ use records::subscribe_record::MaybeSubscribeProperties;
 ghost use mathlib.Core.Path.{_≡_};
 ghost use Rattle.records.specs.Told.{toldU8, toldU16, toldU32, toldString, toldSpan};
 ghost use Rattle.records.specs.Said.{toldPublishBlock, toldSubscribeBlock, toldPubAckBlock};
-ghost use Rattle.layout_properties.specs.Block.{noNumber, noText, noBlock, plainBlock, texted, numbered, lettered, publishBlock, subscribeBlock, ackBlock};
+ghost use Rattle.layout_properties.specs.Block.{noBlock, plainBlock, texted, numbered, lettered, publishBlock, subscribeBlock, ackBlock};
 
 // ---- single values
 
-fn no_number() -> Number
-    ensures { λ r. ⌜ r ≡ noNumber ⌝ }
-{
-    Number { on: 0, value: 0 }
-}
+const NO_NUMBER: Number = Number { on: 0, value: 0 };
 
-fn no_text() -> Text
-    ensures { λ r. ⌜ r ≡ noText ⌝ }
-{
-    Text {
-        on: 0,
-        start: 0,
-        len: 0,
-    }
-}
+const NO_TEXT: Text = Text {
+    on: 0,
+    start: 0,
+    len: 0,
+};
 
 fn place_text(p: Span) -> Text
     ensures { λ r. ⌜ r ≡ texted (toldSpan p) ⌝ }
@@ -47,7 +39,7 @@ fn u8_number(m: MaybeU8) -> Number
     ensures { λ r. ⌜ r ≡ numbered (toldU8 m) ⌝ }
 {
     match m {
-        MaybeU8::Absent => no_number(),
+        MaybeU8::Absent => NO_NUMBER,
         MaybeU8::Present(n) => Number {
             on: 1,
             value: n as u64,
@@ -59,7 +51,7 @@ fn u16_number(m: MaybeU16) -> Number
     ensures { λ r. ⌜ r ≡ numbered (toldU16 m) ⌝ }
 {
     match m {
-        MaybeU16::Absent => no_number(),
+        MaybeU16::Absent => NO_NUMBER,
         MaybeU16::Present(n) => Number {
             on: 1,
             value: n as u64,
@@ -71,7 +63,7 @@ fn u32_number(m: MaybeU32) -> Number
     ensures { λ r. ⌜ r ≡ numbered (toldU32 m) ⌝ }
 {
     match m {
-        MaybeU32::Absent => no_number(),
+        MaybeU32::Absent => NO_NUMBER,
         MaybeU32::Present(n) => Number {
             on: 1,
             value: n as u64,
@@ -83,7 +75,7 @@ fn span_text(m: MaybeSpan) -> Text
     ensures { λ r. ⌜ r ≡ lettered (toldString m) ⌝ }
 {
     match m {
-        MaybeSpan::Absent => no_text(),
+        MaybeSpan::Absent => NO_TEXT,
         MaybeSpan::Present(p) => place_text(p),
     }
 }
@@ -94,16 +86,14 @@ fn span_text(m: MaybeSpan) -> Text
 fn plain_block(place: Text, reason: Text, subscription: Number) -> Block
     ensures { λ r. ⌜ r ≡ plainBlock place reason subscription ⌝ }
 {
-    let text = no_text();
-    let number = no_number();
     Block {
         place,
-        format: number,
-        expiry: number,
-        alias: number,
-        response: text,
-        correlation: text,
-        content: text,
+        format: NO_NUMBER,
+        expiry: NO_NUMBER,
+        alias: NO_NUMBER,
+        response: NO_TEXT,
+        correlation: NO_TEXT,
+        content: NO_TEXT,
         reason,
         subscription,
     }
@@ -112,7 +102,7 @@ fn plain_block(place: Text, reason: Text, subscription: Number) -> Block
 pub fn no_block() -> Block
     ensures { λ r. ⌜ r ≡ noBlock ⌝ }
 {
-    plain_block(no_text(), no_text(), no_number())
+    plain_block(NO_TEXT, NO_TEXT, NO_NUMBER)
 }
 
 pub fn publish_block(m: MaybePublishProperties) -> Block
@@ -134,8 +124,6 @@ pub fn publish_block(m: MaybePublishProperties) -> Block
             let correlation = span_text(correlation);
             let content = p.content_type;
             let content = span_text(content);
-            let reason = no_text();
-            let subscription = no_number();
             Block {
                 place,
                 format,
@@ -144,8 +132,8 @@ pub fn publish_block(m: MaybePublishProperties) -> Block
                 response,
                 correlation,
                 content,
-                reason,
-                subscription,
+                reason: NO_TEXT,
+                subscription: NO_NUMBER,
             }
         }
     }
@@ -158,7 +146,7 @@ pub fn subscribe_block(m: MaybeSubscribeProperties) -> Block
         MaybeSubscribeProperties::Absent => no_block(),
         MaybeSubscribeProperties::Present(p) => {
             let id = p.id;
-            plain_block(place_text(p.block), no_text(), u32_number(id))
+            plain_block(place_text(p.block), NO_TEXT, u32_number(id))
         }
     }
 }
@@ -170,7 +158,7 @@ pub fn puback_block(m: MaybePubAckProperties) -> Block
         MaybePubAckProperties::Absent => no_block(),
         MaybePubAckProperties::Present(p) => {
             let reason = p.reason_string;
-            plain_block(place_text(p.block), span_text(reason), no_number())
+            plain_block(place_text(p.block), span_text(reason), NO_NUMBER)
         }
     }
 }

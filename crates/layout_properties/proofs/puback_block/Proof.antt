@@ -18,9 +18,6 @@ place-text-requires c κs = search needs
 span-text-requires : tie.Need-span-text-requires
 span-text-requires c κs = search needs
 
-no-number-requires : tie.Need-no-number-requires
-no-number-requires c κs = search needs
-
 plain-block-requires : tie.Need-plain-block-requires
 plain-block-requires c κs = search needs
 
@@ -28,7 +25,7 @@ returns : tie.Need-returns
 returns c = search needs
 
 returns-2 : tie.Need-returns-2
-returns-2 c = rw (c .before .before .before .before .before .m .given .1, c .plain-block .ensures, c .before .no-number .ensures, c .before .before .span-text .ensures, c .before .before .before .place-text .ensures)
+returns-2 c = rw (c .before .before .before .before .m .given .1, c .plain-block .ensures, c .before .span-text .ensures, c .before .before .place-text .ensures)
 
 pub puback-block-spec : {M : Type 1} → statement M
 puback-block-spec =
@@ -39,7 +36,6 @@ puback-block-spec =
     enum-known-m
     place-text-requires
     span-text-requires
-    no-number-requires
     plain-block-requires
     returns
     returns-2)

@@ -33,17 +33,11 @@ span-text-requires-2 c κs = search needs
 span-text-requires-3 : tie.Need-span-text-requires-3
 span-text-requires-3 c κs = search needs
 
-no-text-requires : tie.Need-no-text-requires
-no-text-requires c κs = search needs
-
-no-number-requires : tie.Need-no-number-requires
-no-number-requires c κs = search needs
-
 returns : tie.Need-returns
 returns c = search needs
 
 returns-2 : tie.Need-returns-2
-returns-2 c = rw (c .before .before .before .before .before .before .before .before .before .before .m .given .1, c .before .before .before .before .before .before .before .before .place-text .ensures, c .before .before .before .before .before .before .before .u8-number .ensures, c .before .before .before .before .before .before .u32-number .ensures, c .before .before .before .before .before .u16-number .ensures, c .before .before .before .before .span-text .ensures, c .before .before .before .span-text2 .ensures, c .before .before .span-text3 .ensures, c .before .no-text .ensures, c .no-number .ensures)
+returns-2 c = rw (c .before .before .before .before .before .before .before .before .m .given .1, c .before .before .before .before .before .before .place-text .ensures, c .before .before .before .before .before .u8-number .ensures, c .before .before .before .before .u32-number .ensures, c .before .before .before .u16-number .ensures, c .before .before .span-text .ensures, c .before .span-text2 .ensures, c .span-text3 .ensures)
 
 pub publish-block-spec : {M : Type 1} → statement M
 publish-block-spec =
@@ -59,7 +53,5 @@ publish-block-spec =
     span-text-requires
     span-text-requires-2
     span-text-requires-3
-    no-text-requires
-    no-number-requires
     returns
     returns-2)

@@ -6,9 +6,6 @@ use Rattle.layout_properties.proofs.span_text.Tie as tie
 enum-told : tie.Need-enum-told
 enum-told c = search needs
 
-no-text-requires : tie.Need-no-text-requires
-no-text-requires c κs = search needs
-
 enum-known-m : tie.Need-enum-known-m
 enum-known-m c = search needs
 
@@ -16,12 +13,11 @@ place-text-requires : tie.Need-place-text-requires
 place-text-requires c κs = search needs
 
 returns : tie.Need-returns
-returns c = search needs
+returns c = rw (c .enum-told .given .1)
 
 returns-2 : tie.Need-returns-2
 returns-2 c = rw (c .before .before .m .given .1) (c .place-text .ensures)
 
 pub span-text-spec : {M : Type 1} → statement M
 span-text-spec =
-    tie.close
-    (tie.spec enum-told no-text-requires enum-known-m place-text-requires returns returns-2)
+    tie.close (tie.spec enum-told enum-known-m place-text-requires returns returns-2)

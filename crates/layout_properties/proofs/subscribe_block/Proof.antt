@@ -15,9 +15,6 @@ enum-known-m c = search needs
 place-text-requires : tie.Need-place-text-requires
 place-text-requires c κs = search needs
 
-no-text-requires : tie.Need-no-text-requires
-no-text-requires c κs = search needs
-
 u32-number-requires : tie.Need-u32-number-requires
 u32-number-requires c κs = search needs
 
@@ -28,7 +25,7 @@ returns : tie.Need-returns
 returns c = search needs
 
 returns-2 : tie.Need-returns-2
-returns-2 c = rw (c .before .before .before .before .before .m .given .1, c .plain-block .ensures, c .before .u32-number .ensures, c .before .before .no-text .ensures, c .before .before .before .place-text .ensures)
+returns-2 c = rw (c .before .before .before .before .m .given .1, c .plain-block .ensures, c .before .u32-number .ensures, c .before .before .place-text .ensures)
 
 pub subscribe-block-spec : {M : Type 1} → statement M
 subscribe-block-spec =
@@ -38,7 +35,6 @@ subscribe-block-spec =
     no-block-requires
     enum-known-m
     place-text-requires
-    no-text-requires
     u32-number-requires
     plain-block-requires
     returns

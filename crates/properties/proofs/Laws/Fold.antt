@@ -4,7 +4,7 @@ use mathlib.Core.Logic.{_⊎_, inl, inr}
 use mathlib.Core.Bool.{Bool, true, false}
 use mathlib.Core.Option.{Option, none, some}
 use mathlib.Core.List.{List, [], _∷_}
-use Prim.Native.Nat.{ℕ, suc, _≤_, _<_}
+use Prim.Native.Nat.{ℕ, suc, _-_, _≤_, _<_}
 use native.Mathlib.Omega.{arith}
 use lib.Dec.{eqb}
 use lib.ListN.{length, drop, getD, length-drop, drop-of-length-le}
@@ -28,6 +28,7 @@ use Rattle.records.specs.declared.error.Error.{Error}
 use Rattle.property_value.specs.Told.{toldValue, formOf, publishLists, nextOr, PropertyRead, PropertyPassed}
 use Rattle.property_value.proofs.Laws.Value.{value-tag, property-left, property-ahead}
 use Rattle.property_value.specs.declared.Value.{Value}
+use Rattle.property_value.specs.declared.GotProperty.{GotProperty}
 use Rattle.property_value.specs.declared.GotProperty.the-variants.{Found, Refused}
 use Rattle.properties.specs.Block.{Row, publishRow, subscribeRow, ackRow, applied, loopFrom, filledAt}
 
@@ -217,6 +218,14 @@ loop-end w o s at h =
 pub record Filling (w : Row) (s : List ℕ) (whole : Fit (w .Props)) (o : w .Props) (at : ℕ) : Type 0 where
   pub rest : whole ≡ loopFrom w o s at
 
+-- the invariant of a loop that keeps p, of which `told` tells the properties: p₀ and at₀ are those before the loop
+abbrev pub FillingBy : (w : Row) {A : Type 0} → (A → w .Props) → List ℕ → A → ℕ → A → ℕ → Type 0
+FillingBy w told s p₀ at₀ p at = Filling w s (loopFrom w (told p₀) s at₀) (told p) at
+
+-- and its measure: what is left of the slice
+abbrev pub leftFrom : {A : Type 0} → List ℕ → A → ℕ → A → ℕ → ℕ
+leftFrom s p₀ at₀ p at = length s - at
+
 pub filling-start : (w : Row) (s : List ℕ) (o : w .Props) (at : ℕ) → Filling w s (loopFrom w o s at) o at
 filling-start w s o at = record { rest = refl }
 
@@ -224,8 +233,8 @@ module _ {w : Row} {s : List ℕ} {whole : Fit (w .Props)} {o : w .Props} {at : 
   filling-by : at < length s → (a : PropOf Span) (n : ℕ) → got (a, n) ≡ propertyAt w s at → (o′ : w .Props) → o′ ≡ applied w o a → Filling w s whole o′ n
   filling-by h a n e o′ i = record { rest = f .rest ∙ loop-next w s at h a n e o ∙ ap (λ (u : w .Props). loopFrom w u s n) (sym i) }
 
-  pub filling-next : at < length s → {k n : ℕ} {v : Value} {o′ : w .Props} → PropertyRead (w .place) s at (Found k v n) → o′ ≡ applied w o (k, toldValue v) → Filling w s whole o′ n
-  filling-next h {k = k} {n = n} {v = v} {o′ = o′} P i = filling-by h (k, toldValue v) n (P .says) o′ i
+  pub filling-next : at < length s → {k n : ℕ} {v : Value} {r : GotProperty} {o′ : w .Props} → PropertyRead (w .place) s at r → r ≡ Found k v n → o′ ≡ applied w o (k, toldValue v) → Filling w s whole o′ n
+  filling-next h {k = k} {n = n} {v = v} {o′ = o′} P e i = filling-by h (k, toldValue v) n (rw e at (P .says)) o′ i
 
   filling-bad : at < length s → (k : Refusal) → bad k ≡ propertyAt w s at → whole ≡ bad k
   filling-bad h k e = f .rest ∙ loop-bad w s at h o k e
@@ -234,8 +243,8 @@ module _ {w : Row} {s : List ℕ} {whole : Fit (w .Props)} {o : w .Props} {at : 
   filling-end h = f .rest ∙ loop-end w o s at h
 
 -- a property takes a byte at least
-pub read-ahead : {place : Place} {s : List ℕ} {at k n : ℕ} {v : Value} → PropertyRead place s at (Found k v n) → at < n
-read-ahead {place = place} {s = s} {at = at} {k = k} {n = n} {v = v} P = property-ahead place s at (k, toldValue v) n (P .says)
+pub read-ahead : {place : Place} {s : List ℕ} {at k n : ℕ} {v : Value} {r : GotProperty} → PropertyRead place s at r → r ≡ Found k v n → at < n
+read-ahead {place = place} {s = s} {at = at} {k = k} {n = n} {v = v} P e = property-ahead place s at (k, toldValue v) n (rw e at (P .says))
 
 -- a property of a list is passed over
 module _ {s : List ℕ} {at r : ℕ} (P : PropertyPassed publishLists s at r) (ne : r ≡ at → ⊥) where
@@ -259,9 +268,9 @@ module _ {s : List ℕ} {at r : ℕ} (P : PropertyPassed publishLists s at r) (n
       filling-by f h (over .0) r (over .1 ∙ rw e) o (sym (still o))
 
 module _ {w : Row} {s : List ℕ} {o₀ o : w .Props} {at : ℕ} (p : Span) (i : o₀ ≡ w .made p []) (f : Filling w s (loopFrom w o₀ s (p .start)) o at) where
-  pub filled-bad : at < length s → {e : Error} → PropertyRead (w .place) s at (Refused e) → bad (toldError e) ≡ filledAt w s p
+  pub filled-bad : at < length s → {e : Error} {r : GotProperty} → PropertyRead (w .place) s at r → r ≡ Refused e → bad (toldError e) ≡ filledAt w s p
   unfolding filledAt
-  filled-bad h {e = e} P = rw (sym i, filling-bad f h (toldError e) (P .says))
+  filled-bad h {e = e} P j = rw (sym i, filling-bad f h (toldError e) (rw j at (P .says)))
 
   pub filled-end : length s ≤ at → got (some o, length s) ≡ filledAt w s p
   unfolding filledAt

@@ -2,23 +2,22 @@
 -- least, and what is left of the slice is the measure. Assumes nothing.
 use mathlib.Core.Path.{ap, _∙_}
 use mathlib.Core.Option.{some}
-use Prim.Native.Nat.{_-_}
 use native.Mathlib.Omega.{arith}
 use lib.ListN.{length}
 use borrow.Author.Needs.{needs}
 use Rattle.reading.specs.Reader.{got}
 use Rattle.records.specs.Told.{toldSpan}
-use Rattle.properties.specs.Block.{publishRow, loopFrom}
+use Rattle.properties.specs.Block.{publishRow}
 use Rattle.publish_properties.specs.Singles.{toldSingles}
-use Rattle.properties.proofs.Laws.Fold.{Filling, filling-start, filling-next, read-ahead, over-ahead, filling-over, filled-bad, filled-end}
+use Rattle.properties.proofs.Laws.Fold.{FillingBy, leftFrom, filling-start, filling-next, read-ahead, over-ahead, filling-over, filled-bad, filled-end}
 use Rattle.publish_properties.proofs.fill.Statement.{statement}
 use Rattle.publish_properties.proofs.fill.Tie as tie
 
 abbrev Inv-loop : tie.InvT-loop
-Inv-loop s p₀ at₀ p at = Filling publishRow s (loopFrom publishRow (toldSingles p₀) s at₀) (toldSingles p) at
+Inv-loop = FillingBy publishRow toldSingles
 
 abbrev μ-loop : tie.MeasureT-loop
-μ-loop s p₀ at₀ p at = length s - at
+μ-loop = leftFrom
 
 none-requires : tie.Need-none-requires Inv-loop μ-loop
 none-requires c κs = search needs
@@ -47,12 +46,12 @@ apply-requires c κs = rw (c .before .k .given .1) at (c .before .before .before
 loop-less-2 : tie.Need-loop-less-2 Inv-loop μ-loop
 loop-less-2 c =
     let b = c .before .before .before .before in
-    omega (arith, b .before .before .before .loop-test .taken, read-ahead (rw (c .before .before .k .given .1) at (b .read-property .ensures)))
+    omega (arith, b .before .before .before .loop-test .taken, read-ahead (b .read-property .ensures) (c .before .before .k .given .1))
 
 loop-again-2 : tie.Need-loop-again-2 Inv-loop μ-loop
 loop-again-2 c =
     let b = c .before .before .before .before in
-    filling-next (b .before .before .before .before .loop .inv) (b .before .before .before .loop-test .taken) (rw (c .before .before .k .given .1) at (b .read-property .ensures)) (c .apply .ensures)
+    filling-next (b .before .before .before .before .loop .inv) (b .before .before .before .loop-test .taken) (b .read-property .ensures) (c .before .before .k .given .1) (c .apply .ensures)
 
 enum-known-e : tie.Need-enum-known-e Inv-loop μ-loop
 enum-known-e c = search needs
@@ -60,7 +59,7 @@ enum-known-e c = search needs
 returns : tie.Need-returns Inv-loop μ-loop
 returns c =
     let b = c .before .before .before in
-    filled-bad _ (b .before .before .before .before .before .none .ensures) (b .before .before .before .before .loop .inv) (b .before .before .before .loop-test .taken) (rw (c .before .e .given .1) at (b .read-property .ensures))
+    filled-bad _ (b .before .before .before .before .before .none .ensures) (b .before .before .before .before .loop .inv) (b .before .before .before .loop-test .taken) (b .read-property .ensures) (c .before .e .given .1)
 
 made-requires : tie.Need-made-requires Inv-loop μ-loop
 made-requires c κs = search needs

@@ -1,22 +1,20 @@
 -- `properties::puback_block::fill` meets its contract. The loop's invariant: the rest of the loop decides the whole. Each property takes a byte at
 -- least, and what is left of the slice is the measure. Assumes nothing.
 use mathlib.Core.Path.{refl}
-use Prim.Native.Nat.{_-_}
 use native.Mathlib.Omega.{arith}
-use lib.ListN.{length}
 use borrow.Author.Needs.{needs}
 use Rattle.grammar.specs.Record.{lastOf, ackProps}
 use Rattle.records.specs.Said.{toldPubAckProperties}
-use Rattle.properties.specs.Block.{ackRow, loopFrom}
-use Rattle.properties.proofs.Laws.Fold.{Filling, filling-start, filling-next, read-ahead, filled-bad, filled-end}
+use Rattle.properties.specs.Block.{ackRow}
+use Rattle.properties.proofs.Laws.Fold.{FillingBy, leftFrom, filling-start, filling-next, read-ahead, filled-bad, filled-end}
 use Rattle.properties.proofs.puback_block.fill.Statement.{statement}
 use Rattle.properties.proofs.puback_block.fill.Tie as tie
 
 abbrev Inv-loop : tie.InvT-loop
-Inv-loop s p₀ at₀ p at = Filling ackRow s (loopFrom ackRow (toldPubAckProperties p₀) s at₀) (toldPubAckProperties p) at
+Inv-loop = FillingBy ackRow toldPubAckProperties
 
 abbrev μ-loop : tie.MeasureT-loop
-μ-loop s p₀ at₀ p at = length s - at
+μ-loop = leftFrom
 
 loop-holds : tie.Need-loop-holds Inv-loop μ-loop
 loop-holds c = filling-start _ _ _ _
@@ -33,12 +31,12 @@ apply-requires c κs = rw (c .before .k .given .1) at (c .before .before .before
 loop-less : tie.Need-loop-less Inv-loop μ-loop
 loop-less c =
     let b = c .before .before .before .before in
-    omega (arith, b .before .loop-test .taken, read-ahead (rw (c .before .before .k .given .1) at (b .read-property .ensures)))
+    omega (arith, b .before .loop-test .taken, read-ahead (b .read-property .ensures) (c .before .before .k .given .1))
 
 loop-again : tie.Need-loop-again Inv-loop μ-loop
 loop-again c =
     let b = c .before .before .before .before in
-    filling-next (b .before .before .loop .inv) (b .before .loop-test .taken) (rw (c .before .before .k .given .1) at (b .read-property .ensures)) (c .apply .ensures)
+    filling-next (b .before .before .loop .inv) (b .before .loop-test .taken) (b .read-property .ensures) (c .before .before .k .given .1) (c .apply .ensures)
 
 enum-known-e : tie.Need-enum-known-e Inv-loop μ-loop
 enum-known-e c = search needs
@@ -47,7 +45,7 @@ returns : tie.Need-returns Inv-loop μ-loop
 unfolding ackProps lastOf
 returns c =
     let b = c .before .before .before in
-    filled-bad _ refl (b .before .before .loop .inv) (b .before .loop-test .taken) (rw (c .before .e .given .1) at (b .read-property .ensures))
+    filled-bad _ refl (b .before .before .loop .inv) (b .before .loop-test .taken) (b .read-property .ensures) (c .before .e .given .1)
 
 returns-2 : tie.Need-returns-2 Inv-loop μ-loop
 unfolding ackProps lastOf

@@ -1,8 +1,8 @@
--- `given::publish_by::write_publish` is right since the head and the lists are what is handed over. Assumes nothing.
-use mathlib.Core.Path.{refl}
+-- `given_write::write::write_publish` is right since the head and the lists are what is handed over. Assumes nothing.
 use borrow.Author.Needs.{needs}
-use Rattle.given.proofs.publish_by.write_publish.Statement.{statement}
-use Rattle.given.proofs.publish_by.write_publish.Tie as tie
+use Rattle.given_write.proofs.Laws.{behind-refused, behind-got}
+use Rattle.given_write.proofs.write.write_publish.Statement.{statement}
+use Rattle.given_write.proofs.write.write_publish.Tie as tie
 
 enum-known-head : tie.Need-enum-known-head
 enum-known-head c = search needs
@@ -14,13 +14,13 @@ write-requires : tie.Need-write-requires
 write-requires c κs = search needs
 
 returns : tie.Need-returns
-returns c = rw (c .before .head .given .1) (refl, refl)
+returns c = rw (c .before .head .given .1) behind-refused
 
 same-length : tie.Need-same-length
 same-length c = search needs
 
 returns-2 : tie.Need-returns-2
-returns-2 c = rw (c .before .before .before .before .before .head2 .given .1) (c .before .before .write .ensures .answer, c .before .before .write .ensures .output)
+returns-2 c = rw (c .before .before .before .before .before .head2 .given .1) (behind-got (c .before .before .write .ensures))
 
 pub write-publish-spec : {M : Type 1} → statement M
 write-publish-spec =

@@ -1,0 +1,3 @@
+// What C hands over behind a head, sized and written.
+pub mod size;
+pub mod write;

@@ -1,0 +1,66 @@
+// What a head and the lists beside it hand over, written; the head's own refusal comes before all else, and touches nothing.
+use given::puback_by::GotPubAckHead;
+use given::publish_by::GotPublishHead;
+use records::answer::Limit;
+use records::answer::Written;
+ghost use mathlib.Core.Path.{_≡_};
+ghost use Rattle.records.specs.Told.{limitOf};
+ghost use Rattle.records.specs.Answered.{toldWritten};
+ghost use Rattle.given.specs.Head.{publishOf, ackOf};
+ghost use Rattle.given.specs.Written.{WrittenBehind};
+
+pub fn write_publish(
+    head: GotPublishHead,
+    topic: &[u8],
+    response: &[u8],
+    correlation: &[u8],
+    user: &[u8],
+    user_lengths: &[usize],
+    identifiers: &[u32],
+    content: &[u8],
+    payload: &[u8],
+    limit: Limit,
+    out: &mut [u8],
+) -> Written
+    ensures { λ r. ⌜ WrittenBehind (limitOf limit) (publishOf head (now (topic .entry)) (now (response .entry)) (now (correlation .entry)) (now (user .entry)) (now («user_lengths» .entry)) (now (identifiers .entry)) (now (content .entry)) (now (payload .entry))) (now (out .entry)) (now (out .exit)) (toldWritten r) ⌝ }
+{
+    match head {
+        GotPublishHead::Refused(e) => Written::Refused(e),
+        GotPublishHead::Value(h) => publish_write::write(
+            h,
+            topic,
+            response,
+            correlation,
+            user,
+            user_lengths,
+            identifiers,
+            content,
+            payload,
+            limit,
+            &mut *out,
+        ),
+    }
+}
+
+pub fn write_puback(
+    head: GotPubAckHead,
+    reason_string: &[u8],
+    user: &[u8],
+    user_lengths: &[usize],
+    limit: Limit,
+    out: &mut [u8],
+) -> Written
+    ensures { λ r. ⌜ WrittenBehind (limitOf limit) (ackOf head (now («reason_string» .entry)) (now (user .entry)) (now («user_lengths» .entry))) (now (out .entry)) (now (out .exit)) (toldWritten r) ⌝ }
+{
+    match head {
+        GotPubAckHead::Refused(e) => Written::Refused(e),
+        GotPubAckHead::Value(h) => puback_write::write(
+            h,
+            reason_string,
+            user,
+            user_lengths,
+            limit,
+            &mut *out,
+        ),
+    }
+}
