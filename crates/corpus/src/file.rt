@@ -73,10 +73,10 @@ fn after_field(f: &[u8], at: usize, letter: u8) -> usize {
 
 // What is kept of a field: the number, or the index where it stands.
 fn kept(f: &[u8], at: usize, letter: u8) -> usize {
-    match letter {
-        1 | 2 | 4 => number(f, at, letter) as usize,
-        _ => at,
+    if 4 < letter {
+        return at;
     }
+    number(f, at, letter) as usize
 }
 
 fn keep(v: &mut [usize], k: usize, n: usize) {

@@ -27,32 +27,23 @@ fn replay(f: &[u8], v: &[usize]) -> usize {
     }
 }
 
-fn fault(k: usize) {
-    match k {
-        row::ANSWER => io::write_all(1, b"answer\n"),
-        row::SIZE => io::write_all(1, b"size\n"),
-        _ => io::write_all(1, b"output\n"),
-    }
-    ;
-}
-
-// A row that is not as stored.
-fn otherwise(v: &[usize], k: u32, fault_at: usize) {
+// A row that is not as stored, and the first field of it that is not.
+fn otherwise(v: &[usize], k: u32, field: usize) {
     tally::say(b"row ", k as u64);
     tally::say(b", type ", file::value(v, row::TYPE) as u64);
-    io::write_all(1, b": not the stored ");
-    fault(fault_at);
+    tally::say(b": not as stored: field ", field as u64);
+    io::write_all(1, b"\n");
 }
 
 // The first is row 1.
 fn tell(tally: &mut [u64], f: &[u8], v: &[usize], k: u32) {
-    let fault_at = replay(f, v);
-    if fault_at == row::AS_STORED {
+    let field = replay(f, v);
+    if field == row::AS_STORED {
         tally::as_stored(&mut *tally, f, v);
         return;
     }
-    otherwise(v, k, fault_at);
-    tally::otherwise(&mut *tally);
+    otherwise(v, k, field);
+    tally::add(&mut *tally, tally::ENTRIES, tally::OTHERWISE, 1);
 }
 
 // The row that is not whole.
@@ -79,14 +70,16 @@ fn every_row(f: &[u8], tally: &mut [u64]) -> usize {
     at
 }
 
-// Does the file end where its last row does? Its lines tell what was counted in any case.
+// Does the file end where its last row does, before the buffer's end? Its lines tell what was counted in any case.
 fn whole(f: &[u8]) {
     let mut tally = [0; 960];
     let end = every_row(f, &mut tally);
     tally::lines(&tally);
     if end == f.len() {
-        tally::total(&tally);
-        return;
+        if end < 2097152 {
+            tally::total(&tally);
+            return;
+        }
     }
     io::write_all(1, b"DAMAGED: the file does not end with its last row\n");
 }
@@ -94,10 +87,6 @@ fn whole(f: &[u8]) {
 fn read(fd: i32) {
     let mut buf = buffer();
     let n = io::read_full(fd, &mut buf);
-    if n == 2097152 {
-        io::write_all(1, b"DAMAGED: the file is too long\n");
-        return;
-    }
     whole(&buf[..n]);
 }
 

@@ -16,49 +16,35 @@ pub fn read(f: &[u8], v: &[usize]) -> usize {
     expect::answer(f, v, row::ANSWER, refusal, &record)
 }
 
-// An item: 2 list, 3 kind, 4 start, 5 length, 6 n, 7 stream.
-fn user(f: &[u8], v: &[usize]) -> usize {
-    let mut item = [UNSET; 4];
-    let refusal = ecch_user_property(
-        file::run(f, v, 7),
-        file::small(v, 3),
-        file::value(v, 4),
-        file::value(v, 5),
-        file::value(v, 6),
-        &mut item,
-    );
-    expect::answer(f, v, row::ANSWER, refusal, &item)
+// No number of an answer.
+const NO_LIST: u32 = 256;
+
+// What an array holds before the call: numbers of the layout that are not set, and 0 behind them.
+fn unset(list: u8) -> [u64; 6] {
+    match list {
+        38 => [UNSET, UNSET, UNSET, UNSET, 0, 0],
+        11 => [UNSET, 0, 0, 0, 0, 0],
+        _ => [UNSET; 6],
+    }
 }
 
-fn identifier(f: &[u8], v: &[usize]) -> usize {
-    let mut item = [UNSET; 1];
-    let refusal = ecch_subscription_identifier(
-        file::run(f, v, 7),
-        file::value(v, 4),
-        file::value(v, 5),
-        file::value(v, 6),
-        &mut item,
-    );
-    expect::answer(f, v, row::ANSWER, refusal, &item)
-}
-
-fn filter(f: &[u8], v: &[usize]) -> usize {
-    let mut item = [UNSET; 6];
-    let refusal = ecch_filter(
-        file::run(f, v, 7),
-        file::value(v, 4),
-        file::value(v, 5),
-        file::value(v, 6),
-        &mut item,
-    );
-    expect::answer(f, v, row::ANSWER, refusal, &item)
+// 2 list, 3 kind, 4 start, 5 length, 6 n, 7 stream
+fn item_number(f: &[u8], v: &[usize], list: u8, into: &mut [u64]) -> u32 {
+    let stream = file::run(f, v, 7);
+    let start = file::value(v, 4);
+    let len = file::value(v, 5);
+    let n = file::value(v, 6);
+    match list {
+        38 => ecch_user_property(stream, file::small(v, 3), start, len, n, &mut *into),
+        11 => ecch_subscription_identifier(stream, start, len, n, &mut *into),
+        0 => ecch_filter(stream, start, len, n, &mut *into),
+        _ => NO_LIST,
+    }
 }
 
 pub fn item(f: &[u8], v: &[usize]) -> usize {
-    match file::small(v, 2) {
-        38 => user(f, v),
-        11 => identifier(f, v),
-        0 => filter(f, v),
-        _ => row::ANSWER,
-    }
+    let list = file::small(v, 2);
+    let mut item = unset(list);
+    let refusal = item_number(f, v, list, &mut item);
+    expect::answer(f, v, row::ANSWER, refusal, &item)
 }

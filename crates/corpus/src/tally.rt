@@ -29,33 +29,31 @@ const IDENTIFIER: usize = 768;
 
 const FILTER: usize = 832;
 
-const ENTRIES: usize = 896;
+pub const ENTRIES: usize = 896;
 
-const OTHERWISE: usize = 62;
+pub const OTHERWISE: usize = 62;
 
 const ALL: usize = 63;
 
-// One more of the group.
-fn add(tally: &mut [u64], group: usize, k: usize, n: u64) {
+// So many more.
+pub fn add(tally: &mut [u64], group: usize, k: usize, n: u64) {
     let at = std::num::wrapping_add_usize(group, k);
     if at < tally.len() {
         tally[at] = std::num::wrapping_add_u64(tally[at], n);
     }
 }
 
-// The group of a list's items.
-fn item_group(list: u8) -> usize {
-    match list {
+// An item's list stands where no type does.
+fn group(v: &[usize]) -> usize {
+    let mut kind = file::small(v, row::TYPE);
+    if kind == 2 {
+        kind = file::small(v, 2);
+    }
+    match kind {
+        1 => READ,
         38 => USER,
         11 => IDENTIFIER,
-        _ => FILTER,
-    }
-}
-
-fn group(v: &[usize]) -> usize {
-    match file::small(v, row::TYPE) {
-        1 => READ,
-        2 => item_group(file::small(v, 2)),
+        0 => FILTER,
         3 => PUBLISH,
         4 => PUBACK,
         8 => SUBSCRIBE,
@@ -100,10 +98,6 @@ pub fn as_stored(tally: &mut [u64], f: &[u8], v: &[usize]) {
     add(&mut *tally, ENTRIES, ALL, 1);
 }
 
-pub fn otherwise(tally: &mut [u64]) {
-    add(&mut *tally, ENTRIES, OTHERWISE, 1);
-}
-
 // ---- the lines
 
 // Words and a number.
@@ -133,43 +127,29 @@ fn counts(tally: &[u64], first: &[u8], words: &[u8], group: usize) {
     io::write_all(1, b"\n");
 }
 
-// Of a line: its length, then its letters.
-fn name(k: u8) -> [u8; 27] {
-    match k {
-        0 => *b"\x07reads: \0\0\0\0\0\0\0\0\0\0\0\0\0\0\0\0\0\0\0",
-        1 => *b"\x11user properties: \0\0\0\0\0\0\0\0\0",
-        2 => *b"\x1asubscription identifiers: ",
-        3 => *b"\x09filters: \0\0\0\0\0\0\0\0\0\0\0\0\0\0\0\0\0",
-        4 => *b"\x13writes of Publish: \0\0\0\0\0\0\0",
-        5 => *b"\x12writes of PubAck: \0\0\0\0\0\0\0\0",
-        6 => *b"\x15writes of Subscribe: \0\0\0\0\0",
-        7 => *b"\x13writes of PingReq: \0\0\0\0\0\0\0",
-        8 => *b"\x14writes of PingResp: \0\0\0\0\0\0",
-        9 => *b"\x12sizes of Publish: \0\0\0\0\0\0\0\0",
-        10 => *b"\x11sizes of PubAck: \0\0\0\0\0\0\0\0\0",
-        11 => *b"\x14sizes of Subscribe: \0\0\0\0\0\0",
-        12 => *b"\x12sizes of PingReq: \0\0\0\0\0\0\0\0",
-        _ => *b"\x13sizes of PingResp: \0\0\0\0\0\0\0",
-    }
-}
-
-fn line(tally: &[u64], k: u8, group: usize) {
-    let name = name(k);
-    let len = file::byte(&name, 0, 0) as usize;
-    say(
-        string::part(&name, Span { start: 1, len }),
-        number(tally, group, ALL),
-    );
+fn line(tally: &[u64], name: &[u8], group: usize) {
+    say(name, number(tally, group, ALL));
     counts(tally, b"; accepted: ", b"; refused ", group);
 }
 
-// Reads come first.
-pub fn lines(tally: &[u64]) {
-    let mut k: u8 = 0;
-    while k < 14 {
-        line(tally, k, (k as usize + 10) % 14 * 64);
+// A line for each name, which has its length before it. Reads come first.
+fn groups(tally: &[u64], names: &[u8]) {
+    let mut at: usize = 0;
+    let mut k: usize = 10;
+    while k < 24 {
+        let start = file::after(names, at, 1);
+        let len = file::byte(names, at, 0) as usize;
+        line(tally, string::part(names, Span { start, len }), k % 14 * 64);
+        at = file::after(names, start, len);
         k = k + 1;
     }
+}
+
+pub fn lines(tally: &[u64]) {
+    groups(
+        tally,
+        b"\x07reads: \x11user properties: \x1asubscription identifiers: \x09filters: \x13writes of Publish: \x12writes of PubAck: \x15writes of Subscribe: \x13writes of PingReq: \x14writes of PingResp: \x12sizes of Publish: \x11sizes of PubAck: \x14sizes of Subscribe: \x12sizes of PingReq: \x13sizes of PingResp: ",
+    );
     counts(tally, b"no difference: ", b"\ndifference ", ENTRIES);
 }
 
