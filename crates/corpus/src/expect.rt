@@ -1,17 +1,17 @@
 // What the file says of an answer and of an output, held to what the port gave.
 use crate::file;
-use byte_puts::put_bytes;
+use crate::row;
 
 // The numbers of a stored answer, each at its index, and 0 at every other.
 fn stored(f: &[u8], at: usize) -> [u64; 256] {
     let mut numbers = [0; 256];
-    let n = file::byte_at(f, at, 1);
+    let n = file::byte(f, file::after(f, at, 1), 0);
     let mut next = file::after(f, at, 2);
     let mut i: u8 = 0;
     while i < n {
-        let k = file::byte(f, next) as usize;
+        let k = file::byte(f, next, 0) as usize;
         if k < 256 {
-            numbers[k] = file::four_at(f, next, 1) as u64;
+            numbers[k] = file::number(f, file::after(f, next, 1), 4) as u64;
         }
         next = file::after(f, next, 5);
         i = i + 1;
@@ -19,9 +19,11 @@ fn stored(f: &[u8], at: usize) -> [u64; 256] {
     numbers
 }
 
-fn number(numbers: &[u64], k: usize) -> u64 {
-    if k < numbers.len() {
-        return numbers[k];
+// The k-th number from an index on.
+pub fn number(numbers: &[u64], from: usize, k: usize) -> u64 {
+    let at = std::num::wrapping_add_usize(from, k);
+    if at < numbers.len() {
+        return numbers[at];
     }
     0
 }
@@ -30,7 +32,7 @@ fn number(numbers: &[u64], k: usize) -> u64 {
 fn same_numbers(a: &[u64], stored: &[u64]) -> bool {
     let mut k: usize = 0;
     while k < stored.len() {
-        if number(a, k) != stored[k] {
+        if number(a, 0, k) != stored[k] {
             return false;
         }
         k = k + 1;
@@ -38,27 +40,33 @@ fn same_numbers(a: &[u64], stored: &[u64]) -> bool {
     true
 }
 
-fn same_bytes(a: &[u8], b: &[u8]) -> bool {
-    if a.len() != b.len() {
-        return false;
-    }
-    let mut k: usize = 0;
-    while k < a.len() {
-        if a[k] != b[k] {
-            return false;
-        }
-        k = k + 1;
-    }
-    true
-}
-
-// Is the answer as stored: the refusal's number or 0, and every number of the array?
-pub fn is_answer(f: &[u8], at: usize, refusal: u32, numbers: &[u64]) -> bool {
-    if file::byte(f, at) as u32 != refusal {
-        return false;
+// Is the answer as the k-th field says: the refusal's number or 0, and every number of the array? k if it is not.
+pub fn answer(f: &[u8], v: &[usize], k: usize, refusal: u32, numbers: &[u64]) -> usize {
+    let at = file::value(v, k);
+    if file::byte(f, at, 0) as u32 != refusal {
+        return k;
     }
     let expected = stored(f, at);
-    same_numbers(numbers, &expected)
+    if same_numbers(numbers, &expected) {
+        return row::AS_STORED;
+    }
+    k
+}
+
+// The answers of a size and of the write.
+pub fn answers(
+    f: &[u8],
+    v: &[usize],
+    size: u32,
+    sized: &[u64],
+    refusal: u32,
+    written: &[u64],
+) -> usize {
+    let fault = answer(f, v, row::SIZE, size, sized);
+    if fault != row::AS_STORED {
+        return fault;
+    }
+    answer(f, v, row::ANSWER, refusal, written)
 }
 
 // An output before the call.
@@ -77,7 +85,12 @@ pub fn is_output(out: &[u8], put: &[u8], b: u8) -> bool {
     if out.len() < put.len() {
         return false;
     }
-    let mut expected = filled(b);
-    put_bytes(&mut expected, 0, put);
-    same_bytes(out, &expected)
+    let mut k: usize = 0;
+    while k < out.len() {
+        if out[k] != file::byte(put, k, b) {
+            return false;
+        }
+        k = k + 1;
+    }
+    true
 }

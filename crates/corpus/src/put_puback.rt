@@ -1,62 +1,47 @@
-// A PubAck of the file: its size, and written. The places: 0 numbers, 1 reason string, 2 user properties, 3 their lengths.
+// A PubAck of the file: its size, and written.
+use crate::expect;
 use crate::file;
+use crate::row;
+use crate::row::UNSET;
 use capi_put::put_puback::ecch_puback_size;
 use capi_put::put_puback::ecch_puback_write;
 
-struct Numbers {
-    pkid: u16,
-    reason: u8,
-    block: u8,
-    reason_string_on: u8,
-}
-
-fn numbers_at(f: &[u8], at: usize) -> Numbers {
-    Numbers {
-        pkid: file::two(f, at),
-        reason: file::byte_at(f, at, 2),
-        block: file::byte_at(f, at, 3),
-        reason_string_on: file::byte_at(f, at, 4),
-    }
-}
-
-pub fn size(f: &[u8], p: &[usize], answer: &mut [u64]) -> u32 {
-    let m = numbers_at(f, file::place(p, 0));
-    let lengths_at = file::place(p, 3);
-    let lengths = file::lengths(f, lengths_at);
-    ecch_puback_size(
-        m.pkid,
-        m.reason,
-        m.block,
-        m.reason_string_on,
-        file::run_at(f, p, 1),
-        file::run_at(f, p, 2),
-        file::of_lengths(&lengths, file::count(f, lengths_at)),
-        &mut *answer,
-    )
-}
-
-pub fn write(
-    f: &[u8],
-    p: &[usize],
-    limited: u8,
-    limit: usize,
-    out: &mut [u8],
-    answer: &mut [u64],
-) -> u32 {
-    let m = numbers_at(f, file::place(p, 0));
-    let lengths_at = file::place(p, 3);
-    let lengths = file::lengths(f, lengths_at);
-    ecch_puback_write(
-        m.pkid,
-        m.reason,
-        m.block,
-        m.reason_string_on,
-        file::run_at(f, p, 1),
-        file::run_at(f, p, 2),
-        file::of_lengths(&lengths, file::count(f, lengths_at)),
-        limited,
-        limit,
+fn called(f: &[u8], v: &[usize], lengths: &[usize], out: &mut [u8]) -> usize {
+    let pkid = file::medium(v, 2);
+    let reason = file::small(v, 3);
+    let block = file::small(v, 4);
+    let reason_string_on = file::small(v, 5);
+    let reason_string = file::run(f, v, 6);
+    let user = file::run(f, v, 7);
+    let mut sized = [UNSET; 3];
+    let size = ecch_puback_size(
+        pkid,
+        reason,
+        block,
+        reason_string_on,
+        reason_string,
+        user,
+        lengths,
+        &mut sized,
+    );
+    let mut written = [UNSET; 3];
+    let refusal = ecch_puback_write(
+        pkid,
+        reason,
+        block,
+        reason_string_on,
+        reason_string,
+        user,
+        lengths,
+        file::small(v, row::LIMITED),
+        file::value(v, row::LIMIT),
         &mut *out,
-        &mut *answer,
-    )
+        &mut written,
+    );
+    expect::answers(f, v, size, &sized, refusal, &written)
+}
+
+pub fn replay(f: &[u8], v: &[usize], out: &mut [u8]) -> usize {
+    let lengths = file::lengths(f, v, 8);
+    called(f, v, file::of_lengths(&lengths), &mut *out)
 }

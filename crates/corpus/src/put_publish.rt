@@ -1,159 +1,98 @@
-// A Publish of the file: its size, and written. The places: 0 numbers, 1 topic, 2 the set's numbers, 3 response topic, 4 whether there is
-// correlation data, 5 it, 6 user properties, 7 their lengths, 8 identifiers, 9 whether there is a content type, 10 it, 11 payload.
+// A Publish of the file: its size, and written.
+use crate::expect;
 use crate::file;
+use crate::row;
+use crate::row::UNSET;
 use capi_put::put_publish::ecch_publish_size;
 use capi_put::put_publish::ecch_publish_write;
 
-struct Flags {
-    dup: u8,
-    qos: u8,
-    retain: u8,
-    pkid: u16,
-}
-
-fn flags_at(f: &[u8], at: usize) -> Flags {
-    Flags {
-        dup: file::byte(f, at),
-        qos: file::byte_at(f, at, 1),
-        retain: file::byte_at(f, at, 2),
-        pkid: file::two_at(f, at, 3),
-    }
-}
-
-struct Set {
-    block: u8,
-    format_on: u8,
-    format: u8,
-    expiry_on: u8,
-    expiry: u32,
-    alias_on: u8,
-    alias: u16,
-    response_on: u8,
-}
-
-fn set_at(f: &[u8], at: usize) -> Set {
-    Set {
-        block: file::byte(f, at),
-        format_on: file::byte_at(f, at, 1),
-        format: file::byte_at(f, at, 2),
-        expiry_on: file::byte_at(f, at, 3),
-        expiry: file::four_at(f, at, 4),
-        alias_on: file::byte_at(f, at, 8),
-        alias: file::two_at(f, at, 9),
-        response_on: file::byte_at(f, at, 11),
-    }
-}
-
-fn number(f: &[u8], p: &[usize], k: usize) -> u8 {
-    file::byte(f, file::place(p, k))
-}
-
-fn size_with(f: &[u8], p: &[usize], lengths: &[usize], ids: &[u32], answer: &mut [u64]) -> u32 {
-    let m = flags_at(f, file::place(p, 0));
-    let s = set_at(f, file::place(p, 2));
-    ecch_publish_size(
-        m.dup,
-        m.qos,
-        m.retain,
-        m.pkid,
-        file::run_at(f, p, 1),
-        s.block,
-        s.format_on,
-        s.format,
-        s.expiry_on,
-        s.expiry,
-        s.alias_on,
-        s.alias,
-        s.response_on,
-        file::run_at(f, p, 3),
-        number(f, p, 4),
-        file::run_at(f, p, 5),
-        file::run_at(f, p, 6),
+fn called(f: &[u8], v: &[usize], lengths: &[usize], ids: &[u32], out: &mut [u8]) -> usize {
+    let dup = file::small(v, 2);
+    let qos = file::small(v, 3);
+    let retain = file::small(v, 4);
+    let pkid = file::medium(v, 5);
+    let topic = file::run(f, v, 6);
+    let block = file::small(v, 7);
+    let format_on = file::small(v, 8);
+    let format = file::small(v, 9);
+    let expiry_on = file::small(v, 10);
+    let expiry = file::large(v, 11);
+    let alias_on = file::small(v, 12);
+    let alias = file::medium(v, 13);
+    let response_on = file::small(v, 14);
+    let response = file::run(f, v, 15);
+    let correlation_on = file::small(v, 16);
+    let correlation = file::run(f, v, 17);
+    let user = file::run(f, v, 18);
+    let content_on = file::small(v, 21);
+    let content = file::run(f, v, 22);
+    let payload = file::run(f, v, 23);
+    let mut sized = [UNSET; 3];
+    let size = ecch_publish_size(
+        dup,
+        qos,
+        retain,
+        pkid,
+        topic,
+        block,
+        format_on,
+        format,
+        expiry_on,
+        expiry,
+        alias_on,
+        alias,
+        response_on,
+        response,
+        correlation_on,
+        correlation,
+        user,
         lengths,
         ids,
-        number(f, p, 9),
-        file::run_at(f, p, 10),
-        file::run_at(f, p, 11),
-        &mut *answer,
-    )
-}
-
-pub fn size(f: &[u8], p: &[usize], answer: &mut [u64]) -> u32 {
-    let lengths_at = file::place(p, 7);
-    let lengths = file::lengths(f, lengths_at);
-    let ids_at = file::place(p, 8);
-    let ids = file::identifiers(f, ids_at);
-    size_with(
-        f,
-        p,
-        file::of_lengths(&lengths, file::count(f, lengths_at)),
-        file::of_identifiers(&ids, file::count(f, ids_at)),
-        &mut *answer,
-    )
-}
-
-fn write_with(
-    f: &[u8],
-    p: &[usize],
-    lengths: &[usize],
-    ids: &[u32],
-    limited: u8,
-    limit: usize,
-    out: &mut [u8],
-    answer: &mut [u64],
-) -> u32 {
-    let m = flags_at(f, file::place(p, 0));
-    let s = set_at(f, file::place(p, 2));
-    ecch_publish_write(
-        m.dup,
-        m.qos,
-        m.retain,
-        m.pkid,
-        file::run_at(f, p, 1),
-        s.block,
-        s.format_on,
-        s.format,
-        s.expiry_on,
-        s.expiry,
-        s.alias_on,
-        s.alias,
-        s.response_on,
-        file::run_at(f, p, 3),
-        number(f, p, 4),
-        file::run_at(f, p, 5),
-        file::run_at(f, p, 6),
+        content_on,
+        content,
+        payload,
+        &mut sized,
+    );
+    let mut written = [UNSET; 3];
+    let refusal = ecch_publish_write(
+        dup,
+        qos,
+        retain,
+        pkid,
+        topic,
+        block,
+        format_on,
+        format,
+        expiry_on,
+        expiry,
+        alias_on,
+        alias,
+        response_on,
+        response,
+        correlation_on,
+        correlation,
+        user,
         lengths,
         ids,
-        number(f, p, 9),
-        file::run_at(f, p, 10),
-        file::run_at(f, p, 11),
-        limited,
-        limit,
+        content_on,
+        content,
+        payload,
+        file::small(v, row::LIMITED),
+        file::value(v, row::LIMIT),
         &mut *out,
-        &mut *answer,
-    )
+        &mut written,
+    );
+    expect::answers(f, v, size, &sized, refusal, &written)
 }
 
-pub fn write(
-    f: &[u8],
-    p: &[usize],
-    limited: u8,
-    limit: usize,
-    out: &mut [u8],
-    answer: &mut [u64],
-) -> u32 {
-    let lengths_at = file::place(p, 7);
-    let lengths = file::lengths(f, lengths_at);
-    let ids_at = file::place(p, 8);
-    let ids = file::identifiers(f, ids_at);
-    write_with(
+pub fn replay(f: &[u8], v: &[usize], out: &mut [u8]) -> usize {
+    let lengths = file::lengths(f, v, 19);
+    let ids = file::identifiers(f, v, 20);
+    called(
         f,
-        p,
-        file::of_lengths(&lengths, file::count(f, lengths_at)),
-        file::of_identifiers(&ids, file::count(f, ids_at)),
-        limited,
-        limit,
+        v,
+        file::of_lengths(&lengths),
+        file::of_identifiers(&ids),
         &mut *out,
-        &mut *answer,
     )
 }

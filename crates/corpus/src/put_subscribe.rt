@@ -1,109 +1,65 @@
-// A Subscribe of the file: its size, and written. The places: 0 numbers, 1 user properties, 2 their lengths, 3 filters, 4 their lengths,
-// 5 options.
+// A Subscribe of the file: its size, and written.
+use crate::expect;
 use crate::file;
+use crate::row;
+use crate::row::UNSET;
 use capi_put::put_subscribe::ecch_subscribe_size;
 use capi_put::put_subscribe::ecch_subscribe_write;
 
-struct Numbers {
-    pkid: u16,
-    block: u8,
-    identifier_on: u8,
-    identifier: u32,
-}
-
-fn numbers_at(f: &[u8], at: usize) -> Numbers {
-    Numbers {
-        pkid: file::two(f, at),
-        block: file::byte_at(f, at, 2),
-        identifier_on: file::byte_at(f, at, 3),
-        identifier: file::four_at(f, at, 4),
-    }
-}
-
-fn size_with(
+fn called(
     f: &[u8],
-    p: &[usize],
+    v: &[usize],
     lengths: &[usize],
     filter_lengths: &[usize],
-    answer: &mut [u64],
-) -> u32 {
-    let m = numbers_at(f, file::place(p, 0));
-    ecch_subscribe_size(
-        m.pkid,
-        m.block,
-        m.identifier_on,
-        m.identifier,
-        file::run_at(f, p, 1),
-        lengths,
-        file::run_at(f, p, 3),
-        filter_lengths,
-        file::run_at(f, p, 5),
-        &mut *answer,
-    )
-}
-
-pub fn size(f: &[u8], p: &[usize], answer: &mut [u64]) -> u32 {
-    let user_at = file::place(p, 2);
-    let user = file::lengths(f, user_at);
-    let filters_at = file::place(p, 4);
-    let filters = file::lengths(f, filters_at);
-    size_with(
-        f,
-        p,
-        file::of_lengths(&user, file::count(f, user_at)),
-        file::of_lengths(&filters, file::count(f, filters_at)),
-        &mut *answer,
-    )
-}
-
-fn write_with(
-    f: &[u8],
-    p: &[usize],
-    lengths: &[usize],
-    filter_lengths: &[usize],
-    limited: u8,
-    limit: usize,
     out: &mut [u8],
-    answer: &mut [u64],
-) -> u32 {
-    let m = numbers_at(f, file::place(p, 0));
-    ecch_subscribe_write(
-        m.pkid,
-        m.block,
-        m.identifier_on,
-        m.identifier,
-        file::run_at(f, p, 1),
+) -> usize {
+    let pkid = file::medium(v, 2);
+    let block = file::small(v, 3);
+    let identifier_on = file::small(v, 4);
+    let identifier = file::large(v, 5);
+    let user = file::run(f, v, 6);
+    let filters = file::run(f, v, 8);
+    let options = file::run(f, v, 10);
+    let mut sized = [UNSET; 3];
+    let size = ecch_subscribe_size(
+        pkid,
+        block,
+        identifier_on,
+        identifier,
+        user,
         lengths,
-        file::run_at(f, p, 3),
+        filters,
         filter_lengths,
-        file::run_at(f, p, 5),
-        limited,
-        limit,
+        options,
+        &mut sized,
+    );
+    let mut written = [UNSET; 3];
+    let refusal = ecch_subscribe_write(
+        pkid,
+        block,
+        identifier_on,
+        identifier,
+        user,
+        lengths,
+        filters,
+        filter_lengths,
+        options,
+        file::small(v, row::LIMITED),
+        file::value(v, row::LIMIT),
         &mut *out,
-        &mut *answer,
-    )
+        &mut written,
+    );
+    expect::answers(f, v, size, &sized, refusal, &written)
 }
 
-pub fn write(
-    f: &[u8],
-    p: &[usize],
-    limited: u8,
-    limit: usize,
-    out: &mut [u8],
-    answer: &mut [u64],
-) -> u32 {
-    let user_at = file::place(p, 2);
-    let user = file::lengths(f, user_at);
-    let filters_at = file::place(p, 4);
-    let filters = file::lengths(f, filters_at);
-    write_with(
+pub fn replay(f: &[u8], v: &[usize], out: &mut [u8]) -> usize {
+    let lengths = file::lengths(f, v, 7);
+    let filters = file::lengths(f, v, 9);
+    called(
         f,
-        p,
-        file::of_lengths(&user, file::count(f, user_at)),
-        file::of_lengths(&filters, file::count(f, filters_at)),
-        limited,
-        limit,
+        v,
+        file::of_lengths(&lengths),
+        file::of_lengths(&filters),
         &mut *out,
-        &mut *answer,
     )
 }

@@ -1,80 +1,59 @@
-// Counts of the rows that are as stored, and the lines that tell them. A group of 32 counts has one for each refusal at its number, at 0 for
-// none, and at 31 for all; there is a group for each class of rows, then for the sizes, then for the entries of docs/DIFFERENCES.md.
+// Counts of the rows that are as stored, and the lines that tell them. A group of 64 counts has one for each refusal at its number, at 0 for
+// none, and at 63 for all. There is a group for the writes of each kind, then for their sizes, then for the reads and each list, and the last
+// for the entries of docs/DIFFERENCES.md: at 0 the rows with none, at 62 those that are not as stored. What would stand past it is not
+// counted: the sizes of reads.
+use crate::expect::number;
 use crate::file;
-use crate::row::Outcome;
+use crate::row;
+use records::span::Span;
+use wire::string;
 
-const GROUP: usize = 32;
+const PUBLISH: usize = 0;
 
-const ALL: usize = 31;
+const PUBACK: usize = 64;
 
-const READ: usize = 0;
+const SUBSCRIBE: usize = 128;
 
-const USER: usize = 32;
-
-const IDENTIFIER: usize = 64;
-
-const FILTER: usize = 96;
-
-const PUBLISH: usize = 128;
-
-const PUBACK: usize = 160;
-
-const SUBSCRIBE: usize = 192;
-
-const PINGREQ: usize = 224;
+const PINGREQ: usize = 192;
 
 const PINGRESP: usize = 256;
 
 // How far behind a write's group that of its size is.
-const SIZES: usize = 160;
+const SIZES: usize = 320;
 
-const ENTRIES: usize = 448;
+const READ: usize = 640;
 
-const NO_ENTRY: usize = 480;
+const USER: usize = 704;
 
-const OTHERWISE: usize = 481;
+const IDENTIFIER: usize = 768;
 
-const ROWS: usize = 482;
+const FILTER: usize = 832;
 
-pub fn none() -> [u64; 512] {
-    [0; 512]
-}
+pub const ENTRIES: usize = 896;
 
-fn count(tally: &[u64], k: usize) -> u64 {
-    if k < tally.len() {
-        return tally[k];
-    }
-    0
-}
+pub const OTHERWISE: usize = 62;
 
-fn add(tally: &mut [u64], k: usize) {
-    if k < tally.len() {
-        tally[k] = std::num::wrapping_add_u64(tally[k], 1);
+const ALL: usize = 63;
+
+// So many more.
+pub fn add(tally: &mut [u64], group: usize, k: usize, n: u64) {
+    let at = std::num::wrapping_add_usize(group, k);
+    if at < tally.len() {
+        tally[at] = std::num::wrapping_add_u64(tally[at], n);
     }
 }
 
-// One more of a group, with this refusal.
-fn add_to(tally: &mut [u64], group: usize, refusal: u8) {
-    add(
-        &mut *tally,
-        std::num::wrapping_add_usize(group, refusal as usize),
-    );
-    add(&mut *tally, std::num::wrapping_add_usize(group, ALL));
-}
-
-fn item_group(list: u8) -> usize {
-    match list {
+// An item's list stands where no type does.
+fn group(v: &[usize]) -> usize {
+    let mut kind = file::small(v, row::TYPE);
+    if kind == 2 {
+        kind = file::small(v, 2);
+    }
+    match kind {
+        1 => READ,
         38 => USER,
         11 => IDENTIFIER,
-        _ => FILTER,
-    }
-}
-
-// Of the row at the place.
-fn group(f: &[u8], at: usize) -> usize {
-    match file::byte(f, at) {
-        1 => READ,
-        2 => item_group(file::byte_at(f, at, 5)),
+        0 => FILTER,
         3 => PUBLISH,
         4 => PUBACK,
         8 => SUBSCRIBE,
@@ -83,54 +62,40 @@ fn group(f: &[u8], at: usize) -> usize {
     }
 }
 
-fn add_odd(tally: &mut [u64], k: usize, n: u32) {
-    if n % 2 == 1 {
-        add(&mut *tally, k);
-    }
+// One more of a group, with the refusal of the answer at k.
+fn add_answer(tally: &mut [u64], group: usize, f: &[u8], v: &[usize], k: usize) {
+    let refusal = file::byte(f, file::value(v, k), 0);
+    add(&mut *tally, group, refusal as usize, 1);
+    add(&mut *tally, group, ALL, 1);
 }
 
 // Each entry of the class.
-fn entries(tally: &mut [u64], class: u32) {
+fn add_entries(tally: &mut [u64], class: usize) {
     let mut left = class;
-    let mut k: usize = ENTRIES;
+    let mut k: usize = 1;
+    if class == 0 {
+        left = 1;
+        k = 0;
+    }
     while 0 < left {
-        add_odd(&mut *tally, k, left);
+        add(&mut *tally, ENTRIES, k, (left % 2) as u64);
         left = left / 2;
         k = std::num::wrapping_add_usize(k, 1);
     }
 }
 
-fn add_class(tally: &mut [u64], class: u32) {
-    if class == 0 {
-        add(&mut *tally, NO_ENTRY);
-        return;
-    }
-    entries(&mut *tally, class);
-}
-
-// The size of a write.
-fn add_size(tally: &mut [u64], group: usize, refusal: u8) {
-    if group < PUBLISH {
-        return;
-    }
-    add_to(
+pub fn as_stored(tally: &mut [u64], f: &[u8], v: &[usize]) {
+    let g = group(v);
+    add_answer(&mut *tally, g, f, v, row::ANSWER);
+    add_answer(
         &mut *tally,
-        std::num::wrapping_add_usize(group, SIZES),
-        refusal,
+        std::num::wrapping_add_usize(g, SIZES),
+        f,
+        v,
+        row::SIZE,
     );
-}
-
-// The row at the place is as stored.
-pub fn as_stored(tally: &mut [u64], f: &[u8], at: usize, o: Outcome) {
-    let g = group(f, at);
-    add_to(&mut *tally, g, file::byte(f, o.answer));
-    add_size(&mut *tally, g, file::byte(f, o.size));
-    add_class(&mut *tally, file::four_at(f, at, 1));
-    add(&mut *tally, ROWS);
-}
-
-pub fn otherwise(tally: &mut [u64]) {
-    add(&mut *tally, OTHERWISE);
+    add_entries(&mut *tally, file::value(v, row::CLASS));
+    add(&mut *tally, ENTRIES, ALL, 1);
 }
 
 // ---- the lines
@@ -141,82 +106,56 @@ pub fn say(words: &[u8], n: u64) {
     io::print_decimal(1, n);
 }
 
-fn refusal(tally: &[u64], group: usize, k: usize) {
-    let n = count(tally, std::num::wrapping_add_usize(group, k));
+// If there is one.
+fn count(tally: &[u64], words: &[u8], group: usize, k: usize) {
+    let n = number(tally, group, k);
     if n == 0 {
         return;
     }
-    say(b"; refused ", k as u64);
+    say(words, k as u64);
     say(b": ", n);
 }
 
-fn refusals(tally: &[u64], group: usize) {
+// The rest of a line: the first count of the group, then each with its number.
+fn counts(tally: &[u64], first: &[u8], words: &[u8], group: usize) {
+    say(first, number(tally, group, 0));
     let mut k: usize = 1;
-    while k < ALL {
-        refusal(tally, group, k);
+    while k < OTHERWISE {
+        count(tally, words, group, k);
         k = k + 1;
     }
-}
-
-fn line(tally: &[u64], name: &[u8], group: usize) {
-    say(name, count(tally, std::num::wrapping_add_usize(group, ALL)));
-    say(b"; accepted: ", count(tally, group));
-    refusals(tally, group);
     io::write_all(1, b"\n");
 }
 
-fn reads(tally: &[u64]) {
-    line(tally, b"reads: ", READ);
-    line(tally, b"user properties: ", USER);
-    line(tally, b"subscription identifiers: ", IDENTIFIER);
-    line(tally, b"filters: ", FILTER);
+fn line(tally: &[u64], name: &[u8], group: usize) {
+    say(name, number(tally, group, ALL));
+    counts(tally, b"; accepted: ", b"; refused ", group);
 }
 
-fn writes(tally: &[u64]) {
-    line(tally, b"writes of Publish: ", PUBLISH);
-    line(tally, b"writes of PubAck: ", PUBACK);
-    line(tally, b"writes of Subscribe: ", SUBSCRIBE);
-    line(tally, b"writes of PingReq: ", PINGREQ);
-    line(tally, b"writes of PingResp: ", PINGRESP);
-}
-
-fn sizes(tally: &[u64]) {
-    line(tally, b"sizes of Publish: ", 288);
-    line(tally, b"sizes of PubAck: ", 320);
-    line(tally, b"sizes of Subscribe: ", 352);
-    line(tally, b"sizes of PingReq: ", 384);
-    line(tally, b"sizes of PingResp: ", 416);
-}
-
-fn entry(tally: &[u64], k: usize) {
-    let n = count(tally, std::num::wrapping_add_usize(ENTRIES, k));
-    if n == 0 {
-        return;
-    }
-    say(b"\ndifference ", std::num::wrapping_add_u64(k as u64, 1));
-    say(b": ", n);
-}
-
-fn differences(tally: &[u64]) {
-    say(b"no difference: ", count(tally, NO_ENTRY));
-    let mut k: usize = 0;
-    while k < GROUP {
-        entry(tally, k);
+// A line for each name, which has its length before it. Reads come first.
+fn groups(tally: &[u64], names: &[u8]) {
+    let mut at: usize = 0;
+    let mut k: usize = 10;
+    while k < 24 {
+        let start = file::after(names, at, 1);
+        let len = file::byte(names, at, 0) as usize;
+        line(tally, string::part(names, Span { start, len }), k % 14 * 64);
+        at = file::after(names, start, len);
         k = k + 1;
     }
 }
 
 pub fn lines(tally: &[u64]) {
-    reads(tally);
-    writes(tally);
-    sizes(tally);
-    differences(tally);
-    io::write_all(1, b"\n");
+    groups(
+        tally,
+        b"\x07reads: \x11user properties: \x1asubscription identifiers: \x09filters: \x13writes of Publish: \x12writes of PubAck: \x15writes of Subscribe: \x13writes of PingReq: \x14writes of PingResp: \x12sizes of Publish: \x11sizes of PubAck: \x14sizes of Subscribe: \x12sizes of PingReq: \x13sizes of PingResp: ",
+    );
+    counts(tally, b"no difference: ", b"\ndifference ", ENTRIES);
 }
 
 // The last line, of a file that was read to its end.
 pub fn total(tally: &[u64]) {
-    say(b"rows as stored: ", count(tally, ROWS));
-    say(b"; otherwise: ", count(tally, OTHERWISE));
+    say(b"rows as stored: ", number(tally, ENTRIES, ALL));
+    say(b"; otherwise: ", number(tally, ENTRIES, OTHERWISE));
     io::write_all(1, b"\n");
 }

@@ -12,8 +12,8 @@ Inv-loop f tally₀ n at₀ k₀ tally at k = length tally ≡ length tally₀
 abbrev μ-loop : tie.MeasureT-loop
 μ-loop f tally₀ n at₀ k₀ tally at k = n - k
 
-four-requires : tie.Need-four-requires Inv-loop μ-loop
-four-requires c κs = search needs
+number-requires : tie.Need-number-requires Inv-loop μ-loop
+number-requires c κs = search needs
 
 after-requires : tie.Need-after-requires Inv-loop μ-loop
 after-requires c κs = search needs
@@ -21,8 +21,14 @@ after-requires c κs = search needs
 loop-holds : tie.Need-loop-holds Inv-loop μ-loop
 loop-holds c = search needs
 
-replay-requires : tie.Need-replay-requires Inv-loop μ-loop
-replay-requires c κs = search needs
+add-k : tie.Need-add-k Inv-loop μ-loop
+add-k c = search needs
+
+slice-aggregate-fields-at : tie.Need-slice-aggregate-fields-at Inv-loop μ-loop
+slice-aggregate-fields-at c = search needs
+
+fields-at-requires : tie.Need-fields-at-requires Inv-loop μ-loop
+fields-at-requires c κs = search needs
 
 damaged-requires : tie.Need-damaged-requires Inv-loop μ-loop
 damaged-requires c κs = search needs
@@ -33,11 +39,11 @@ same-length c = search needs
 returns : tie.Need-returns Inv-loop μ-loop
 returns c = search needs
 
+slice-aggregate-tell : tie.Need-slice-aggregate-tell Inv-loop μ-loop
+slice-aggregate-tell c = search needs
+
 tell-requires : tie.Need-tell-requires Inv-loop μ-loop
 tell-requires c κs = search needs
-
-add-k : tie.Need-add-k Inv-loop μ-loop
-add-k c = search needs
 
 loop-less : tie.Need-loop-less Inv-loop μ-loop
 loop-less c = search needs
@@ -57,15 +63,17 @@ every-row-spec =
     (tie.spec
     Inv-loop
     μ-loop
-    four-requires
+    number-requires
     after-requires
     loop-holds
-    replay-requires
+    add-k
+    slice-aggregate-fields-at
+    fields-at-requires
     damaged-requires
     same-length
     returns
+    slice-aggregate-tell
     tell-requires
-    add-k
     loop-less
     loop-again
     same-length-2

@@ -10,23 +10,29 @@ Inv-loop f at numbers₀ n next₀ i₀ numbers next i = Unit
 abbrev μ-loop : tie.MeasureT-loop
 μ-loop f at numbers₀ n next₀ i₀ numbers next i = n - i
 
-byte-at-requires : tie.Need-byte-at-requires Inv-loop μ-loop
-byte-at-requires c κs = search needs
-
 after-requires : tie.Need-after-requires Inv-loop μ-loop
 after-requires c κs = search needs
-
-loop-holds : tie.Need-loop-holds Inv-loop μ-loop
-loop-holds c = search needs
 
 byte-requires : tie.Need-byte-requires Inv-loop μ-loop
 byte-requires c κs = search needs
 
+after-requires-2 : tie.Need-after-requires-2 Inv-loop μ-loop
+after-requires-2 c κs = search needs
+
+loop-holds : tie.Need-loop-holds Inv-loop μ-loop
+loop-holds c = search needs
+
+byte-requires-2 : tie.Need-byte-requires-2 Inv-loop μ-loop
+byte-requires-2 c κs = search needs
+
 cast-k : tie.Need-cast-k Inv-loop μ-loop
 cast-k c = search needs
 
-four-at-requires : tie.Need-four-at-requires Inv-loop μ-loop
-four-at-requires c κs = search needs
+after-requires-3 : tie.Need-after-requires-3 Inv-loop μ-loop
+after-requires-3 c κs = search needs
+
+number-requires : tie.Need-number-requires Inv-loop μ-loop
+number-requires c κs = search needs
 
 cast-numbers : tie.Need-cast-numbers Inv-loop μ-loop
 cast-numbers c = search needs
@@ -37,8 +43,8 @@ mul-numbers c = search needs
 array-write-numbers : tie.Need-array-write-numbers Inv-loop μ-loop
 array-write-numbers c = search needs
 
-after-requires-2 : tie.Need-after-requires-2 Inv-loop μ-loop
-after-requires-2 c κs = search needs
+after-requires-4 : tie.Need-after-requires-4 Inv-loop μ-loop
+after-requires-4 c κs = search needs
 
 add-i : tie.Need-add-i Inv-loop μ-loop
 add-i c = search needs
@@ -58,16 +64,18 @@ stored-spec =
     (tie.spec
     Inv-loop
     μ-loop
-    byte-at-requires
     after-requires
-    loop-holds
     byte-requires
+    after-requires-2
+    loop-holds
+    byte-requires-2
     cast-k
-    four-at-requires
+    after-requires-3
+    number-requires
     cast-numbers
     mul-numbers
     array-write-numbers
-    after-requires-2
+    after-requires-4
     add-i
     loop-less
     loop-again

@@ -6,6 +6,9 @@ use lib.Seq.{length-take-le}
 use Rattle.corpus.proofs.file.of_lengths.Statement.{statement}
 use Rattle.corpus.proofs.file.of_lengths.Tie as tie
 
+value-requires : tie.Need-value-requires
+value-requires c κs = search needs
+
 slice-aggregate-result : tie.Need-slice-aggregate-result
 slice-aggregate-result c = search needs
 
@@ -20,4 +23,10 @@ returns-2 c = search needs
 
 pub of-lengths-spec : {M : Type 1} → statement M
 of-lengths-spec =
-    tie.close (tie.spec slice-aggregate-result returns slice-aggregate-result-2 returns-2)
+    tie.close
+    (tie.spec
+    value-requires
+    slice-aggregate-result
+    returns
+    slice-aggregate-result-2
+    returns-2)

@@ -7,19 +7,22 @@ use Rattle.corpus.proofs.file.walk.Statement.{statement}
 use Rattle.corpus.proofs.file.walk.Tie as tie
 
 abbrev Inv-loop : tie.InvT-loop
-Inv-loop f at fields places₀ next₀ k₀ places next k = length places ≡ length places₀
+Inv-loop f at fields v₀ next₀ k₀ v next k = length v ≡ length v₀
 
 abbrev μ-loop : tie.MeasureT-loop
-μ-loop f at fields places₀ next₀ k₀ places next k = length fields - k
+μ-loop f at fields v₀ next₀ k₀ v next k = length fields - k
 
 loop-holds : tie.Need-loop-holds Inv-loop μ-loop
 loop-holds c = search needs
 
+shared-slice-read-letter : tie.Need-shared-slice-read-letter Inv-loop μ-loop
+shared-slice-read-letter c = search needs
+
+kept-requires : tie.Need-kept-requires Inv-loop μ-loop
+kept-requires c κs = search needs
+
 keep-requires : tie.Need-keep-requires Inv-loop μ-loop
 keep-requires c κs = search needs
-
-shared-slice-read-after-field : tie.Need-shared-slice-read-after-field Inv-loop μ-loop
-shared-slice-read-after-field c = search needs
 
 after-field-requires : tie.Need-after-field-requires Inv-loop μ-loop
 after-field-requires c κs = search needs
@@ -46,8 +49,9 @@ walk-spec =
     Inv-loop
     μ-loop
     loop-holds
+    shared-slice-read-letter
+    kept-requires
     keep-requires
-    shared-slice-read-after-field
     after-field-requires
     add-k
     loop-less

@@ -1,9 +1,9 @@
--- `corpus::tally::entries` ends since what is left of the class falls. Assumes nothing.
+-- `corpus::tally::add_entries` ends since what is left of the class falls. Assumes nothing.
 use mathlib.Core.Path.{_≡_}
 use borrow.Author.Needs.{needs}
 use lib.ListN.{length}
-use Rattle.corpus.proofs.tally.entries.Statement.{statement}
-use Rattle.corpus.proofs.tally.entries.Tie as tie
+use Rattle.corpus.proofs.tally.add_entries.Statement.{statement}
+use Rattle.corpus.proofs.tally.add_entries.Tie as tie
 
 abbrev Inv-loop : tie.InvT-loop
 Inv-loop tally₀ class left₀ k₀ tally left k = length tally ≡ length tally₀
@@ -14,8 +14,8 @@ abbrev μ-loop : tie.MeasureT-loop
 loop-holds : tie.Need-loop-holds Inv-loop μ-loop
 loop-holds c = search needs
 
-add-odd-requires : tie.Need-add-odd-requires Inv-loop μ-loop
-add-odd-requires c κs = search needs
+add-requires : tie.Need-add-requires Inv-loop μ-loop
+add-requires c κs = search needs
 
 wrapping-add-usize-requires : tie.Need-wrapping-add-usize-requires Inv-loop μ-loop
 wrapping-add-usize-requires c κs = search needs
@@ -32,14 +32,14 @@ same-length c = search needs
 returns : tie.Need-returns Inv-loop μ-loop
 returns c = search needs
 
-pub entries-spec : {M : Type 1} → statement M
-entries-spec =
+pub add-entries-spec : {M : Type 1} → statement M
+add-entries-spec =
     tie.close
     (tie.spec
     Inv-loop
     μ-loop
     loop-holds
-    add-odd-requires
+    add-requires
     wrapping-add-usize-requires
     loop-less
     loop-again

@@ -1,15 +1,15 @@
--- `corpus::expect::same_bytes` ends since the index grows up to the length, which both slices have. Assumes nothing.
+-- `corpus::expect::is_output` ends since the index grows up to the length. Assumes nothing.
 use Prim.Native.Nat.{_-_}
 use borrow.Author.Needs.{needs}
 use lib.ListN.{length}
-use Rattle.corpus.proofs.expect.same_bytes.Statement.{statement}
-use Rattle.corpus.proofs.expect.same_bytes.Tie as tie
+use Rattle.corpus.proofs.expect.is_output.Statement.{statement}
+use Rattle.corpus.proofs.expect.is_output.Tie as tie
 
 abbrev Inv-loop : tie.InvT-loop
-Inv-loop a b k₀ k = Unit
+Inv-loop out put b k₀ k = Unit
 
 abbrev μ-loop : tie.MeasureT-loop
-μ-loop a b k₀ k = length a - k
+μ-loop out put b k₀ k = length out - k
 
 returns : tie.Need-returns Inv-loop μ-loop
 returns c = search needs
@@ -20,8 +20,8 @@ loop-holds c = search needs
 shared-slice-read-if2 : tie.Need-shared-slice-read-if2 Inv-loop μ-loop
 shared-slice-read-if2 c = search needs
 
-shared-slice-read-if2-2 : tie.Need-shared-slice-read-if2-2 Inv-loop μ-loop
-shared-slice-read-if2-2 c = search needs
+byte-requires : tie.Need-byte-requires Inv-loop μ-loop
+byte-requires c κs = search needs
 
 returns-2 : tie.Need-returns-2 Inv-loop μ-loop
 returns-2 c = search needs
@@ -38,8 +38,8 @@ loop-again c = search needs
 returns-3 : tie.Need-returns-3 Inv-loop μ-loop
 returns-3 c = search needs
 
-pub same-bytes-spec : {M : Type 1} → statement M
-same-bytes-spec =
+pub is-output-spec : {M : Type 1} → statement M
+is-output-spec =
     tie.close
     (tie.spec
     Inv-loop
@@ -47,7 +47,7 @@ same-bytes-spec =
     returns
     loop-holds
     shared-slice-read-if2
-    shared-slice-read-if2-2
+    byte-requires
     returns-2
     add-k
     loop-less
