@@ -1,9 +1,10 @@
-// One field of a line: a space, its name, `=` and its value. The name is lent with the space and the `=`.
+// One field of a line: a space, its name, `=` and its value. The name is lent with what stands around it, the first quote included.
 use crate::output;
 use records::span::MaybeSpan;
 use records::span::MaybeU8;
 use records::span::MaybeU16;
 use records::span::MaybeU32;
+use records::span::Span;
 use wire::string;
 
 pub fn number(out: &mut [u8], at: usize, name: &[u8], n: u64) -> usize {
@@ -11,21 +12,11 @@ pub fn number(out: &mut [u8], at: usize, name: &[u8], n: u64) -> usize {
     output::decimal(&mut *out, value, n)
 }
 
-pub fn bytes(out: &mut [u8], at: usize, name: &[u8], s: &[u8]) -> usize {
+// The part of s at a place, and the quote behind it.
+pub fn part(out: &mut [u8], at: usize, name: &[u8], s: &[u8], place: Span) -> usize {
     let value = output::word(&mut *out, at, name);
-    output::quoted(&mut *out, value, s)
-}
-
-pub fn flag(out: &mut [u8], at: usize, name: &[u8], on: bool) -> usize {
-    if on {
-        return number(&mut *out, at, name, 1);
-    }
-    number(&mut *out, at, name, 0)
-}
-
-pub fn hex(out: &mut [u8], at: usize, name: &[u8], b: u8) -> usize {
-    let value = output::word(&mut *out, at, name);
-    output::hex(&mut *out, value, b)
+    let end = output::shown(&mut *out, value, string::part(s, place));
+    output::word(&mut *out, end, b"\"")
 }
 
 // The fields that may be absent, and are then no field.
@@ -50,10 +41,9 @@ pub fn u32_if(out: &mut [u8], at: usize, name: &[u8], n: MaybeU32) -> usize {
     }
 }
 
-// The part of s at a place.
 pub fn part_if(out: &mut [u8], at: usize, name: &[u8], s: &[u8], place: MaybeSpan) -> usize {
     match place {
         MaybeSpan::Absent => at,
-        MaybeSpan::Present(p) => bytes(&mut *out, at, name, string::part(s, p)),
+        MaybeSpan::Present(p) => part(&mut *out, at, name, s, p),
     }
 }

@@ -4,7 +4,6 @@ use crate::list;
 use crate::output;
 use codes;
 use codes::reason_code;
-use publish_parts;
 use records::packet_record::Packet;
 use records::puback_record::MaybePubAckProperties;
 use records::puback_record::PubAck;
@@ -15,32 +14,28 @@ use records::subscribe_record::MaybeSubscribeProperties;
 use records::subscribe_record::Subscribe;
 use tables::property::PropertyPlace;
 
-// The offset, the kind and the count: `kind` is lent with the words around it.
-fn head(out: &mut [u8], at: usize, offset: u64, kind: &[u8], taken: usize) -> usize {
-    let a = output::decimal(&mut *out, at, offset);
-    field::number(&mut *out, a, kind, taken as u64)
-}
-
 // The identifier, which a Publish has at QoS 1 and 2.
-fn identifier(out: &mut [u8], at: usize, q: u64, pkid: u16) -> usize {
+fn identifier(out: &mut [u8], at: usize, q: u8, pkid: u16) -> usize {
     if q == 0 {
         return at;
     }
     field::number(&mut *out, at, b" id=", pkid as u64)
 }
 
-fn wide(b: u8) -> u64 {
-    b as u64
+fn flags(out: &mut [u8], at: usize, dup: bool, q: u8, retain: bool) -> usize {
+    let mut text = *b" dup=0 qos=0 retain=0";
+    text[5] = output::digit(dup as u8);
+    text[11] = output::digit(q);
+    text[20] = output::digit(retain as u8);
+    output::word(&mut *out, at, &text)
 }
 
-fn publish_flags(out: &mut [u8], at: usize, s: &[u8], m: Publish) -> usize {
+fn publish_head(out: &mut [u8], at: usize, s: &[u8], m: Publish) -> usize {
     let qos = m.qos;
-    let q = wide(codes::qos_number(qos));
-    let a = field::flag(&mut *out, at, b" dup=", m.dup);
-    let b = field::number(&mut *out, a, b" qos=", q);
-    let c = field::flag(&mut *out, b, b" retain=", m.retain);
-    let d = field::bytes(&mut *out, c, b" topic=", publish_parts::topic(s, m));
-    identifier(&mut *out, d, q, m.pkid)
+    let q = codes::qos_number(qos);
+    let a = flags(&mut *out, at, m.dup, q, m.retain);
+    let b = field::part(&mut *out, a, b" topic=\"", s, m.topic);
+    identifier(&mut *out, b, q, m.pkid)
 }
 
 fn publish_singles(out: &mut [u8], at: usize, s: &[u8], p: PublishProperties) -> usize {
@@ -52,8 +47,8 @@ fn publish_singles(out: &mut [u8], at: usize, s: &[u8], p: PublishProperties) ->
     let a = field::u8_if(&mut *out, at, b" payload-format=", format);
     let b = field::u32_if(&mut *out, a, b" message-expiry=", expiry);
     let c = field::u16_if(&mut *out, b, b" topic-alias=", alias);
-    let d = field::part_if(&mut *out, c, b" response-topic=", s, response);
-    field::part_if(&mut *out, d, b" correlation-data=", s, correlation)
+    let d = field::part_if(&mut *out, c, b" response-topic=\"", s, response);
+    field::part_if(&mut *out, d, b" correlation-data=\"", s, correlation)
 }
 
 fn publish_properties(out: &mut [u8], at: usize, s: &[u8], p: PublishProperties) -> usize {
@@ -62,7 +57,7 @@ fn publish_properties(out: &mut [u8], at: usize, s: &[u8], p: PublishProperties)
     let a = publish_singles(&mut *out, at, s, p);
     let b = list::users(&mut *out, a, PropertyPlace::Publish, s, block);
     let c = list::identifiers(&mut *out, b, s, block);
-    field::part_if(&mut *out, c, b" content-type=", s, content)
+    field::part_if(&mut *out, c, b" content-type=\"", s, content)
 }
 
 fn publish_block(out: &mut [u8], at: usize, s: &[u8], properties: MaybePublishProperties) -> usize {
@@ -72,11 +67,12 @@ fn publish_block(out: &mut [u8], at: usize, s: &[u8], properties: MaybePublishPr
     }
 }
 
-fn publish_of(out: &mut [u8], at: usize, s: &[u8], m: Publish) -> usize {
+fn publish_of(out: &mut [u8], at: usize, s: &[u8], m: Publish, taken: usize) -> usize {
     let properties = m.properties;
-    let a = publish_flags(&mut *out, at, s, m);
-    let b = publish_block(&mut *out, a, s, properties);
-    field::bytes(&mut *out, b, b" payload=", publish_parts::payload(s, m))
+    let a = field::number(&mut *out, at, b" publish taken=", taken as u64);
+    let b = publish_head(&mut *out, a, s, m);
+    let c = publish_block(&mut *out, b, s, properties);
+    field::part(&mut *out, c, b" payload=\"", s, m.payload)
 }
 
 fn subscribe_block(
@@ -96,12 +92,13 @@ fn subscribe_block(
     }
 }
 
-fn subscribe_of(out: &mut [u8], at: usize, s: &[u8], m: Subscribe) -> usize {
+fn subscribe_of(out: &mut [u8], at: usize, s: &[u8], m: Subscribe, taken: usize) -> usize {
     let properties = m.properties;
     let filters = m.filters;
-    let a = field::number(&mut *out, at, b" id=", m.pkid as u64);
-    let b = subscribe_block(&mut *out, a, s, properties);
-    list::filters(&mut *out, b, s, filters)
+    let a = field::number(&mut *out, at, b" subscribe taken=", taken as u64);
+    let b = field::number(&mut *out, a, b" id=", m.pkid as u64);
+    let c = subscribe_block(&mut *out, b, s, properties);
+    list::filters(&mut *out, c, s, filters)
 }
 
 fn puback_block(out: &mut [u8], at: usize, s: &[u8], properties: MaybePubAckProperties) -> usize {
@@ -110,44 +107,42 @@ fn puback_block(out: &mut [u8], at: usize, s: &[u8], properties: MaybePubAckProp
         MaybePubAckProperties::Present(p) => {
             let text = p.reason_string;
             let block = p.block;
-            let a = field::part_if(&mut *out, at, b" reason-string=", s, text);
+            let a = field::part_if(&mut *out, at, b" reason-string=\"", s, text);
             list::users(&mut *out, a, PropertyPlace::PubAck, s, block)
         }
     }
 }
 
-fn puback_of(out: &mut [u8], at: usize, s: &[u8], m: PubAck) -> usize {
-    let reason = m.reason;
+// The reason, in two hexadecimal digits.
+fn reason(out: &mut [u8], at: usize, code: u8) -> usize {
+    let mut text = *b" reason=0x00";
+    render::put_hex(&mut text, 10, code);
+    output::word(&mut *out, at, &text)
+}
+
+fn puback_of(out: &mut [u8], at: usize, s: &[u8], m: PubAck, taken: usize) -> usize {
+    let code = m.reason;
     let properties = m.properties;
-    let a = field::number(&mut *out, at, b" id=", m.pkid as u64);
-    let b = field::hex(&mut *out, a, b" reason=0x", reason_code(reason));
-    puback_block(&mut *out, b, s, properties)
+    let a = field::number(&mut *out, at, b" puback taken=", taken as u64);
+    let b = field::number(&mut *out, a, b" id=", m.pkid as u64);
+    let c = reason(&mut *out, b, reason_code(code));
+    puback_block(&mut *out, c, s, properties)
 }
 
-fn head_of(out: &mut [u8], at: usize, offset: u64, p: Packet, taken: usize) -> usize {
+// The kind, the count and the fields.
+fn fields(out: &mut [u8], at: usize, s: &[u8], p: Packet, taken: usize) -> usize {
     match p {
-        Packet::Publish(_) => head(&mut *out, at, offset, b" publish taken=", taken),
-        Packet::Subscribe(_) => head(&mut *out, at, offset, b" subscribe taken=", taken),
-        Packet::PubAck(_) => head(&mut *out, at, offset, b" puback taken=", taken),
-        Packet::PingReq => head(&mut *out, at, offset, b" pingreq taken=", taken),
-        Packet::PingResp => head(&mut *out, at, offset, b" pingresp taken=", taken),
-    }
-}
-
-// What stands behind the head.
-fn fields_of(out: &mut [u8], at: usize, s: &[u8], p: Packet) -> usize {
-    match p {
-        Packet::Publish(m) => publish_of(&mut *out, at, s, m),
-        Packet::Subscribe(m) => subscribe_of(&mut *out, at, s, m),
-        Packet::PubAck(m) => puback_of(&mut *out, at, s, m),
-        Packet::PingReq => at,
-        Packet::PingResp => at,
+        Packet::Publish(m) => publish_of(&mut *out, at, s, m, taken),
+        Packet::Subscribe(m) => subscribe_of(&mut *out, at, s, m, taken),
+        Packet::PubAck(m) => puback_of(&mut *out, at, s, m, taken),
+        Packet::PingReq => field::number(&mut *out, at, b" pingreq taken=", taken as u64),
+        Packet::PingResp => field::number(&mut *out, at, b" pingresp taken=", taken as u64),
     }
 }
 
 // Of the packet p that was read from s.
 pub fn packet(out: &mut [u8], at: usize, offset: u64, s: &[u8], p: Packet, taken: usize) -> usize {
-    let a = head_of(&mut *out, at, offset, p, taken);
-    let b = fields_of(&mut *out, a, s, p);
+    let a = output::decimal(&mut *out, at, offset);
+    let b = fields(&mut *out, a, s, p, taken);
     output::word(&mut *out, b, b"\n")
 }

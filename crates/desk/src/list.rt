@@ -1,5 +1,6 @@
 // The fields of lists, each list in one pass over its place: user properties and subscription identifiers of a block, filters of a run.
 use crate::field;
+use crate::output;
 use codes;
 use codes::rule_number;
 use filters::GotFilter;
@@ -10,33 +11,23 @@ use records::subscribe_record::Filter;
 use tables::property::PropertyPlace;
 use wire::string;
 
-fn wide(b: u8) -> u64 {
-    b as u64
+fn user(out: &mut [u8], at: usize, s: &[u8], key: Span, value: Span) -> usize {
+    let a = field::part(&mut *out, at, b" user=\"", s, key);
+    field::part(&mut *out, a, b"=\"", s, value)
 }
 
-// The field of a value that is a pair: only user properties are.
-fn user_if(out: &mut [u8], at: usize, s: &[u8], v: Value) -> usize {
-    if let Value::Pair(key, value) = v {
-        let a = field::bytes(&mut *out, at, b" user=", string::part(s, key));
-        return field::bytes(&mut *out, a, b"=", string::part(s, value));
+// The field of a value of a list: only user properties are pairs, only subscription identifiers are variable length numbers.
+fn value_if(out: &mut [u8], at: usize, s: &[u8], v: Value, is_user: bool) -> usize {
+    if is_user {
+        if let Value::Pair(key, value) = v {
+            return user(&mut *out, at, s, key, value);
+        }
+        return at;
     }
-    at
-}
-
-// The field of a value that is a variable length number: only subscription identifiers are.
-fn identifier_if(out: &mut [u8], at: usize, v: Value) -> usize {
     if let Value::Number(id) = v {
         return field::number(&mut *out, at, b" subscription-id=", id as u64);
     }
     at
-}
-
-// The field of a value of a list: of the user properties, or of the subscription identifiers.
-fn value_if(out: &mut [u8], at: usize, s: &[u8], v: Value, is_user: bool) -> usize {
-    if is_user {
-        return user_if(&mut *out, at, s, v);
-    }
-    identifier_if(&mut *out, at, v)
 }
 
 // The values of a list in the block s.
@@ -55,15 +46,27 @@ fn values(out: &mut [u8], at: usize, place: PropertyPlace, s: &[u8], is_user: bo
     next
 }
 
+fn options(out: &mut [u8], at: usize, q: u8, no_local: bool, preserve: bool, rule: u8) -> usize {
+    let mut text = *b" qos=0 no-local=0 preserve-retain=0 forward=0";
+    text[5] = output::digit(q);
+    text[16] = output::digit(no_local as u8);
+    text[34] = output::digit(preserve as u8);
+    text[44] = output::digit(rule);
+    output::word(&mut *out, at, &text)
+}
+
 fn filter_of(out: &mut [u8], at: usize, s: &[u8], f: Filter) -> usize {
-    let path = f.path;
     let q = f.qos;
     let rule = f.retain_forward_rule;
-    let a = field::bytes(&mut *out, at, b" filter=", string::part(s, path));
-    let b = field::number(&mut *out, a, b" qos=", wide(codes::qos_number(q)));
-    let c = field::flag(&mut *out, b, b" no-local=", f.nolocal);
-    let d = field::flag(&mut *out, c, b" preserve-retain=", f.preserve_retain);
-    field::number(&mut *out, d, b" forward=", wide(rule_number(rule)))
+    let a = field::part(&mut *out, at, b" filter=\"", s, f.path);
+    options(
+        &mut *out,
+        a,
+        codes::qos_number(q),
+        f.nolocal,
+        f.preserve_retain,
+        rule_number(rule),
+    )
 }
 
 // The filters that fill s.

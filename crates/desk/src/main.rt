@@ -38,15 +38,7 @@ fn run(a: Asked) -> u8 {
 
 // The status as a digit, on descriptor 3.
 fn tell(status: u8) {
-    if status == 0 {
-        io::write_all(3, b"0");
-        return;
-    }
-    if status == 1 {
-        io::write_all(3, b"1");
-        return;
-    }
-    io::write_all(3, b"2");
+    io::write_all(3, &[output::digit(status)]);
 }
 
 fn main() {

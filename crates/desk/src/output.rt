@@ -7,7 +7,7 @@ use wire::string;
 ghost use mathlib.Core.Path.{_≡_};
 ghost use Prim.Native.Nat.{_+_, _≤_};
 ghost use lib.ListN.{length};
-ghost use Rattle.render.specs.Shown.{decimalOf, hexOf};
+ghost use Rattle.render.specs.Shown.{decimalOf};
 ghost use Rattle.desk.specs.Put.{Put};
 
 // The index that no output has.
@@ -71,17 +71,13 @@ pub fn decimal(out: &mut [u8], at: usize, n: u64) -> usize
     after(&*out, from, k)
 }
 
-// Two hexadecimal digits.
-pub fn hex(out: &mut [u8], at: usize, b: u8) -> usize
-    ensures { λ r. ⌜ Put (now (out .entry)) (hexOf b) (now (out .exit)) r ⌝ }
-{
-    let from = room(&*out, at, 2);
-    render::put_hex(&mut *out, from, b);
-    after(&*out, from, 2)
+// The digit of a number below ten.
+pub fn digit(n: u8) -> u8 {
+    std::num::wrapping_add_u8(48, n)
 }
 
 // The bytes of s as they stand between quotes; each turn shows one at least, for there is room for one.
-fn shown(out: &mut [u8], at: usize, s: &[u8]) -> usize {
+pub fn shown(out: &mut [u8], at: usize, s: &[u8]) -> usize {
     let mut next = at;
     let mut i: usize = 0;
     while i < s.len() {
@@ -96,12 +92,6 @@ fn shown(out: &mut [u8], at: usize, s: &[u8]) -> usize {
     next
 }
 
-pub fn quoted(out: &mut [u8], at: usize, s: &[u8]) -> usize {
-    let a = word(&mut *out, at, b"\"");
-    let b = shown(&mut *out, a, s);
-    word(&mut *out, b, b"\"")
-}
-
 // The line of a refusal, which is shorter than 160 bytes.
 pub fn refused(out: &mut [u8], at: usize, offset: u64, e: Error, taken: usize) -> usize {
     let from = room(&*out, at, 160);
@@ -110,6 +100,14 @@ pub fn refused(out: &mut [u8], at: usize, offset: u64, e: Error, taken: usize) -
     }
     let n = lines::put_refused(&mut out[from..], offset, e, taken);
     after(&*out, from, n)
+}
+
+// The first `len` bytes, on standard error.
+pub fn tell(out: &[u8], len: usize) {
+    io::write_all(
+        libc::STDERR_FILENO,
+        string::part(out, records::span::Span { start: 0, len }),
+    );
 }
 
 // What failed, and why, on standard error.

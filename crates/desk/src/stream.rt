@@ -20,12 +20,10 @@ const GOING: u8 = 0;
 const ENDED: u8 = 1;
 // All was read.
 const DONE: u8 = 2;
-// A refusal took nothing.
+// A refusal took nothing, or the next frame is longer than the buffer.
 const STOPPED: u8 = 3;
-// The next frame is longer than the buffer.
-const TOO_LONG: u8 = 4;
 // The input could not be read.
-const UNREADABLE: u8 = 5;
+const UNREADABLE: u8 = 4;
 
 struct Desk {
     // what is held of the stream, in the buffer
@@ -34,8 +32,6 @@ struct Desk {
     put: usize,
     // where the next frame starts in the stream
     offset: u64,
-    // the size of a frame that is too long
-    size: u64,
     state: u8,
 }
 
@@ -44,9 +40,14 @@ fn buffer() -> [u8; 1048576] {
     [0; 1048576]
 }
 
+fn in_state(mut d: Desk, state: u8) -> Desk {
+    d.state = state;
+    d
+}
+
 // How many bytes refusal 1 says are lacking, while there is more to read; else 0.
-fn lacking(d: Desk, e: Error) -> usize {
-    if d.state != GOING {
+fn lacking(state: u8, e: Error) -> usize {
+    if state != GOING {
         return 0;
     }
     if let Error::InsufficientBytes(n) = e {
@@ -55,57 +56,32 @@ fn lacking(d: Desk, e: Error) -> usize {
     0
 }
 
-// After a frame of `taken` bytes, whose line ends before `put`.
-fn passed(d: Desk, put: usize, taken: usize) -> Desk {
+// After a frame of `taken` bytes, whose line ends before `put`. A frame that took nothing is the last that is read.
+fn passed(mut d: Desk, put: usize, taken: usize) -> Desk {
     let held = d.held;
+    d.put = put;
+    if taken == 0 {
+        return in_state(d, STOPPED);
+    }
     if held.len < taken {
-        return Desk {
-            put,
-            state: UNREADABLE,
-            ..d
-        };
+        return in_state(d, STOPPED);
     }
     let start = std::num::wrapping_add_usize(held.start, taken);
     let len = held.len - taken;
-    let offset = std::num::wrapping_add_u64(d.offset, taken as u64);
-    Desk {
-        held: Span { start, len },
-        put,
-        offset,
-        ..d
-    }
-}
-
-fn accepted(
-    buf: &[u8],
-    out: &mut [u8],
-    tally: &mut [u64],
-    d: Desk,
-    p: Packet,
-    taken: usize,
-) -> Desk {
-    let held = d.held;
-    let s = string::part(buf, held);
-    let put = line::packet(&mut *out, d.put, d.offset, s, p, taken);
-    tallies::add_packet(&mut *tally, p);
-    passed(d, put, taken)
+    let rest = Span { start, len };
+    d.held = rest;
+    d.offset = std::num::wrapping_add_u64(d.offset, taken as u64);
+    d
 }
 
 // A refusal; that of no byte at all is the end of the stream.
 fn refused(out: &mut [u8], tally: &mut [u64], d: Desk, e: Error, taken: usize) -> Desk {
     let held = d.held;
     if held.len == 0 {
-        return Desk { state: DONE, ..d };
+        return in_state(d, DONE);
     }
     let put = output::refused(&mut *out, d.put, d.offset, e, taken);
     tallies::add_refused(&mut *tally, e);
-    if taken == 0 {
-        return Desk {
-            put,
-            state: STOPPED,
-            ..d
-        };
-    }
     passed(d, put, taken)
 }
 
@@ -142,76 +118,81 @@ fn with_room(buf: &mut [u8], held: Span) -> Span
     Span { start: 0, len }
 }
 
-// Reads once behind what is held.
-fn fill(fd: i32, name: &[u8], buf: &mut [u8], d: Desk) -> Desk {
-    let held = d.held;
-    let from = std::num::wrapping_add_usize(held.start, held.len);
+// Reads once from index `from` on; -1 where there is no such index, or the input cannot be read.
+fn read_from(fd: i32, buf: &mut [u8], from: usize) -> isize {
     if buf.len() < from {
-        return Desk {
-            state: UNREADABLE,
-            ..d
-        };
+        return -1;
     }
-    let got = libc::read(fd, &mut buf[from..]);
-    if got < 0 {
-        output::fail(name);
-        return Desk {
-            state: UNREADABLE,
-            ..d
-        };
+    libc::read(fd, &mut buf[from..])
+}
+
+// Reads once behind what is held.
+fn fill(fd: i32, buf: &mut [u8], mut d: Desk) -> Desk {
+    let held = d.held;
+    let start = held.start;
+    let got = read_from(fd, &mut *buf, std::num::wrapping_add_usize(start, held.len));
+    if 0 < got {
+        let len = std::num::wrapping_add_usize(held.len, io::count(got, &*buf));
+        let now = Span { start, len };
+        d.held = now;
+        return d;
     }
     if got == 0 {
-        return Desk { state: ENDED, ..d };
+        return in_state(d, ENDED);
     }
-    let n = io::count(got, &buf[from..]);
-    let start = held.start;
-    let len = std::num::wrapping_add_usize(held.len, n);
-    Desk {
-        held: Span { start, len },
-        ..d
+    in_state(d, UNREADABLE)
+}
+
+// The plain words for a frame that is too long, on standard error, if what was put before is written.
+fn too_long(out: &mut [u8], d: Desk, size: u64) -> Desk {
+    if output::is_lost(&*out, d.put) {
+        return in_state(d, STOPPED);
     }
+    let len = lines::put_too_long(&mut *out, d.offset, size, 1048576);
+    output::tell(&*out, len);
+    in_state(d, STOPPED)
 }
 
 // More of the stream, for a frame that lacks some bytes. What was put is written first: a line does not wait for input.
-fn more(fd: i32, name: &[u8], buf: &mut [u8], out: &[u8], d: Desk, lacks: usize) -> Desk {
-    let put = output::flush(out, d.put);
+fn more(fd: i32, buf: &mut [u8], out: &mut [u8], mut d: Desk, lacks: usize) -> Desk {
+    d.put = output::flush(&*out, d.put);
     let held = with_room(&mut *buf, d.held);
-    let size = std::num::wrapping_add_u64(held.len as u64, lacks as u64);
+    d.held = held;
     if buf.len() <= held.len {
-        return Desk {
-            held,
-            put,
-            size,
-            state: TOO_LONG,
-            ..d
-        };
+        let size = std::num::wrapping_add_u64(held.len as u64, lacks as u64);
+        return too_long(&mut *out, d, size);
     }
-    fill(fd, name, &mut *buf, Desk { held, put, ..d })
+    fill(fd, &mut *buf, d)
 }
 
-fn read_held(buf: &[u8], limit: Limit, d: Desk) -> Read {
-    packet::read(string::part(buf, d.held), limit)
-}
-
-// One frame, or one read.
-fn turn(
+fn unread(
     fd: i32,
-    name: &[u8],
-    limit: Limit,
     buf: &mut [u8],
     out: &mut [u8],
     tally: &mut [u64],
     d: Desk,
+    e: Error,
+    taken: usize,
 ) -> Desk {
-    match read_held(&*buf, limit, d) {
-        Read::Packet(p, taken) => accepted(&*buf, &mut *out, &mut *tally, d, p, taken),
-        Read::Refused(e, taken) => {
-            let lacks = lacking(d, e);
-            if 0 < lacks {
-                return more(fd, name, &mut *buf, &*out, d, lacks);
-            }
-            refused(&mut *out, &mut *tally, d, e, taken)
-        }
+    let lacks = lacking(d.state, e);
+    if 0 < lacks {
+        return more(fd, &mut *buf, &mut *out, d, lacks);
+    }
+    refused(&mut *out, &mut *tally, d, e, taken)
+}
+
+fn accepted(s: &[u8], out: &mut [u8], tally: &mut [u64], d: Desk, p: Packet, taken: usize) -> Desk {
+    let put = line::packet(&mut *out, d.put, d.offset, s, p, taken);
+    tallies::add_packet(&mut *tally, p);
+    passed(d, put, taken)
+}
+
+// One frame, or one read.
+fn turn(fd: i32, limit: Limit, buf: &mut [u8], out: &mut [u8], tally: &mut [u64], d: Desk) -> Desk {
+    let s = string::part(&*buf, d.held);
+    match packet::read(s, limit) {
+        Read::Packet(p, taken) => accepted(s, &mut *out, &mut *tally, d, p, taken),
+        Read::Refused(e, taken) => unread(fd, &mut *buf, &mut *out, &mut *tally, d, e, taken),
     }
 }
 
@@ -223,24 +204,16 @@ fn is_going(out: &[u8], d: Desk) -> bool {
 }
 
 // A proved loop has to end, and nothing says that a stream does. So the loop counts its turns down, from a number that no run uses up.
-fn read_all(
-    fd: i32,
-    name: &[u8],
-    limit: Limit,
-    buf: &mut [u8],
-    out: &mut [u8],
-    tally: &mut [u64],
-) -> Desk {
+fn read_all(fd: i32, limit: Limit, buf: &mut [u8], out: &mut [u8], tally: &mut [u64]) -> Desk {
     let mut d = Desk {
         held: Span { start: 0, len: 0 },
         put: 0,
         offset: 0,
-        size: 0,
         state: GOING,
     };
     let mut turns: u64 = 18446744073709551615;
     while 0 < turns {
-        d = turn(fd, name, limit, &mut *buf, &mut *out, &mut *tally, d);
+        d = turn(fd, limit, &mut *buf, &mut *out, &mut *tally, d);
         if !is_going(&*out, d) {
             return d;
         }
@@ -249,36 +222,14 @@ fn read_all(
     d
 }
 
-// The plain words for a frame that is too long, on standard error.
-fn too_long(out: &mut [u8], d: Desk, most: usize) {
-    let len = lines::put_too_long(&mut *out, d.offset, d.size, most as u64);
-    io::write_all(
-        libc::STDERR_FILENO,
-        string::part(&*out, Span { start: 0, len }),
-    );
-}
-
-// What was read, on standard error.
-fn summary(out: &mut [u8], tally: &[u64], bytes: u64) {
-    let len = tallies::put_summary(&mut *out, tally, bytes);
-    io::write_all(
-        libc::STDERR_FILENO,
-        string::part(&*out, Span { start: 0, len }),
-    );
-}
-
-// Writes what is left of the output, then what was read; gives the exit status.
-fn finish(out: &mut [u8], tally: &[u64], d: Desk, most: usize) -> u8 {
+// Writes what is left of the output, then what was read, on standard error; gives the exit status.
+fn finish(out: &mut [u8], tally: &[u64], d: Desk) -> u8 {
     if output::is_lost(&*out, output::flush(&*out, d.put)) {
         output::fail(b"standard output");
         return 1;
     }
-    if d.state == TOO_LONG {
-        too_long(&mut *out, d, most);
-        summary(&mut *out, tally, d.offset);
-        return 1;
-    }
-    summary(&mut *out, tally, d.offset);
+    let len = tallies::put_summary(&mut *out, tally, d.offset);
+    output::tell(&*out, len);
     if d.state == DONE {
         return 0;
     }
@@ -290,6 +241,9 @@ pub fn read(fd: i32, name: &[u8], limit: Limit) -> u8 {
     let mut buf = buffer();
     let mut out = io::large_buffer();
     let mut tally = tallies::none();
-    let d = read_all(fd, name, limit, &mut buf, &mut out, &mut tally);
-    finish(&mut out, &tally, d, 1048576)
+    let d = read_all(fd, limit, &mut buf, &mut out, &mut tally);
+    if d.state == UNREADABLE {
+        output::fail(name);
+    }
+    finish(&mut out, &tally, d)
 }

@@ -10,12 +10,12 @@ use Rattle.records.specs.declared.error.Error.{Error}
 use Rattle.names.specs.Names.{names, nameAt, nameOf}
 use Rattle.byte_puts.proofs.Laws.{sets-then}
 use Rattle.wire.proofs.Laws.Strings.{held-within}
-use Rattle.lines.specs.Line.{Placed}
+use Rattle.lines.specs.Line.{PutAt}
 
-pub placed-none : (l : List ℕ) (at : ℕ) → Placed l at [] l at
-placed-none l at = record { stores = refl; behind = omega arith }
+pub put-none : (l : List ℕ) (at : ℕ) → PutAt l at [] l at
+put-none l at = record { stores = refl; behind = omega arith }
 
-pub then : {l l₁ l₂ xs ys : List ℕ} {at m n : ℕ} → Placed l at xs l₁ m → Placed l₁ m ys l₂ n → Placed l at (xs ++ ys) l₂ n
+pub then : {l l₁ l₂ xs ys : List ℕ} {at m n : ℕ} → PutAt l at xs l₁ m → PutAt l₁ m ys l₂ n → PutAt l at (xs ++ ys) l₂ n
 then {l} {l₁} {l₂} {xs} {ys} {at} {m} p q = record { stores = sets-then xs ys l l₁ l₂ at m (p .stores) (p .behind) (q .stores); behind = omega (arith, p .behind, q .behind, length-append xs ys) }
 
 -- ---- names

@@ -10,7 +10,7 @@ use Rattle.names.specs.Names.{codesOf, nameOf}
 use Rattle.render.specs.Shown.{decimalOf}
 
 -- xs stand from `at` on, as far as there is room, no other byte was changed, and `next` is the index behind them
-pub record Placed (before : List ℕ) (at : ℕ) (xs after : List ℕ) (next : ℕ) : Type 0 where
+pub record PutAt (before : List ℕ) (at : ℕ) (xs after : List ℕ) (next : ℕ) : Type 0 where
   pub stores : after ≡ sets before at xs
   pub behind : next ≡ at + length xs
 

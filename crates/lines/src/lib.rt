@@ -12,11 +12,11 @@ ghost use lib.ListN.{length};
 ghost use Rattle.records.specs.Told.{toldValues};
 ghost use Rattle.names.specs.Names.{codesOf, nameOf};
 ghost use Rattle.render.specs.Shown.{decimalOf};
-ghost use Rattle.lines.specs.Line.{Placed, valuesText, refusedHead, takenText, refusedLine, tooLongAt, tooLongLine};
+ghost use Rattle.lines.specs.Line.{PutAt, valuesText, refusedHead, takenText, refusedLine, tooLongAt, tooLongLine};
 
 fn word(out: &mut [u8], at: usize, w: &[u8]) -> usize
     requires { ⌜ at ≤ 65536 ⌝ }
-    ensures { λ r. ⌜ Placed (now (out .entry)) at (now (w .entry)) (now (out .exit)) r ⌝ }
+    ensures { λ r. ⌜ PutAt (now (out .entry)) at (now (w .entry)) (now (out .exit)) r ⌝ }
 {
     put_bytes(&mut *out, at, w);
     at + w.len()
@@ -24,7 +24,7 @@ fn word(out: &mut [u8], at: usize, w: &[u8]) -> usize
 
 fn decimal(out: &mut [u8], at: usize, n: u64) -> usize
     requires { ⌜ at + 20 ≤ 18446744073709551615 ⌝ }
-    ensures placed { λ r. ⌜ Placed (now (out .entry)) at (decimalOf n) (now (out .exit)) r ⌝ }
+    ensures placed { λ r. ⌜ PutAt (now (out .entry)) at (decimalOf n) (now (out .exit)) r ⌝ }
     ensures short { λ r. ⌜ r ≤ at + 20 ⌝ }
 {
     let k = render::put_decimal(&mut *out, at, n);
@@ -34,7 +34,7 @@ fn decimal(out: &mut [u8], at: usize, n: u64) -> usize
 // A number behind the words before it.
 fn number(out: &mut [u8], at: usize, w: &[u8], n: u64) -> usize
     requires { ⌜ at ≤ 65536 ⌝ }
-    ensures placed { λ r. ⌜ Placed (now (out .entry)) at (now (w .entry) ++ decimalOf n) (now (out .exit)) r ⌝ }
+    ensures placed { λ r. ⌜ PutAt (now (out .entry)) at (now (w .entry) ++ decimalOf n) (now (out .exit)) r ⌝ }
     ensures short { λ r. ⌜ r ≤ at + length (now (w .entry)) + 20 ⌝ }
 {
     let next = word(&mut *out, at, w);
@@ -43,7 +43,7 @@ fn number(out: &mut [u8], at: usize, w: &[u8], n: u64) -> usize
 
 // The same, of any index that 16 bits hold; gives the index behind it.
 pub fn put_number(out: &mut [u8], at: u16, w: &[u8], n: u64) -> usize
-    ensures placed { λ r. ⌜ Placed (now (out .entry)) at (now (w .entry) ++ decimalOf n) (now (out .exit)) r ⌝ }
+    ensures placed { λ r. ⌜ PutAt (now (out .entry)) at (now (w .entry) ++ decimalOf n) (now (out .exit)) r ⌝ }
     ensures short { λ r. ⌜ r ≤ at + length (now (w .entry)) + 20 ⌝ }
 {
     number(&mut *out, at as usize, w, n)
@@ -51,7 +51,7 @@ pub fn put_number(out: &mut [u8], at: u16, w: &[u8], n: u64) -> usize
 
 fn one_value(out: &mut [u8], at: usize, n: usize) -> usize
     requires { ⌜ at ≤ 1024 ⌝ }
-    ensures placed { λ r. ⌜ Placed (now (out .entry)) at ((codesOf "(" ++ decimalOf n) ++ codesOf ")") (now (out .exit)) r ⌝ }
+    ensures placed { λ r. ⌜ PutAt (now (out .entry)) at ((codesOf "(" ++ decimalOf n) ++ codesOf ")") (now (out .exit)) r ⌝ }
     ensures short { λ r. ⌜ r ≤ at + 64 ⌝ }
 {
     let a = number(&mut *out, at, b"(", n as u64);
@@ -60,7 +60,7 @@ fn one_value(out: &mut [u8], at: usize, n: usize) -> usize
 
 fn two_values(out: &mut [u8], at: usize, m: usize, n: usize) -> usize
     requires { ⌜ at ≤ 1024 ⌝ }
-    ensures placed { λ r. ⌜ Placed (now (out .entry)) at (((codesOf "(" ++ decimalOf m) ++ (codesOf "," ++ decimalOf n)) ++ codesOf ")") (now (out .exit)) r ⌝ }
+    ensures placed { λ r. ⌜ PutAt (now (out .entry)) at (((codesOf "(" ++ decimalOf m) ++ (codesOf "," ++ decimalOf n)) ++ codesOf ")") (now (out .exit)) r ⌝ }
     ensures short { λ r. ⌜ r ≤ at + 64 ⌝ }
 {
     let a = number(&mut *out, at, b"(", m as u64);
@@ -70,7 +70,7 @@ fn two_values(out: &mut [u8], at: usize, m: usize, n: usize) -> usize
 
 fn values(out: &mut [u8], at: usize, v: Values) -> usize
     requires { ⌜ at ≤ 1024 ⌝ }
-    ensures placed { λ r. ⌜ Placed (now (out .entry)) at (valuesText (toldValues v)) (now (out .exit)) r ⌝ }
+    ensures placed { λ r. ⌜ PutAt (now (out .entry)) at (valuesText (toldValues v)) (now (out .exit)) r ⌝ }
     ensures short { λ r. ⌜ r ≤ at + 64 ⌝ }
 {
     match v {
@@ -81,7 +81,7 @@ fn values(out: &mut [u8], at: usize, v: Values) -> usize
 }
 
 fn refused_head(out: &mut [u8], offset: u64, e: Error) -> usize
-    ensures placed { λ r. ⌜ Placed (now (out .entry)) 0 (refusedHead offset e) (now (out .exit)) r ⌝ }
+    ensures placed { λ r. ⌜ PutAt (now (out .entry)) 0 (refusedHead offset e) (now (out .exit)) r ⌝ }
     ensures short { λ r. ⌜ r ≤ 64 ⌝ }
 {
     let a = decimal(&mut *out, 0, offset);
@@ -91,7 +91,7 @@ fn refused_head(out: &mut [u8], offset: u64, e: Error) -> usize
 
 fn name(out: &mut [u8], at: usize, e: Error) -> usize
     requires { ⌜ at ≤ 1024 ⌝ }
-    ensures placed { λ r. ⌜ Placed (now (out .entry)) at (nameOf e) (now (out .exit)) r ⌝ }
+    ensures placed { λ r. ⌜ PutAt (now (out .entry)) at (nameOf e) (now (out .exit)) r ⌝ }
     ensures short { λ r. ⌜ r ≤ at + 24 ⌝ }
 {
     let shown = names::name(e);
@@ -105,7 +105,7 @@ fn name(out: &mut [u8], at: usize, e: Error) -> usize
 
 fn taken_text(out: &mut [u8], at: usize, n: usize) -> usize
     requires { ⌜ at ≤ 1024 ⌝ }
-    ensures { λ r. ⌜ Placed (now (out .entry)) at (takenText n) (now (out .exit)) r ⌝ }
+    ensures { λ r. ⌜ PutAt (now (out .entry)) at (takenText n) (now (out .exit)) r ⌝ }
 {
     let a = number(&mut *out, at, b" taken=", n as u64);
     word(&mut *out, a, b"\n")
@@ -113,7 +113,7 @@ fn taken_text(out: &mut [u8], at: usize, n: usize) -> usize
 
 // The line of a refusal; gives how many bytes it is.
 pub fn put_refused(out: &mut [u8], offset: u64, e: Error, taken: usize) -> usize
-    ensures { λ r. ⌜ Placed (now (out .entry)) 0 (refusedLine offset e taken) (now (out .exit)) r ⌝ }
+    ensures { λ r. ⌜ PutAt (now (out .entry)) 0 (refusedLine offset e taken) (now (out .exit)) r ⌝ }
 {
     let a = refused_head(&mut *out, offset, e);
     let b = name(&mut *out, a, e);
@@ -122,7 +122,7 @@ pub fn put_refused(out: &mut [u8], offset: u64, e: Error, taken: usize) -> usize
 }
 
 fn too_long_at(out: &mut [u8], offset: u64, size: u64) -> usize
-    ensures placed { λ r. ⌜ Placed (now (out .entry)) 0 (tooLongAt offset size) (now (out .exit)) r ⌝ }
+    ensures placed { λ r. ⌜ PutAt (now (out .entry)) 0 (tooLongAt offset size) (now (out .exit)) r ⌝ }
     ensures short { λ r. ⌜ r ≤ 128 ⌝ }
 {
     let a = number(&mut *out, 0, b"desk: the frame at offset ", offset);
@@ -131,7 +131,7 @@ fn too_long_at(out: &mut [u8], offset: u64, size: u64) -> usize
 
 // The line for a frame of `size` bytes that no buffer of `most` holds; gives how many bytes it is.
 pub fn put_too_long(out: &mut [u8], offset: u64, size: u64, most: u64) -> usize
-    ensures { λ r. ⌜ Placed (now (out .entry)) 0 (tooLongLine offset size most) (now (out .exit)) r ⌝ }
+    ensures { λ r. ⌜ PutAt (now (out .entry)) 0 (tooLongLine offset size most) (now (out .exit)) r ⌝ }
 {
     let a = too_long_at(&mut *out, offset, size);
     let b = number(&mut *out, a, b" bytes, and the buffer holds ", most);

@@ -4,14 +4,14 @@ use mathlib.Core.List.{List}
 use Prim.Native.Nat.{ℕ, _+_}
 use native.Mathlib.Numerals.{add-one}
 use lib.ListN.{getD}
-use Rattle.lines.specs.Line.{Placed}
-use Rattle.lines.proofs.Laws.{placed-none, then}
+use Rattle.lines.specs.Line.{PutAt}
+use Rattle.lines.proofs.Laws.{put-none, then}
 use Rattle.tallies.specs.Tally.{refusalText, refusalsTo}
 
-pub to-none : (t l : List ℕ) (at : ℕ) → Placed l at (refusalsTo t 0) l at
+pub to-none : (t l : List ℕ) (at : ℕ) → PutAt l at (refusalsTo t 0) l at
 unfolding refusalsTo
-to-none t l at = placed-none l at
+to-none t l at = put-none l at
 
-pub to-next : (t : List ℕ) (k : ℕ) {l l₁ l₂ : List ℕ} {at m n : ℕ} → Placed l at (refusalsTo t k) l₁ m → Placed l₁ m (refusalText (k + 1) (getD t (k + 1) 0)) l₂ n → Placed l at (refusalsTo t (k + 1)) l₂ n
+pub to-next : (t : List ℕ) (k : ℕ) {l l₁ l₂ : List ℕ} {at m n : ℕ} → PutAt l at (refusalsTo t k) l₁ m → PutAt l₁ m (refusalText (k + 1) (getD t (k + 1) 0)) l₂ n → PutAt l at (refusalsTo t (k + 1)) l₂ n
 unfolding refusalsTo
-to-next t k {l} {l₁} {l₂} {at} {m} {n} p q = subst (λ (j : ℕ). Placed l at (refusalsTo t j) l₂ n) (sym (add-one k)) (then p q)
+to-next t k {l} {l₁} {l₂} {at} {m} {n} p q = subst (λ (j : ℕ). PutAt l at (refusalsTo t j) l₂ n) (sym (add-one k)) (then p q)

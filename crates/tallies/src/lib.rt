@@ -9,7 +9,7 @@ ghost use mathlib.Core.List.{_++_};
 ghost use Prim.Native.Nat.{_+_, _≤_};
 ghost use lib.ListN.{length, getD, replicate};
 ghost use Rattle.render.specs.Shown.{decimalOf};
-ghost use Rattle.lines.specs.Line.{Placed};
+ghost use Rattle.lines.specs.Line.{PutAt};
 ghost use Rattle.tallies.specs.Tally.{kindAt, oneMore, refusedMore, kindsText, pingsText, refusalText, refusalsTo, endText, summaryLine};
 
 // behind the numbers of refusals, those that are yet to come included
@@ -78,34 +78,43 @@ pub fn add_refused(tally: &mut [u64], e: Error)
 // A number behind the words before it.
 fn number(out: &mut [u8], at: usize, w: &[u8], n: u64) -> usize
     requires { ⌜ at ≤ 65535 ⌝ }
-    ensures placed { λ r. ⌜ Placed (now (out .entry)) at (now (w .entry) ++ decimalOf n) (now (out .exit)) r ⌝ }
+    ensures placed { λ r. ⌜ PutAt (now (out .entry)) at (now (w .entry) ++ decimalOf n) (now (out .exit)) r ⌝ }
     ensures short { λ r. ⌜ r ≤ at + length (now (w .entry)) + 20 ⌝ }
 {
     put_number(&mut *out, at as u16, w, n)
 }
 
+// A count behind the words before it.
+fn counted(out: &mut [u8], at: usize, w: &[u8], tally: &[u64], k: usize) -> usize
+    requires { ⌜ at ≤ 65535 ⌝ }
+    ensures placed { λ r. ⌜ PutAt (now (out .entry)) at (now (w .entry) ++ decimalOf (getD (now (tally .entry)) k 0)) (now (out .exit)) r ⌝ }
+    ensures short { λ r. ⌜ r ≤ at + length (now (w .entry)) + 20 ⌝ }
+{
+    number(&mut *out, at, w, count(tally, k))
+}
+
 fn kinds(out: &mut [u8], tally: &[u64]) -> usize
-    ensures placed { λ r. ⌜ Placed (now (out .entry)) 0 (kindsText (now (tally .entry))) (now (out .exit)) r ⌝ }
+    ensures placed { λ r. ⌜ PutAt (now (out .entry)) 0 (kindsText (now (tally .entry))) (now (out .exit)) r ⌝ }
     ensures short { λ r. ⌜ r ≤ 256 ⌝ }
 {
-    let a = number(&mut *out, 0, b"desk: publish=", count(tally, PUBLISH));
-    let b = number(&mut *out, a, b" subscribe=", count(tally, SUBSCRIBE));
-    number(&mut *out, b, b" puback=", count(tally, PUBACK))
+    let a = counted(&mut *out, 0, b"desk: publish=", tally, PUBLISH);
+    let b = counted(&mut *out, a, b" subscribe=", tally, SUBSCRIBE);
+    counted(&mut *out, b, b" puback=", tally, PUBACK)
 }
 
 fn pings(out: &mut [u8], at: usize, tally: &[u64]) -> usize
     requires { ⌜ at ≤ 1024 ⌝ }
-    ensures placed { λ r. ⌜ Placed (now (out .entry)) at (pingsText (now (tally .entry))) (now (out .exit)) r ⌝ }
+    ensures placed { λ r. ⌜ PutAt (now (out .entry)) at (pingsText (now (tally .entry))) (now (out .exit)) r ⌝ }
     ensures short { λ r. ⌜ r ≤ at + 256 ⌝ }
 {
-    let a = number(&mut *out, at, b" pingreq=", count(tally, PINGREQ));
-    let b = number(&mut *out, a, b" pingresp=", count(tally, PINGRESP));
-    number(&mut *out, b, b" refused=", count(tally, ALL))
+    let a = counted(&mut *out, at, b" pingreq=", tally, PINGREQ);
+    let b = counted(&mut *out, a, b" pingresp=", tally, PINGRESP);
+    counted(&mut *out, b, b" refused=", tally, ALL)
 }
 
 fn pair(out: &mut [u8], at: usize, k: usize, n: u64) -> usize
     requires { ⌜ at ≤ 4096 ⌝ }
-    ensures placed { λ r. ⌜ Placed (now (out .entry)) at (refusalText k n) (now (out .exit)) r ⌝ }
+    ensures placed { λ r. ⌜ PutAt (now (out .entry)) at (refusalText k n) (now (out .exit)) r ⌝ }
     ensures short { λ r. ⌜ r ≤ at + 64 ⌝ }
 {
     if n == 0 {
@@ -117,7 +126,7 @@ fn pair(out: &mut [u8], at: usize, k: usize, n: u64) -> usize
 
 fn refusals(out: &mut [u8], at: usize, tally: &[u64]) -> usize
     requires { ⌜ at ≤ 1024 ⌝ }
-    ensures placed { λ r. ⌜ Placed (now (out .entry)) at (refusalsTo (now (tally .entry)) 21) (now (out .exit)) r ⌝ }
+    ensures placed { λ r. ⌜ PutAt (now (out .entry)) at (refusalsTo (now (tally .entry)) 21) (now (out .exit)) r ⌝ }
     ensures short { λ r. ⌜ r ≤ at + 2048 ⌝ }
 {
     let mut next = at;
@@ -131,7 +140,7 @@ fn refusals(out: &mut [u8], at: usize, tally: &[u64]) -> usize
 
 fn end(out: &mut [u8], at: usize, bytes: u64) -> usize
     requires { ⌜ at ≤ 4096 ⌝ }
-    ensures { λ r. ⌜ Placed (now (out .entry)) at (endText bytes) (now (out .exit)) r ⌝ }
+    ensures { λ r. ⌜ PutAt (now (out .entry)) at (endText bytes) (now (out .exit)) r ⌝ }
 {
     let a = number(&mut *out, at, b" bytes=", bytes);
     put_bytes(&mut *out, a, b"\n");
@@ -140,7 +149,7 @@ fn end(out: &mut [u8], at: usize, bytes: u64) -> usize
 
 // The line of what was read; gives how many bytes it is.
 pub fn put_summary(out: &mut [u8], tally: &[u64], bytes: u64) -> usize
-    ensures { λ r. ⌜ Placed (now (out .entry)) 0 (summaryLine (now (tally .entry)) bytes) (now (out .exit)) r ⌝ }
+    ensures { λ r. ⌜ PutAt (now (out .entry)) 0 (summaryLine (now (tally .entry)) bytes) (now (out .exit)) r ⌝ }
 {
     let a = kinds(&mut *out, tally);
     let b = pings(&mut *out, a, tally);

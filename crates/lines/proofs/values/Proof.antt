@@ -1,7 +1,7 @@
 -- `lines::values` is right for none, one and two. Assumes nothing.
 use native.Mathlib.Omega.{arith}
 use borrow.Author.Needs.{needs}
-use Rattle.lines.proofs.Laws.{placed-none}
+use Rattle.lines.proofs.Laws.{put-none}
 use Rattle.lines.proofs.values.Statement.{statement}
 use Rattle.lines.proofs.values.Tie as tie
 
@@ -21,7 +21,7 @@ two-values-requires : tie.Need-two-values-requires
 two-values-requires c κs = search needs
 
 returns : tie.Need-returns
-returns c = rw (c .enum-told .given .1) (placed-none _ _, omega arith)
+returns c = rw (c .enum-told .given .1) (put-none _ _, omega arith)
 
 same-length : tie.Need-same-length
 same-length c = search needs

@@ -2,12 +2,12 @@
 use native.Mathlib.Omega.{arith}
 use borrow.Author.Needs.{needs}
 use borrow.Author.Tests.{ne-eqb}
-use Rattle.lines.proofs.Laws.{placed-none, then}
+use Rattle.lines.proofs.Laws.{put-none, then}
 use Rattle.tallies.proofs.pair.Statement.{statement}
 use Rattle.tallies.proofs.pair.Tie as tie
 
 returns : tie.Need-returns
-returns c = (rw (c .if1 .taken) (placed-none _ _), omega arith)
+returns c = (rw (c .if1 .taken) (put-none _ _), omega arith)
 
 slice-aggregate-number : tie.Need-slice-aggregate-number
 slice-aggregate-number c = search needs

@@ -5,14 +5,14 @@ use native.Mathlib.Omega.{arith}
 use borrow.Author.Needs.{needs}
 use lib.ListN.{length}
 use denote.Ref.{now}
-use Rattle.lines.specs.Line.{Placed}
+use Rattle.lines.specs.Line.{PutAt}
 use Rattle.tallies.specs.Tally.{refusalsTo}
 use Rattle.tallies.proofs.Laws.{to-none, to-next}
 use Rattle.tallies.proofs.refusals.Statement.{statement}
 use Rattle.tallies.proofs.refusals.Tie as tie
 
 abbrev Inv-loop : tie.InvT-loop
-Inv-loop out₀ at tally next₀ k₀ out next k = (length out ≡ length out₀) × (k ≤ 21) × (next ≤ at + 64 * k) × Placed out₀ at (refusalsTo tally k) out next
+Inv-loop out₀ at tally next₀ k₀ out next k = (length out ≡ length out₀) × (k ≤ 21) × (next ≤ at + 64 * k) × PutAt out₀ at (refusalsTo tally k) out next
 
 abbrev μ-loop : tie.MeasureT-loop
 μ-loop out₀ at tally next₀ k₀ out next k = 21 - k

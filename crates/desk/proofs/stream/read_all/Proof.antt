@@ -6,10 +6,10 @@ use Rattle.desk.proofs.stream.read_all.Statement.{statement}
 use Rattle.desk.proofs.stream.read_all.Tie as tie
 
 abbrev Inv-loop : tie.InvT-loop
-Inv-loop fd name limit buf₀ out₀ tally₀ d₀ turns₀ buf out tally d turns = (length buf ≡ length buf₀) × (length out ≡ length out₀) × (length tally ≡ length tally₀)
+Inv-loop fd limit buf₀ out₀ tally₀ d₀ turns₀ buf out tally d turns = (length buf ≡ length buf₀) × (length out ≡ length out₀) × (length tally ≡ length tally₀)
 
 abbrev μ-loop : tie.MeasureT-loop
-μ-loop fd name limit buf₀ out₀ tally₀ d₀ turns₀ buf out tally d turns = turns
+μ-loop fd limit buf₀ out₀ tally₀ d₀ turns₀ buf out tally d turns = turns
 
 loop-holds : tie.Need-loop-holds Inv-loop μ-loop
 loop-holds c = search needs
