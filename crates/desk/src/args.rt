@@ -3,11 +3,12 @@
 use words::Asked;
 
 // A word that is too long for the buffer is no word of desk's.
-fn with_arg(a: Asked, i: usize) -> Asked {
+fn with_arg(mut a: Asked, i: usize) -> Asked {
     let mut text = io::buffer();
     let n = os::arg(i, &mut text);
     if os::errno() != 0 {
-        return Asked { bad: true, ..a };
+        a.bad = true;
+        return a;
     }
     words::with_word(a, &text[..n], i)
 }

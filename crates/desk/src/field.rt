@@ -12,6 +12,15 @@ pub fn number(out: &mut [u8], at: usize, name: &[u8], n: u64) -> usize {
     output::decimal(&mut *out, value, n)
 }
 
+pub fn id(out: &mut [u8], at: usize, pkid: u16) -> usize {
+    number(&mut *out, at, b" id=", pkid as u64)
+}
+
+pub fn hex(out: &mut [u8], at: usize, name: &[u8], b: u8) -> usize {
+    let value = output::word(&mut *out, at, name);
+    output::hex(&mut *out, value, b)
+}
+
 // The part of s at a place, and the quote behind it.
 pub fn part(out: &mut [u8], at: usize, name: &[u8], s: &[u8], place: Span) -> usize {
     let value = output::word(&mut *out, at, name);

@@ -19,7 +19,7 @@ fn identifier(out: &mut [u8], at: usize, q: u8, pkid: u16) -> usize {
     if q == 0 {
         return at;
     }
-    field::number(&mut *out, at, b" id=", pkid as u64)
+    field::id(&mut *out, at, pkid)
 }
 
 fn flags(out: &mut [u8], at: usize, dup: bool, q: u8, retain: bool) -> usize {
@@ -96,7 +96,7 @@ fn subscribe_of(out: &mut [u8], at: usize, s: &[u8], m: Subscribe, taken: usize)
     let properties = m.properties;
     let filters = m.filters;
     let a = field::number(&mut *out, at, b" subscribe taken=", taken as u64);
-    let b = field::number(&mut *out, a, b" id=", m.pkid as u64);
+    let b = field::id(&mut *out, a, m.pkid);
     let c = subscribe_block(&mut *out, b, s, properties);
     list::filters(&mut *out, c, s, filters)
 }
@@ -113,19 +113,12 @@ fn puback_block(out: &mut [u8], at: usize, s: &[u8], properties: MaybePubAckProp
     }
 }
 
-// The reason, in two hexadecimal digits.
-fn reason(out: &mut [u8], at: usize, code: u8) -> usize {
-    let mut text = *b" reason=0x00";
-    render::put_hex(&mut text, 10, code);
-    output::word(&mut *out, at, &text)
-}
-
 fn puback_of(out: &mut [u8], at: usize, s: &[u8], m: PubAck, taken: usize) -> usize {
-    let code = m.reason;
+    let reason = m.reason;
     let properties = m.properties;
     let a = field::number(&mut *out, at, b" puback taken=", taken as u64);
-    let b = field::number(&mut *out, a, b" id=", m.pkid as u64);
-    let c = reason(&mut *out, b, reason_code(code));
+    let b = field::id(&mut *out, a, m.pkid);
+    let c = field::hex(&mut *out, b, b" reason=0x", reason_code(reason));
     puback_block(&mut *out, c, s, properties)
 }
 

@@ -11,23 +11,29 @@ use records::subscribe_record::Filter;
 use tables::property::PropertyPlace;
 use wire::string;
 
-fn user(out: &mut [u8], at: usize, s: &[u8], key: Span, value: Span) -> usize {
-    let a = field::part(&mut *out, at, b" user=\"", s, key);
-    field::part(&mut *out, a, b"=\"", s, value)
+// The field of a value that is a pair: only user properties are.
+fn user_if(out: &mut [u8], at: usize, s: &[u8], v: Value) -> usize {
+    if let Value::Pair(key, value) = v {
+        let a = field::part(&mut *out, at, b" user=\"", s, key);
+        return field::part(&mut *out, a, b"=\"", s, value);
+    }
+    at
 }
 
-// The field of a value of a list: only user properties are pairs, only subscription identifiers are variable length numbers.
-fn value_if(out: &mut [u8], at: usize, s: &[u8], v: Value, is_user: bool) -> usize {
-    if is_user {
-        if let Value::Pair(key, value) = v {
-            return user(&mut *out, at, s, key, value);
-        }
-        return at;
-    }
+// The field of a value that is a variable length number: only subscription identifiers are.
+fn identifier_if(out: &mut [u8], at: usize, v: Value) -> usize {
     if let Value::Number(id) = v {
         return field::number(&mut *out, at, b" subscription-id=", id as u64);
     }
     at
+}
+
+// The field of a value of a list: of the user properties, or of the subscription identifiers.
+fn value_if(out: &mut [u8], at: usize, s: &[u8], v: Value, is_user: bool) -> usize {
+    if is_user {
+        return user_if(&mut *out, at, s, v);
+    }
+    identifier_if(&mut *out, at, v)
 }
 
 // The values of a list in the block s.

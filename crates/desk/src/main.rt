@@ -14,12 +14,13 @@ fn read_file(a: Asked) -> u8 {
     let limit = a.limit;
     let mut path = io::buffer();
     let n = os::arg(a.file, &mut path);
-    let fd = os::open_read(&path[..n]);
+    let name = &path[..n];
+    let fd = os::open_read(name);
     if fd < 0 {
-        output::fail(&path[..n]);
+        output::fail(name);
         return 1;
     }
-    let status = stream::read(fd, &path[..n], limit);
+    let status = stream::read(fd, name, limit);
     libc::close(fd);
     status
 }

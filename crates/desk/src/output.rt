@@ -7,7 +7,7 @@ use wire::string;
 ghost use mathlib.Core.Path.{_≡_};
 ghost use Prim.Native.Nat.{_+_, _≤_};
 ghost use lib.ListN.{length};
-ghost use Rattle.render.specs.Shown.{decimalOf};
+ghost use Rattle.render.specs.Shown.{decimalOf, hexOf};
 ghost use Rattle.desk.specs.Put.{Put};
 
 // The index that no output has.
@@ -69,6 +69,15 @@ pub fn decimal(out: &mut [u8], at: usize, n: u64) -> usize
     let from = room(&*out, at, 20);
     let k = render::put_decimal(&mut *out, from, n);
     after(&*out, from, k)
+}
+
+// Two hexadecimal digits.
+pub fn hex(out: &mut [u8], at: usize, b: u8) -> usize
+    ensures { λ r. ⌜ Put (now (out .entry)) (hexOf b) (now (out .exit)) r ⌝ }
+{
+    let from = room(&*out, at, 2);
+    render::put_hex(&mut *out, from, b);
+    after(&*out, from, 2)
 }
 
 // The digit of a number below ten.

@@ -40,11 +40,6 @@ fn buffer() -> [u8; 1048576] {
     [0; 1048576]
 }
 
-fn in_state(mut d: Desk, state: u8) -> Desk {
-    d.state = state;
-    d
-}
-
 // How many bytes refusal 1 says are lacking, while there is more to read; else 0.
 fn lacking(state: u8, e: Error) -> usize {
     if state != GOING {
@@ -61,10 +56,12 @@ fn passed(mut d: Desk, put: usize, taken: usize) -> Desk {
     let held = d.held;
     d.put = put;
     if taken == 0 {
-        return in_state(d, STOPPED);
+        d.state = STOPPED;
+        return d;
     }
     if held.len < taken {
-        return in_state(d, STOPPED);
+        d.state = STOPPED;
+        return d;
     }
     let start = std::num::wrapping_add_usize(held.start, taken);
     let len = held.len - taken;
@@ -75,10 +72,11 @@ fn passed(mut d: Desk, put: usize, taken: usize) -> Desk {
 }
 
 // A refusal; that of no byte at all is the end of the stream.
-fn refused(out: &mut [u8], tally: &mut [u64], d: Desk, e: Error, taken: usize) -> Desk {
+fn refused(out: &mut [u8], tally: &mut [u64], mut d: Desk, e: Error, taken: usize) -> Desk {
     let held = d.held;
     if held.len == 0 {
-        return in_state(d, DONE);
+        d.state = DONE;
+        return d;
     }
     let put = output::refused(&mut *out, d.put, d.offset, e, taken);
     tallies::add_refused(&mut *tally, e);
@@ -138,19 +136,22 @@ fn fill(fd: i32, buf: &mut [u8], mut d: Desk) -> Desk {
         return d;
     }
     if got == 0 {
-        return in_state(d, ENDED);
+        d.state = ENDED;
+        return d;
     }
-    in_state(d, UNREADABLE)
+    d.state = UNREADABLE;
+    d
 }
 
 // The plain words for a frame that is too long, on standard error, if what was put before is written.
-fn too_long(out: &mut [u8], d: Desk, size: u64) -> Desk {
+fn too_long(out: &mut [u8], mut d: Desk, size: u64) -> Desk {
+    d.state = STOPPED;
     if output::is_lost(&*out, d.put) {
-        return in_state(d, STOPPED);
+        return d;
     }
     let len = lines::put_too_long(&mut *out, d.offset, size, 1048576);
     output::tell(&*out, len);
-    in_state(d, STOPPED)
+    d
 }
 
 // More of the stream, for a frame that lacks some bytes. What was put is written first: a line does not wait for input.
