@@ -1,4 +1,4 @@
-// A frame and its answer in 01's words, on standard output.
+// A frame and its answer on standard output, the fields and the refusals as `desk` writes them.
 use codes;
 use codes::reason_code;
 use publish_parts;
@@ -10,85 +10,69 @@ use records::packet_record::Packet;
 use records::puback_record::PubAck;
 use records::publish_record::MaybePublishProperties;
 use records::publish_record::Publish;
-use records::shown::Values;
 use records::span::Span;
 use records::subscribe_record::Filter;
 use records::subscribe_record::Subscribe;
-use refusals;
 use wire::string;
 
-fn byte(b: u8) -> u64 {
+fn wide(b: u8) -> u64 {
     b as u64
 }
 
-// The bytes in hexadecimal, or none.
-pub fn stream(s: &[u8]) {
-    if s.len() == 0 {
-        io::write_all(1, b"none");
-    }
+fn byte(b: u8) {
+    io::write_all(1, b" ");
+    io::print_hex(1, wide(b), 2);
+}
+
+// The bytes in hexadecimal, a space before each.
+pub fn bytes(s: &[u8]) {
     let mut i: usize = 0;
     while i < s.len() {
-        if 0 < i {
-            io::write_all(1, b" ");
-        }
-        io::print_hex(1, byte(s[i]), 2);
+        byte(s[i]);
         i = i + 1;
     }
+}
+
+// A number behind the words before it.
+pub fn number(words: &[u8], n: u64) {
+    io::write_all(1, words);
+    io::print_decimal(1, n);
+}
+
+// Bytes behind the words before them.
+fn text(words: &[u8], s: &[u8]) {
+    let mut out = [0u8; 64];
+    let shown = render::put_shown(&mut out, 0, s);
+    let place = Span {
+        start: 0,
+        len: shown.put,
+    };
+    io::write_all(1, words);
+    io::write_all(1, string::part(&out, place));
 }
 
 pub fn limit(limit: Limit) {
     if let Limit::AtMost(most) = limit {
-        io::write_all(1, b", limit ");
-        io::print_decimal(1, most as u64);
+        number(b", limit ", most as u64);
     }
 }
 
+// The end of a line that says a record.
 pub fn taken(taken: usize) {
-    io::write_all(1, b", taken ");
-    io::print_decimal(1, taken as u64);
+    number(b" taken=", taken as u64);
     io::write_all(1, b"\n");
 }
 
-// The number of the row, and its values.
-pub fn refusal(e: Error) {
-    io::print_decimal(1, byte(refusals::number(e)));
-    match refusals::values(e) {
-        Values::None => {}
-        Values::One(n) => {
-            io::write_all(1, b" with ");
-            io::print_decimal(1, n as u64);
-        }
-        Values::Two(m, n) => {
-            io::write_all(1, b" with ");
-            io::print_decimal(1, m as u64);
-            io::write_all(1, b", ");
-            io::print_decimal(1, n as u64);
-        }
-    }
+// The line of a refusal at offset 0.
+pub fn refused(e: Error, taken: usize) {
+    let mut out = [0u8; 128];
+    let len = lines::put_refused(&mut out, 0, e, taken);
+    io::write_all(1, b" ");
+    io::write_all(1, string::part(&out, Span { start: 0, len }));
 }
 
-// Is each byte a letter, a digit or a mark of ASCII?
-fn is_shown(s: &[u8]) -> bool {
-    let mut i: usize = 0;
-    while i < s.len() {
-        if s[i] <= 32 {
-            return false;
-        }
-        if 126 < s[i] {
-            return false;
-        }
-        i = i + 1;
-    }
-    true
-}
-
-// A part as text where it can be shown, else its bytes.
-fn part(s: &[u8]) {
-    if is_shown(s) {
-        io::write_all(1, s);
-    } else {
-        stream(s);
-    }
+fn identifier(id: u32) {
+    number(b" subscription-id=", id as u64);
 }
 
 // The subscription identifiers in the block; a block has fewer than it has bytes.
@@ -97,36 +81,25 @@ fn identifiers(s: &[u8], block: Span) {
     while n < s.len() {
         match items::subscription_identifier(s, block, n) {
             IdentifierItem::NoItem => return,
-            IdentifierItem::Number(id) => {
-                if n == 0 {
-                    io::write_all(1, b", identifiers ");
-                } else {
-                    io::write_all(1, b", ");
-                }
-                io::print_decimal(1, id as u64);
-            }
+            IdentifierItem::Number(id) => identifier(id),
         }
         n = n + 1;
     }
 }
 
 fn publish_of(s: &[u8], m: Publish) {
-    io::write_all(1, b"topic ");
-    part(publish_parts::topic(s, m));
+    text(b" topic=", publish_parts::topic(s, m));
     let properties = m.properties;
     if let MaybePublishProperties::Present(p) = properties {
         identifiers(s, p.block);
     }
-    io::write_all(1, b", payload ");
-    part(publish_parts::payload(s, m));
+    text(b" payload=", publish_parts::payload(s, m));
 }
 
 fn filter_of(s: &[u8], f: Filter) {
-    io::write_all(1, b"filter ");
-    part(string::part(s, f.path));
-    io::write_all(1, b", QoS ");
+    text(b" filter=", string::part(s, f.path));
     let q = f.qos;
-    io::print_decimal(1, byte(codes::qos_number(q)));
+    number(b" qos=", wide(codes::qos_number(q)));
 }
 
 // The filters of the run; it has fewer than it has bytes.
@@ -135,12 +108,7 @@ fn subscribe_of(s: &[u8], m: Subscribe) {
     while n < s.len() {
         match filter_runs::filter(s, m.filters, n) {
             FilterItem::NoItem => return,
-            FilterItem::Filter(f) => {
-                if 0 < n {
-                    io::write_all(1, b", ");
-                }
-                filter_of(s, f);
-            }
+            FilterItem::Filter(f) => filter_of(s, f),
         }
         n = n + 1;
     }
@@ -148,13 +116,12 @@ fn subscribe_of(s: &[u8], m: Subscribe) {
 
 fn puback_of(m: PubAck) {
     let reason = m.reason;
-    let code = byte(reason_code(reason));
-    if code == 0 {
-        io::write_all(1, b"success");
-    } else {
-        io::write_all(1, b"reason 0x");
-        io::print_hex(1, code, 2);
-    }
+    io::write_all(1, b" reason=0x");
+    io::print_hex(1, wide(reason_code(reason)), 2);
+}
+
+fn ping(kind: &[u8]) {
+    io::write_all(1, kind);
 }
 
 pub fn packet(s: &[u8], p: Packet) {
@@ -162,11 +129,7 @@ pub fn packet(s: &[u8], p: Packet) {
         Packet::Publish(m) => publish_of(s, m),
         Packet::PubAck(m) => puback_of(m),
         Packet::Subscribe(m) => subscribe_of(s, m),
-        Packet::PingReq => {
-            io::write_all(1, b"PingReq");
-        }
-        Packet::PingResp => {
-            io::write_all(1, b"PingResp");
-        }
+        Packet::PingReq => ping(b" PingReq"),
+        Packet::PingResp => ping(b" PingResp"),
     }
 }

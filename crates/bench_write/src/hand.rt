@@ -1,39 +1,235 @@
-// What is handed over to `packet_write` for each row: the parts that rows differ in, the others empty.
+// A row of the tables in main: what is handed over, field by field in the order below, a bar between two; fields left out are empty.
 use crate::show;
+use crate::text;
+use number_puts::length::write_remaining_length;
 use packet_parts::head::PacketHead;
 use packet_write::size;
 use packet_write::write;
 use puback_write::PubAckHead;
 use publish_plan::head::PublishHead;
 use records::answer::Limit;
+use records::answer::Written;
 use records::puback_record::PubAckReason;
 use records::qos::QoS;
 use records::span::MaybeU8;
 use records::span::MaybeU16;
 use records::span::MaybeU32;
+use records::span::Span;
+use string_puts::write_mqtt_bytes;
 use subscribe_write::SubscribeHead;
+use wire::string;
+ghost use Prim.Native.Nat.{_≤_};
+
+// The words of the line.
+const WHAT: usize = 0;
+
+// What is written: L a length, T a text, else a record: 0 or 1 a Publish at that QoS, F one with every property; A a PubAck, N one with
+// NoMatchingSubscribers; S a Subscribe, I one with the identifier 268,435,456; Q a PingReq, R a PingResp.
+const KIND: usize = 1;
+
+// How many bytes the output has, of which 44 at most are shown.
+const ROOM: usize = 2;
+
+const LIMIT: usize = 3;
+
+// The length that is written, or the record's identifier.
+const NUMBER: usize = 4;
+
+// The text that is written, or the topic.
+const TOPIC: usize = 5;
+
+const PAYLOAD: usize = 6;
+
+// Of a Publish or a PubAck: empty without a property set, - for a set, + for one with a string: a response topic, a reason string.
+const SET: usize = 7;
+
+const USER: usize = 8;
+
+const USER_LENGTHS: usize = 9;
+
+const IDENTIFIERS: usize = 10;
+
+const RESPONSE: usize = 11;
+
+const CORRELATION: usize = 12;
+
+const CONTENT: usize = 13;
+
+const REASON: usize = 14;
+
+// One filter of one byte, or none.
+const FILTERS: usize = 15;
+
+const OPTIONS: usize = 16;
+
+fn field<'a>(row: &'a [u8], n: usize) -> &'a [u8] {
+    text::part(row, b'|', n)
+}
+
+fn number(row: &[u8], n: usize) -> usize {
+    text::number(field(row, n))
+}
+
+// The first byte of a field, or 0.
+fn mark(row: &[u8], n: usize) -> u8 {
+    let s = field(row, n);
+    if s.len() == 0 {
+        return 0;
+    }
+    s[0]
+}
+
+fn limit(row: &[u8]) -> Limit {
+    if mark(row, LIMIT) == 0 {
+        return Limit::Unlimited;
+    }
+    Limit::AtMost(number(row, LIMIT))
+}
+
+fn least(n: usize, most: usize) -> usize
+    ensures { λ r. ⌜ r ≤ most ⌝ }
+{
+    if n < most { n } else { most }
+}
+
+// How many numbers a list has, at most two.
+fn count(row: &[u8], n: usize) -> usize
+    ensures { λ r. ⌜ r ≤ 2 ⌝ }
+{
+    if mark(row, n) == 0 {
+        return 0;
+    }
+    if text::part(field(row, n), b',', 1).len() == 0 {
+        return 1;
+    }
+    2
+}
+
+// The n-th number of a list.
+fn item(row: &[u8], list: usize, n: usize) -> usize {
+    text::number(text::part(field(row, list), b',', n))
+}
+
+fn user_lengths(row: &[u8]) -> [usize; 2] {
+    [item(row, USER_LENGTHS, 0), item(row, USER_LENGTHS, 1)]
+}
+
+fn identifier(row: &[u8], n: usize) -> u32 {
+    (item(row, IDENTIFIERS, n) % 4294967296) as u32
+}
+
+fn identifiers(row: &[u8]) -> [u32; 2] {
+    [identifier(row, 0), identifier(row, 1)]
+}
+
+fn pkid(row: &[u8]) -> u16 {
+    (number(row, NUMBER) % 65536) as u16
+}
+
+fn qos(row: &[u8]) -> QoS {
+    if mark(row, KIND) == b'0' {
+        return QoS::AtMostOnce;
+    }
+    QoS::AtLeastOnce
+}
+
+fn message(row: &[u8]) -> PacketHead {
+    let set = mark(row, SET);
+    PacketHead::Publish(PublishHead {
+        dup: false,
+        qos: qos(row),
+        retain: false,
+        pkid: pkid(row),
+        block: set != 0,
+        payload_format_indicator: MaybeU8::Absent,
+        message_expiry_interval: MaybeU32::Absent,
+        topic_alias: MaybeU16::Absent,
+        response_topic: set == b'+',
+        correlation_data: false,
+        content_type: false,
+    })
+}
+
+// With every flag and every property.
+fn full(row: &[u8]) -> PacketHead {
+    PacketHead::Publish(PublishHead {
+        dup: true,
+        qos: QoS::ExactlyOnce,
+        retain: true,
+        pkid: pkid(row),
+        block: true,
+        payload_format_indicator: MaybeU8::Present(1),
+        message_expiry_interval: MaybeU32::Present(3),
+        topic_alias: MaybeU16::Present(4),
+        response_topic: true,
+        correlation_data: true,
+        content_type: true,
+    })
+}
+
+fn reason(row: &[u8]) -> PubAckReason {
+    if mark(row, KIND) == b'A' {
+        return PubAckReason::Success;
+    }
+    PubAckReason::NoMatchingSubscribers
+}
+
+fn ack(row: &[u8]) -> PacketHead {
+    let set = mark(row, SET);
+    PacketHead::PubAck(PubAckHead {
+        pkid: pkid(row),
+        reason: reason(row),
+        block: set != 0,
+        reason_string: set == b'+',
+    })
+}
+
+fn id(row: &[u8]) -> MaybeU32 {
+    if mark(row, KIND) == b'S' {
+        return MaybeU32::Absent;
+    }
+    MaybeU32::Present(268435456)
+}
+
+fn wish(row: &[u8]) -> PacketHead {
+    PacketHead::Subscribe(SubscribeHead {
+        pkid: pkid(row),
+        block: true,
+        id: id(row),
+    })
+}
+
+fn head(row: &[u8]) -> PacketHead {
+    match mark(row, KIND) {
+        b'0' | b'1' => message(row),
+        b'F' => full(row),
+        b'A' | b'N' => ack(row),
+        b'S' | b'I' => wish(row),
+        b'Q' => PacketHead::PingReq,
+        _ => PacketHead::PingResp,
+    }
+}
 
 // The size asked alone, then the write.
 fn put(
-    rows: u64,
-    what: &[u8],
-    head: PacketHead,
+    row: &[u8],
     topic: &[u8],
-    response: &[u8],
-    correlation: &[u8],
-    user: &[u8],
     user_lengths: &[usize],
     ids: &[u32],
-    content: &[u8],
-    payload: &[u8],
-    reason: &[u8],
-    filters: &[u8],
     filter_lengths: &[usize],
-    options: &[u8],
-    limit: Limit,
     out: &mut [u8],
-) -> u64 {
-    let s = size(
+) -> Written {
+    let payload = field(row, PAYLOAD);
+    let user = field(row, USER);
+    let response = field(row, RESPONSE);
+    let correlation = field(row, CORRELATION);
+    let content = field(row, CONTENT);
+    let reason = field(row, REASON);
+    let filters = field(row, FILTERS);
+    let options = field(row, OPTIONS);
+    let limit = limit(row);
+    let head = head(row);
+    show::sized(size(
         head,
         topic,
         response,
@@ -47,8 +243,8 @@ fn put(
         filters,
         filter_lengths,
         options,
-    );
-    let w = write(
+    ));
+    write(
         head,
         topic,
         response,
@@ -64,341 +260,66 @@ fn put(
         options,
         limit,
         &mut *out,
-    );
-    show::row(rows, what, limit, s, w, &*out)
-}
-
-// A Publish with no property by value; `response` says whether there is a response topic.
-fn head(qos: QoS, pkid: u16, block: bool, response: bool) -> PublishHead {
-    PublishHead {
-        dup: false,
-        qos,
-        retain: false,
-        pkid,
-        block,
-        payload_format_indicator: MaybeU8::Absent,
-        message_expiry_interval: MaybeU32::Absent,
-        topic_alias: MaybeU16::Absent,
-        response_topic: response,
-        correlation_data: false,
-        content_type: false,
-    }
-}
-
-pub fn plain(qos: QoS, pkid: u16) -> PublishHead {
-    head(qos, pkid, false, false)
-}
-
-// At QoS 0, and whether with a property set.
-fn at_most_once(block: bool, response: bool) -> PublishHead {
-    head(QoS::AtMostOnce, 0, block, response)
-}
-
-// With every property.
-fn full() -> PublishHead {
-    PublishHead {
-        dup: true,
-        qos: QoS::ExactlyOnce,
-        retain: true,
-        pkid: 258,
-        block: true,
-        payload_format_indicator: MaybeU8::Present(1),
-        message_expiry_interval: MaybeU32::Present(3),
-        topic_alias: MaybeU16::Present(4),
-        response_topic: true,
-        correlation_data: true,
-        content_type: true,
-    }
-}
-
-fn wish_head(id: MaybeU32) -> SubscribeHead {
-    SubscribeHead {
-        pkid: 1,
-        block: true,
-        id,
-    }
-}
-
-fn reason(matching: bool) -> PubAckReason {
-    if matching {
-        return PubAckReason::Success;
-    }
-    PubAckReason::NoMatchingSubscribers
-}
-
-fn ack_head(matching: bool, block: bool, reason_string: bool) -> PubAckHead {
-    PubAckHead {
-        pkid: 10,
-        reason: reason(matching),
-        block,
-        reason_string,
-    }
-}
-
-// Topic a/b and payload hi.
-fn message(
-    rows: u64,
-    what: &[u8],
-    m: PublishHead,
-    response: &[u8],
-    user: &[u8],
-    lengths: &[usize],
-    ids: &[u32],
-    reason: &[u8],
-    limit: Limit,
-) -> u64 {
-    let none: &[u8] = b"";
-    let mut out = [0xAA; 18];
-    put(
-        rows,
-        what,
-        PacketHead::Publish(m),
-        b"a/b",
-        response,
-        none,
-        user,
-        lengths,
-        ids,
-        none,
-        b"hi",
-        reason,
-        none,
-        &[],
-        none,
-        limit,
-        &mut out,
     )
 }
 
-pub fn bare(rows: u64, what: &[u8], m: PublishHead, limit: Limit) -> u64 {
-    let none: &[u8] = b"";
-    message(rows, what, m, none, none, &[], &[], none, limit)
-}
-
-pub fn with_ids(rows: u64, what: &[u8], block: bool, ids: &[u32], limit: Limit) -> u64 {
-    let none: &[u8] = b"";
-    let m = at_most_once(block, false);
-    message(rows, what, m, none, none, &[], ids, none, limit)
-}
-
-pub fn with_user(rows: u64, what: &[u8], user: &[u8], lengths: &[usize], limit: Limit) -> u64 {
-    let none: &[u8] = b"";
-    let m = at_most_once(true, false);
-    message(rows, what, m, none, user, lengths, &[], none, limit)
-}
-
-// A response topic in a property set, `present` or not.
-pub fn with_response(rows: u64, what: &[u8], present: bool, response: &[u8], limit: Limit) -> u64 {
-    let none: &[u8] = b"";
-    let m = at_most_once(true, present);
-    message(rows, what, m, response, none, &[], &[], none, limit)
-}
-
-// The reason string of a PubAck.
-pub fn with_reason(rows: u64, what: &[u8], reason: &[u8]) -> u64 {
-    let none: &[u8] = b"";
-    let m = at_most_once(false, false);
-    message(
-        rows,
-        what,
-        m,
-        none,
-        none,
-        &[],
-        &[],
-        reason,
-        Limit::Unlimited,
-    )
-}
-
-// The same into an output that is too short.
-pub fn tight(rows: u64, what: &[u8]) -> u64 {
-    let none: &[u8] = b"";
-    let no_lengths: &[usize] = &[];
-    let mut out = [0xAA; 9];
+fn record(row: &[u8], topic: &[u8], out: &mut [u8]) -> Written {
+    let lengths = user_lengths(row);
+    let ids = identifiers(row);
+    let one = [1];
+    let users = count(row, USER_LENGTHS);
+    let given = count(row, IDENTIFIERS);
+    let filters = least(field(row, FILTERS).len(), 1);
     put(
-        rows,
-        what,
-        PacketHead::Publish(at_most_once(false, false)),
-        b"a/b",
-        none,
-        none,
-        none,
-        no_lengths,
-        &[],
-        none,
-        b"hi",
-        none,
-        none,
-        no_lengths,
-        none,
-        Limit::Unlimited,
-        &mut out,
-    )
-}
-
-// A topic that is too long.
-pub fn long(rows: u64, what: &[u8], limit: Limit) -> u64 {
-    let none: &[u8] = b"";
-    let no_lengths: &[usize] = &[];
-    let topic = [0x61; 65536];
-    let mut out = [0xAA; 4];
-    put(
-        rows,
-        what,
-        PacketHead::Publish(at_most_once(false, false)),
-        &topic,
-        none,
-        none,
-        none,
-        no_lengths,
-        &[],
-        none,
-        none,
-        none,
-        none,
-        no_lengths,
-        none,
-        limit,
-        &mut out,
-    )
-}
-
-// Every property of a Publish.
-pub fn laden(rows: u64, what: &[u8]) -> u64 {
-    let none: &[u8] = b"";
-    let mut out = [0xAA; 44];
-    put(
-        rows,
-        what,
-        PacketHead::Publish(full()),
-        b"a",
-        b"b",
-        b"\xFF",
-        b"kv",
-        &[1, 1],
-        &[5, 128],
-        b"c",
-        b"\x09",
-        none,
-        none,
-        &[],
-        none,
-        Limit::Unlimited,
-        &mut out,
-    )
-}
-
-pub fn wish(
-    rows: u64,
-    what: &[u8],
-    id: MaybeU32,
-    filters: &[u8],
-    lengths: &[usize],
-    options: &[u8],
-) -> u64 {
-    let none: &[u8] = b"";
-    let mut out = [0xAA; 10];
-    put(
-        rows,
-        what,
-        PacketHead::Subscribe(wish_head(id)),
-        none,
-        none,
-        none,
-        none,
-        &[],
-        &[],
-        none,
-        none,
-        none,
-        filters,
-        lengths,
-        options,
-        Limit::Unlimited,
-        &mut out,
-    )
-}
-
-// A wish for filter a.
-pub fn wish_a(rows: u64, what: &[u8], options: u8) -> u64 {
-    let given = [options];
-    wish(rows, what, MaybeU32::Absent, b"a", &[1], &given)
-}
-
-// A wish for nothing.
-pub fn no_wish(rows: u64, what: &[u8], id: MaybeU32) -> u64 {
-    let none: &[u8] = b"";
-    wish(rows, what, id, none, &[], none)
-}
-
-pub fn acked(
-    rows: u64,
-    what: &[u8],
-    matching: bool,
-    block: bool,
-    with_string: bool,
-    reason_string: &[u8],
-    payload: &[u8],
-) -> u64 {
-    let none: &[u8] = b"";
-    let no_lengths: &[usize] = &[];
-    let mut out = [0xAA; 11];
-    put(
-        rows,
-        what,
-        PacketHead::PubAck(ack_head(matching, block, with_string)),
-        none,
-        none,
-        none,
-        none,
-        no_lengths,
-        &[],
-        none,
-        payload,
-        reason_string,
-        none,
-        no_lengths,
-        none,
-        Limit::Unlimited,
-        &mut out,
-    )
-}
-
-// With no string.
-pub fn ack(rows: u64, what: &[u8], matching: bool, block: bool) -> u64 {
-    let none: &[u8] = b"";
-    acked(rows, what, matching, block, false, none, none)
-}
-
-fn ping_head(request: bool) -> PacketHead {
-    if request {
-        return PacketHead::PingReq;
-    }
-    PacketHead::PingResp
-}
-
-pub fn ping(rows: u64, what: &[u8], request: bool, topic: &[u8], limit: Limit) -> u64 {
-    let none: &[u8] = b"";
-    let no_lengths: &[usize] = &[];
-    let mut out = [0xAA; 3];
-    put(
-        rows,
-        what,
-        ping_head(request),
+        row,
         topic,
-        none,
-        none,
-        none,
-        no_lengths,
-        &[],
-        none,
-        none,
-        none,
-        none,
-        no_lengths,
-        none,
-        limit,
-        &mut out,
+        &lengths[..users],
+        &ids[..given],
+        &one[..filters],
+        &mut *out,
     )
+}
+
+fn written(row: &[u8], topic: &[u8], out: &mut [u8]) -> Written {
+    match mark(row, KIND) {
+        b'L' => write_remaining_length(&mut *out, number(row, NUMBER)),
+        b'T' => write_mqtt_bytes(&mut *out, topic),
+        _ => record(row, topic, &mut *out),
+    }
+}
+
+// The answers and the output; gives the count of rows.
+fn answered(rows: u64, row: &[u8], topic: &[u8], out: &mut [u8]) -> u64 {
+    show::written(written(row, topic, &mut *out));
+    let len = least(out.len(), 44);
+    show::output(rows, string::part(&*out, Span { start: 0, len }))
+}
+
+// The line of a row, its topic lent beside it.
+pub fn row(rows: u64, row: &[u8], topic: &[u8]) -> u64 {
+    io::write_all(1, field(row, WHAT));
+    let mut out = [0xAA; 65540];
+    let room = least(number(row, ROOM), 65540);
+    answered(rows, row, topic, &mut out[..room])
+}
+
+// The rows of a table; it has fewer than it has bytes.
+pub fn table(rows: u64, s: &[u8]) -> u64 {
+    let mut n = rows;
+    let mut i: usize = 0;
+    while i < s.len() {
+        let next = text::part(s, b'\n', i);
+        if next.len() == 0 {
+            return n;
+        }
+        n = row(n, next, field(next, TOPIC));
+        i = i + 1;
+    }
+    n
+}
+
+// A row with a text or topic of so many bytes, at most 65,536, each of them 61.
+pub fn long(rows: u64, text: &[u8], len: usize) -> u64 {
+    let topic = [0x61; 65536];
+    row(rows, text, string::part(&topic, Span { start: 0, len }))
 }

@@ -1,195 +1,101 @@
-// Runs 01's worked values of writing, a line for each, and counts them: the lengths, then records through `packet_write`, the size asked
-// alone before the write. Each line ends with the whole output, which held aa before. The file stdout was written from 01.
+// Runs 01's worked values of writing, a line for each, and counts them: the leaf writers, then records through `packet_write`, the size
+// asked alone before the write. Each line ends with the output, which held aa before, or its first 44 bytes. The file stdout was written
+// from 01. hand.rt has the fields of a row.
 mod hand;
 mod show;
+mod text;
 
-use number_puts::length::put_length;
-use records::answer::Limit;
-use records::qos::QoS;
-use records::span::MaybeU32;
-
-// 01, "Lengths".
-fn length(rows: u64, n: usize) -> u64 {
-    let mut out = [0xAA; 5];
-    put_length(&mut out, 0, n);
-    io::print_decimal(1, n as u64);
-    io::write_all(1, b": ");
-    show::bytes(&out);
-    show::end(rows)
-}
-
+// 01's "Lengths", and the ends of each width by its grammar: seven bits a byte, low group first, up to 268,435,455. Above that row 17, and
+// last of all row 19, here one byte short (01, writing order).
 fn lengths(rows: u64) -> u64 {
-    let mut n = length(rows, 0);
-    n = length(n, 127);
-    n = length(n, 128);
-    n = length(n, 16383);
-    n = length(n, 16384);
-    n = length(n, 2097151);
-    n = length(n, 2097152);
-    length(n, 268435455)
-}
-
-// The a/b record under its limits and into too short an output.
-fn limits(rows: u64) -> u64 {
-    let plain = hand::plain(QoS::AtMostOnce, 0);
-    let mut n = hand::bare(rows, b"a/b", plain, Limit::AtMost(9));
-    n = hand::bare(n, b"a/b", plain, Limit::AtMost(10));
-    hand::tight(n, b"a/b into 9 bytes")
-}
-
-// The a/b record with and without an identifier.
-fn names(rows: u64) -> u64 {
-    let named = hand::plain(QoS::AtLeastOnce, 10);
-    let n = hand::bare(rows, b"a/b, QoS 1", named, Limit::Unlimited);
-    let odd = hand::plain(QoS::AtMostOnce, 7);
-    hand::bare(n, b"a/b, QoS 0, identifier 7", odd, Limit::Unlimited)
-}
-
-fn no_names(rows: u64) -> u64 {
-    let unnamed = hand::plain(QoS::AtLeastOnce, 0);
-    let n = hand::bare(
+    hand::table(
         rows,
-        b"a/b, QoS 1, no identifier",
-        unnamed,
-        Limit::Unlimited,
-    );
-    hand::bare(n, b"a/b, QoS 1, no identifier", unnamed, Limit::AtMost(9))
-}
-
-// Subscription identifiers.
-fn identifiers(rows: u64) -> u64 {
-    let n = hand::with_ids(rows, b"a/b, empty set", true, &[], Limit::Unlimited);
-    hand::with_ids(
-        n,
-        b"a/b, identifiers 1, 128",
-        true,
-        &[1, 128],
-        Limit::Unlimited,
+        b"length 0|L|5||0\n\
+        length 127|L|5||127\n\
+        length 128|L|5||128\n\
+        length 16383|L|5||16383\n\
+        length 16384|L|5||16384\n\
+        length 2097151|L|5||2097151\n\
+        length 2097152|L|5||2097152\n\
+        length 268435455|L|5||268435455\n\
+        length 268435456|L|5||268435456\n\
+        length 4294967295|L|5||4294967295\n\
+        length 0 into 0 bytes|L|0||0\n\
+        length 128 into 1 byte|L|1||128\n\
+        length 16384 into 2 bytes|L|2||16384\n\
+        length 268435455 into 3 bytes|L|3||268435455\n\
+        length 268435456 into 3 bytes|L|3||268435456\n",
     )
 }
 
-fn large_identifier(rows: u64, limit: Limit) -> u64 {
-    hand::with_ids(
+// 01's grammar: a string is a u16 length and that many bytes. Row 18 above 65,535 bytes, then row 19, here one byte short.
+fn texts(rows: u64) -> u64 {
+    let n = hand::table(
         rows,
-        b"a/b, identifier 268435456",
-        true,
-        &[268435456],
-        limit,
-    )
-}
-
-// User properties.
-fn pairs(rows: u64) -> u64 {
-    let n = hand::with_user(rows, b"a/b, user k v", b"kv", &[1, 1], Limit::Unlimited);
-    hand::with_user(
-        n,
-        b"a/b, user not UTF-8",
-        b"k\xFF",
-        &[1, 1],
-        Limit::AtMost(0),
-    )
-}
-
-fn no_pairs(rows: u64) -> u64 {
-    let n = hand::with_user(
-        rows,
-        b"a/b, user lengths too long",
-        b"kv",
-        &[1, 18446744073709551615],
-        Limit::Unlimited,
+        b"empty text|T|3\n\
+        empty text into 1 byte|T|1\n\
+        text a/b|T|6|||a/b\n\
+        text a/b into 4 bytes|T|4|||a/b\n\
+        text not UTF-8|T|4|||\xFF\n",
     );
-    hand::with_user(n, b"a/b, one user length", b"k", &[1], Limit::Unlimited)
-}
-
-// A string that is not written.
-fn strings(rows: u64) -> u64 {
-    let n = hand::with_response(
-        rows,
-        b"a/b, response topic not UTF-8",
-        true,
-        b"\xFF",
-        Limit::AtMost(0),
-    );
-    hand::long(n, b"topic of 65536 bytes", Limit::AtMost(0))
-}
-
-// What is lent for an absent value or another kind.
-fn strange(rows: u64) -> u64 {
-    let n = hand::with_response(
-        rows,
-        b"a/b, bytes for no response topic",
-        false,
-        b"r",
-        Limit::Unlimited,
-    );
-    hand::with_reason(n, b"a/b, reason string", b"r")
-}
-
-fn identifier_for_no_set(rows: u64) -> u64 {
-    hand::with_ids(
-        rows,
-        b"a/b, identifier for no set",
-        false,
-        &[1],
-        Limit::Unlimited,
-    )
+    let longest = hand::long(n, b"text of 65535 bytes|T|65540", 65535);
+    let short = hand::long(longest, b"text of 65535 bytes into 65536|T|65536", 65535);
+    hand::long(short, b"text of 65536 bytes|T|65540", 65536)
 }
 
 // The a/b record and its like.
 fn messages(rows: u64) -> u64 {
-    let named = no_names(names(limits(rows)));
-    let n = large_identifier(identifiers(named), Limit::Unlimited);
-    let paired = no_pairs(pairs(large_identifier(n, Limit::AtMost(0))));
-    let lent = identifier_for_no_set(strange(strings(paired)));
-    hand::laden(lent, b"every property")
-}
-
-// Options.
-fn options(rows: u64) -> u64 {
-    let mut n = hand::wish_a(rows, b"filter a, options 01", 0x01);
-    n = hand::wish_a(n, b"filter a, options c1", 0xC1);
-    n = hand::wish_a(n, b"filter a, options 33", 0x33);
-    hand::wish_a(n, b"filter a, options 03", 0x03)
-}
-
-// Filters that are not written.
-fn filters(rows: u64) -> u64 {
-    let none = MaybeU32::Absent;
-    let n = hand::wish(
+    let n = hand::table(
         rows,
-        b"filter not UTF-8, options 33",
-        none,
-        b"\xFF",
-        &[1],
-        b"\x33",
+        b"a/b, limit 9|0|18|9||a/b|hi\n\
+        a/b, limit 10|0|18|10||a/b|hi\n\
+        a/b into 9 bytes|0|9|||a/b|hi\n\
+        a/b, QoS 1|1|18||10|a/b|hi\n\
+        a/b, QoS 0, identifier 7|0|18||7|a/b|hi\n\
+        a/b, QoS 1, no identifier|1|18|||a/b|hi\n\
+        a/b, QoS 1, no identifier, limit 9|1|18|9||a/b|hi\n\
+        a/b, empty set|0|18|||a/b|hi|-\n\
+        a/b, identifiers 1, 128|0|18|||a/b|hi|-|||1,128\n\
+        a/b, identifier 268435456|0|18|||a/b|hi|-|||268435456\n\
+        a/b, identifier 268435456, limit 0|0|18|0||a/b|hi|-|||268435456\n\
+        a/b, user k v|0|18|||a/b|hi|-|kv|1,1\n\
+        a/b, user not UTF-8, limit 0|0|18|0||a/b|hi|-|k\xFF|1,1\n\
+        a/b, user lengths too long|0|18|||a/b|hi|-|kv|1,18446744073709551615\n\
+        a/b, one user length|0|18|||a/b|hi|-|k|1\n\
+        a/b, response topic not UTF-8, limit 0|0|18|0||a/b|hi|+||||\xFF\n\
+        a/b, bytes for no response topic|0|18|||a/b|hi|-||||r\n\
+        a/b, reason string|0|18|||a/b|hi||||||||r\n\
+        a/b, identifier for no set|0|18|||a/b|hi||||1\n\
+        every property|F|44||258|a|\x09|+|kv|1,1|5,128|b|\xFF|c\n",
     );
-    hand::wish(n, b"filter a, no options", none, b"a", &[1], b"")
+    hand::long(n, b"topic of 65536 bytes, limit 0|0|4|0", 65536)
 }
 
-fn no_filters(rows: u64) -> u64 {
-    let large = MaybeU32::Present(268435456);
-    let n = hand::no_wish(rows, b"no filters, identifier 268435456", large);
-    hand::no_wish(n, b"no filters", MaybeU32::Absent)
-}
-
-fn acks(rows: u64) -> u64 {
-    let mut n = hand::ack(rows, b"PubAck", true, false);
-    n = hand::ack(n, b"PubAck, empty set", true, true);
-    n = hand::ack(n, b"PubAck, reason 0x10", false, false);
-    n = hand::acked(n, b"PubAck, reason string a", true, true, true, b"a", b"");
-    hand::acked(n, b"PubAck, payload", true, false, false, b"", b"hi")
-}
-
-fn pings(rows: u64) -> u64 {
-    let mut n = hand::ping(rows, b"PingReq", true, b"", Limit::Unlimited);
-    n = hand::ping(n, b"PingResp", false, b"", Limit::Unlimited);
-    n = hand::ping(n, b"PingReq", true, b"", Limit::AtMost(1));
-    hand::ping(n, b"PingReq, topic", true, b"a", Limit::AtMost(1))
+fn others(rows: u64) -> u64 {
+    hand::table(
+        rows,
+        b"filter a, options 01|S|10||1|||||||||||a|\x01\n\
+        filter a, options c1|S|10||1|||||||||||a|\xC1\n\
+        filter a, options 33|S|10||1|||||||||||a|\x33\n\
+        filter a, options 03|S|10||1|||||||||||a|\x03\n\
+        filter not UTF-8, options 33|S|10||1|||||||||||\xFF|\x33\n\
+        filter a, no options|S|10||1|||||||||||a\n\
+        no filters, identifier 268435456|I|10||1\n\
+        no filters|S|10||1\n\
+        PubAck|A|11||10\n\
+        PubAck, empty set|A|11||10|||-\n\
+        PubAck, reason 0x10|N|11||10\n\
+        PubAck, reason string a|A|11||10|||+|||||||a\n\
+        PubAck, payload|A|11||10||hi\n\
+        PingReq|Q|3\n\
+        PingResp|R|3\n\
+        PingReq, limit 1|Q|3|1\n\
+        PingReq, topic, limit 1|Q|3|1||a\n",
+    )
 }
 
 fn main() {
-    let sent = messages(lengths(0));
-    let rows = pings(acks(no_filters(filters(options(sent)))));
+    let rows = others(messages(texts(lengths(0))));
     io::print_decimal(1, rows);
     io::write_all(1, b" rows\n");
 }

@@ -6,10 +6,10 @@ use Rattle.bench_frames.proofs.show.identifiers.Statement.{statement}
 use Rattle.bench_frames.proofs.show.identifiers.Tie as tie
 
 abbrev Inv-loop : tie.InvT-loop
-Inv-loop s block n₀ t5 t6 n = Unit
+Inv-loop s block n₀ n = Unit
 
 abbrev μ-loop : tie.MeasureT-loop
-μ-loop s block n₀ t5 t6 n = length s - n
+μ-loop s block n₀ n = length s - n
 
 loop-holds : tie.Need-loop-holds Inv-loop μ-loop
 loop-holds c = search needs
@@ -26,23 +26,8 @@ returns c = search needs
 enum-known-id : tie.Need-enum-known-id Inv-loop μ-loop
 enum-known-id c = search needs
 
-slice-aggregate-write-all : tie.Need-slice-aggregate-write-all Inv-loop μ-loop
-slice-aggregate-write-all c = search needs
-
-write-all-requires : tie.Need-write-all-requires Inv-loop μ-loop
-write-all-requires c κs = search needs
-
-slice-aggregate-write-all-2 : tie.Need-slice-aggregate-write-all-2 Inv-loop μ-loop
-slice-aggregate-write-all-2 c = search needs
-
-write-all-requires-2 : tie.Need-write-all-requires-2 Inv-loop μ-loop
-write-all-requires-2 c κs = search needs
-
-cast-print-decimal : tie.Need-cast-print-decimal Inv-loop μ-loop
-cast-print-decimal c = search needs
-
-print-decimal-requires : tie.Need-print-decimal-requires Inv-loop μ-loop
-print-decimal-requires c κs = search needs
+identifier-requires : tie.Need-identifier-requires Inv-loop μ-loop
+identifier-requires c κs = search needs
 
 add-n : tie.Need-add-n Inv-loop μ-loop
 add-n c = search needs
@@ -67,12 +52,7 @@ identifiers-spec =
     enum-told
     returns
     enum-known-id
-    slice-aggregate-write-all
-    write-all-requires
-    slice-aggregate-write-all-2
-    write-all-requires-2
-    cast-print-decimal
-    print-decimal-requires
+    identifier-requires
     add-n
     loop-less
     loop-again

@@ -6,10 +6,10 @@ use Rattle.bench_frames.proofs.show.subscribe_of.Statement.{statement}
 use Rattle.bench_frames.proofs.show.subscribe_of.Tie as tie
 
 abbrev Inv-loop : tie.InvT-loop
-Inv-loop s m n₀ t5 n = Unit
+Inv-loop s m n₀ n = Unit
 
 abbrev μ-loop : tie.MeasureT-loop
-μ-loop s m n₀ t5 n = length s - n
+μ-loop s m n₀ n = length s - n
 
 loop-holds : tie.Need-loop-holds Inv-loop μ-loop
 loop-holds c = search needs
@@ -25,12 +25,6 @@ returns c = search needs
 
 enum-known-f : tie.Need-enum-known-f Inv-loop μ-loop
 enum-known-f c = search needs
-
-slice-aggregate-write-all : tie.Need-slice-aggregate-write-all Inv-loop μ-loop
-slice-aggregate-write-all c = search needs
-
-write-all-requires : tie.Need-write-all-requires Inv-loop μ-loop
-write-all-requires c κs = search needs
 
 filter-of-requires : tie.Need-filter-of-requires Inv-loop μ-loop
 filter-of-requires c κs = search needs
@@ -58,8 +52,6 @@ subscribe-of-spec =
     enum-told
     returns
     enum-known-f
-    slice-aggregate-write-all
-    write-all-requires
     filter-of-requires
     add-n
     loop-less
