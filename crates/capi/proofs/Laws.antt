@@ -12,7 +12,7 @@ use Rattle.writing.specs.Handed.{Handed}
 use Rattle.writing.specs.Write.{Written}
 use Rattle.names.specs.Names.{padded}
 use Rattle.names.specs.declared.shown.Name.{Name}
-use Rattle.wire.proofs.Laws.Strings.{held-within}
+use Rattle.wire.proofs.Laws.{held-within}
 use Rattle.layout.specs.Item.{fitNumber}
 use Rattle.layout.specs.Answer.{answerNumbers}
 use Rattle.given.specs.Written.{answeredBehind, outBehind}

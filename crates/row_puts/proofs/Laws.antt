@@ -17,7 +17,7 @@ use Rattle.writing.proofs.Tests.{le-or}
 use Rattle.writing.proofs.Sizes.{length-string}
 use Rattle.writing.proofs.ForCode.{runFrom, stringAt, strings-done}
 use Rattle.byte_puts.proofs.Laws.{sets-append, sets-out}
-use Rattle.number_puts.proofs.Laws.Put.{length-wide}
+use Rattle.writing.proofs.Says.{length-wide}
 use Rattle.rows.specs.Given.{givenLent}
 use Rattle.rows.proofs.Laws.Run.{strings-cut}
 use Rattle.row_puts.specs.Put.{Put}

@@ -17,7 +17,7 @@ use Rattle.writing.specs.Size.{most}
 use Rattle.writing.specs.Order.{judge, Field, raw, word, reads, fieldTests, small}
 use Rattle.writing.proofs.Judge.{judge-append, fields-more}
 use Rattle.utf8.specs.Text.{allAscii}
-use Rattle.utf8.proofs.Laws.Text.{and-both, ascii-split, ascii-text}
+use Rattle.utf8.proofs.Laws.{and-both, ascii-split, ascii-text}
 
 -- ---- one field
 
