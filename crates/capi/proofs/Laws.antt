@@ -8,7 +8,7 @@ use lib.Seq.{sets, take-append-seam}
 use Rattle.reading.specs.Place.{heldOf}
 use Rattle.names.specs.Names.{padded}
 use Rattle.names.specs.declared.shown.Name.{Name}
-use Rattle.wire.proofs.Laws.Strings.{held-within}
+use Rattle.wire.proofs.Laws.{held-within}
 
 -- the front of a list, as it is looked up by its place
 front-held : (b r : List ℕ) → heldOf (b ++ r) (record { start = 0; len = length b }) ≡ b

@@ -7,7 +7,7 @@ use native.Mathlib.Numerals.{add-one}
 use lib.ListN.{length, take, drop, getD, set, length-append, length-drop}
 use lib.Seq.{sets, length-sets, paste, paste-suc, getD-drop, drop-at, length-take-le, take-at}
 use Rattle.reading.specs.Place.{Span}
-use Rattle.wire.proofs.Laws.Strings.{held-within}
+use Rattle.wire.proofs.Laws.{held-within}
 use Rattle.desk.specs.Held.{fronted, Kept}
 use Rattle.desk.specs.Put.{Put}
 

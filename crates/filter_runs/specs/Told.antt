@@ -1,9 +1,9 @@
 -- What the answers on a run of filters tell, in 01's numbers and values. Assumes nothing.
+use mathlib.Core.Bool.{cond}
 use mathlib.Core.Path.{_≡_}
 use mathlib.Core.List.{List}
 use Prim.Native.Nat.{ℕ}
 use lib.Dec.{eqb}
-use Rattle.grammar.specs.Choice.{pick}
 use Rattle.grammar.specs.Record as record-of
 use Rattle.reading.specs.Reader.{Fit, got, bad, Filler, _>>=_, handFit}
 use Rattle.reading.specs.Read.{filtersFit}
@@ -28,7 +28,7 @@ placeFit = handFit (λ vs. asPlaces .run (record-of.Filter place.Span) vs) (filt
 
 -- the filter f at its turn, else what was there
 abbrev pub chosen : FilterItem → Filter → ℕ → ℕ → Fit (record-of.Filter place.Span)
-chosen item f turn n = pick (eqb turn n) (got (toldFilter f)) (toldFilterItem item)
+chosen item f turn n = cond (eqb turn n) (got (toldFilter f)) (toldFilterItem item)
 
 -- 01, row 21: the n-th filter of what fills a run, or none: `filterAt` of a run that ends where its bytes do
 abbrev pub nthFit : ℕ → ℕ → Filler (record-of.Filter place.Span)

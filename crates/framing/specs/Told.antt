@@ -2,13 +2,13 @@
 use mathlib.Core.Bool.{Bool, true, false}
 use mathlib.Core.Option.{Option, none, some}
 use mathlib.Core.List.{List, [], _∷_}
-use Prim.Native.Nat.{ℕ, _+_, _-_}
+use Prim.Native.Nat.{ℕ, _+_}
 use lib.Dec.{leb}
 use lib.ListN.{length}
 use Rattle.grammar.specs.Choice.{isIn, lookup}
 use Rattle.grammar.specs.Tables.{reasons, Layout, aPublish, anAck, aSubscribe, aPing, kinds, reserved}
 use Rattle.grammar.specs.Record.{kindOf}
-use Rattle.reading.specs.Refusal.{nr, within, over}
+use Rattle.reading.specs.Refusal.{nr, missing, within, over}
 use Rattle.reading.specs.Reader.{Fit, got, bad, _>>_, guard, Reader, thenOf}
 use Rattle.reading.specs.Read.{byteOf, numOf, frameOf}
 use Rattle.reading.specs.Place.{partOf}
@@ -46,6 +46,7 @@ headerOf = thenOf (byteOf (nr 1 (2 ∷ []))) (λ _. numOf (nr 1 (1 ∷ [])) 4)
 abbrev pub headerIn : FixedHeader → (ℕ × ℕ) × ℕ
 headerIn h = ((h .byte1, h .«remaining_len»), h .«fixed_header_len»)
 
+-- 01, rows 1 to 3: the header and the index after it, or the refusal
 abbrev pub toldHeader : Checked → Fit ((ℕ × ℕ) × ℕ)
 toldHeader (Header h) = got (headerIn h)
 toldHeader (Refused e) = bad (toldError e)
@@ -56,11 +57,7 @@ limitedTo limit z = guard (within limit (z .0 .1)) (over limit (z .0 .1)) >> got
 
 -- 01, row 1: a header with n bytes held behind it
 abbrev pub wholeIn : ℕ → (ℕ × ℕ) × ℕ → Fit ((ℕ × ℕ) × ℕ)
-wholeIn n z = guard (leb (z .0 .1) n) (nr 1 ((z .0 .1 - n) ∷ [])) >> got z
-
--- 01, reading order: the first refusal of two
-abbrev pub first : Fit ((ℕ × ℕ) × ℕ) → Fit ((ℕ × ℕ) × ℕ) → Fit ((ℕ × ℕ) × ℕ)
-first a b = a >> b
+wholeIn n z = guard (leb (z .0 .1) n) (missing (z .0 .1) n) >> got z
 
 -- a frame at the start of the stream s
 abbrev pub frameAt : Option ℕ → List ℕ → Fit ((ℕ × List ℕ) × ℕ)

@@ -5,9 +5,10 @@ use records::error::Error;
 use var_length;
 use var_length::GotLength;
 ghost use mathlib.Core.Path.{_≡_};
+ghost use Rattle.reading.specs.Reader.{_>>_ as first};
 ghost use Rattle.positions.specs.Position.{fromAt};
 ghost use Rattle.records.specs.Told.{limitOf};
-ghost use Rattle.framing.specs.Told.{headerIn, headerOf, toldHeader, limitedTo, wholeIn, first, frameAt, toldChecked};
+ghost use Rattle.framing.specs.Told.{headerIn, headerOf, toldHeader, limitedTo, wholeIn, frameAt, toldChecked};
 
 pub enum Checked {
     Header(FixedHeader),

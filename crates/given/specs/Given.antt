@@ -1,10 +1,9 @@
 -- What C hands over to be written, from the arguments in the order of bindings/c/ecchjulmina.h. Assumes nothing.
-use mathlib.Core.Bool.{Bool, not}
+use mathlib.Core.Bool.{Bool, not, cond}
 use mathlib.Core.Option.{Option, none, some}
 use mathlib.Core.List.{List}
 use Prim.Native.Nat.{ℕ}
 use lib.Dec.{eqb}
-use Rattle.grammar.specs.Choice.{pick}
 use Rattle.reading.specs.Reader.{Fit, got, _>>=_}
 use Rattle.writing.specs.Handed.{Lent, Handed, SubscribeHanded, publish, ack}
 use Rattle.records.specs.Told.{toldBool}
@@ -18,14 +17,14 @@ isOn n = not (eqb n 0)
 
 -- header: "If `limited` is not 0"
 abbrev pub limitGiven : ℕ → ℕ → Option ℕ
-limitGiven l n = pick (eqb l 0) none (some n)
+limitGiven l n = cond (eqb l 0) none (some n)
 
 -- header: "`.._on` says whether the value behind it is present", of a number
 abbrev pub maybe : ℕ → ℕ → Option ℕ
-maybe on n = pick (isOn on) (some n) none
+maybe on n = cond (isOn on) (some n) none
 
 -- the same of bytes
-abbrev pub lentBy : ℕ → List ℕ → Lent
+abbrev lentBy : ℕ → List ℕ → Lent
 lentBy on b = record { on = isOn on; bytes = b }
 
 -- ecch_publish_size, ecch_publish_write; header: refusal 11 before all else

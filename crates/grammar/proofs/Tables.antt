@@ -1,10 +1,10 @@
 -- Each entry of the tables, held against a second spelling, ordered by number, by computation. Assumes nothing.
 use mathlib.Core.Path.{_≡_, refl}
-use mathlib.Core.Bool.{Bool, true, false, not, _&&_}
+use mathlib.Core.Bool.{Bool, true, false, not, _&&_, cond}
 use mathlib.Core.Option.{Option, none, some}
 use mathlib.Core.List.{List, [], _∷_}
 use Prim.Native.Nat.{ℕ, zero, suc}
-use Rattle.grammar.specs.Choice.{pick, isIn, lookup}
+use Rattle.grammar.specs.Choice.{isIn, lookup}
 use Rattle.grammar.specs.Tables.{u8, u16, u32, number, text, bytes, pair, publishPlace, subscribePlace, ackPlace, reasons, Layout, aPublish, anAck, aSubscribe, aPing, kinds, reserved, isPing}
 
 -- k numbers from n on
@@ -25,7 +25,7 @@ known f (i ∷ l) = entry i (f i) (known f l)
 -- those of the numbers that pass the test
 abbrev pub chosen : (ℕ → Bool) → List ℕ → List ℕ
 chosen t [] = []
-chosen t (i ∷ l) = pick (t i) (i ∷ chosen t l) (chosen t l)
+chosen t (i ∷ l) = cond (t i) (i ∷ chosen t l) (chosen t l)
 
 -- nothing is said
 abbrev isNone : Option Layout → Bool

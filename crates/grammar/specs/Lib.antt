@@ -1,5 +1,6 @@
 pub mod Choice
 pub mod Gram
+pub mod Octets
 pub mod Number
 pub mod Text
 pub mod Tables

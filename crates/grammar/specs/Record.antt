@@ -1,10 +1,10 @@
 -- What a packet says: a record for each layout. S is what a string is handed back as, L A what a list of As is: in the language they are
 -- bytes and lists, in a reader's answer places in the stream (01, "What must change shape"). Assumes nothing.
+use mathlib.Core.Bool.{cond}
 use mathlib.Core.Option.{Option, none, some}
 use mathlib.Core.List.{List, [], _∷_}
 use Prim.Native.Nat.{ℕ, _/_, _%_}
 use lib.Dec.{eqb}
-use Rattle.grammar.specs.Choice.{pick}
 
 -- ---- properties
 
@@ -21,7 +21,7 @@ PropOf S = ℕ × Val S
 -- 01, grammar: "Of a single-valued property given twice the last counts"; o is what came before
 abbrev pub lastFrom : {S : Type 0} → Option (Val S) → ℕ → List (PropOf S) → Option (Val S)
 lastFrom o i [] = o
-lastFrom o i (p ∷ ps) = lastFrom (pick (eqb (p .0) i) (some (p .1)) o) i ps
+lastFrom o i (p ∷ ps) = lastFrom (cond (eqb (p .0) i) (some (p .1)) o) i ps
 
 -- 01, grammar: the same of a whole block, before which nothing came
 unfoldable pub lastOf : {S : Type 0} → ℕ → List (PropOf S) → Option (Val S)
@@ -30,7 +30,7 @@ lastOf i ps = lastFrom none i ps
 -- 01, grammar: "38, and 11 in Publish, are lists kept in order"
 unfoldable pub allOf : {S : Type 0} → ℕ → List (PropOf S) → List (Val S)
 allOf i [] = []
-allOf i (p ∷ ps) = pick (eqb (p .0) i) (p .1 ∷ allOf i ps) (allOf i ps)
+allOf i (p ∷ ps) = cond (eqb (p .0) i) (p .1 ∷ allOf i ps) (allOf i ps)
 
 -- 01, grammar: "L = 0 means absent"
 abbrev pub unlessEmpty : {S A : Type 0} → (List (PropOf S) → A) → List (PropOf S) → Option A

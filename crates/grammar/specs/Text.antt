@@ -1,10 +1,9 @@
 -- Text: the Unicode table of well-formed byte sequences. Assumes nothing.
-use mathlib.Core.Bool.{Bool, false}
+use mathlib.Core.Bool.{Bool, false, cond}
 use mathlib.Core.Option.{Option, none, some}
 use mathlib.Core.List.{List, [], _∷_}
 use Prim.Native.Nat.{ℕ}
 use lib.Dec.{leb}
-use Rattle.grammar.specs.Choice.{pick}
 use Rattle.grammar.specs.Gram.{Nothing, Never, Map, Only, Then, Many}
 use Rattle.grammar.specs.Number.{Byte}
 
@@ -14,7 +13,7 @@ Range = ℕ × ℕ
 
 -- x lies in the cell
 abbrev pub inRange : Range → ℕ → Bool
-inRange r x = pick (leb (r .0) x) (leb x (r .1)) false
+inRange r x = cond (leb (r .0) x) (leb x (r .1)) false
 
 -- Unicode, table 3-7: a row, the first byte and the bytes after it
 abbrev pub Row : Type 0
@@ -41,7 +40,7 @@ rows =
 -- Unicode, table 3-7: what the row of a first byte asks for after it
 abbrev pub rowAt : List Row → ℕ → Option (List Range)
 rowAt [] x = none
-rowAt (r ∷ rs) x = pick (inRange (r .0) x) (some (r .1)) (rowAt rs x)
+rowAt (r ∷ rs) x = cond (inRange (r .0) x) (some (r .1)) (rowAt rs x)
 
 -- a byte before others
 abbrev pub cons : ℕ × List ℕ → List ℕ

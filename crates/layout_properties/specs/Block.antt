@@ -1,6 +1,5 @@
 -- The properties of an answer under the names of the layout. Assumes nothing.
 use mathlib.Core.Option.{Option, none, some}
-use Prim.Native.Nat.{ℕ}
 use Rattle.grammar.specs.Record.{Val, num, str, duo, PublishProps, SubscribeProps, AckProps, publish, ack, subscribe, ping}
 use Rattle.reading.specs.Place.{Span, Placed}
 use Rattle.layout.specs.declared.place.Number.{Number}

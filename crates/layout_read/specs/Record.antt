@@ -4,7 +4,7 @@ use Prim.Native.Nat.{ℕ}
 use Rattle.grammar.specs.Record.{publish, ack, subscribe, ping}
 use Rattle.reading.specs.Refusal.{Answer, accepted, refused}
 use Rattle.reading.specs.Place.{Placed}
-use Rattle.reading.specs.Place as place
+use Rattle.records.specs.Told.{backSpan}
 use Rattle.records.specs.declared.span.Span.{Span}
 use Rattle.layout.specs.declared.place.Head.{Head}
 use Rattle.layout.specs.Layout.{numbersOf}
@@ -16,10 +16,6 @@ use Rattle.layout_properties.specs.Block.{noBlock, blockOf}
 -- no place
 abbrev pub noSpan : Span
 noSpan = record { start = 0; len = 0 }
-
--- a place, as it is
-abbrev pub spanned : place.Span → Span
-spanned p = record { start = p .start; len = p .len }
 
 -- a refusal: bytes taken, and its values
 abbrev pub refusedHead : ℕ → ℕ → ℕ → Head
@@ -67,12 +63,12 @@ headOf n (publish m) = record {
   qos = m .qos;
   retain = m .retain;
   reason = 0;
-  topic = spanned (m .topic);
-  payload = spanned (m .payload);
+  topic = backSpan (m .topic);
+  payload = backSpan (m .payload);
   filters = noSpan;
 }
 headOf n (ack k m) = plainHead n k (m .ident) (m .reason) noSpan
-headOf n (subscribe m) = plainHead n 8 (m .ident) 0 (spanned (m .filters))
+headOf n (subscribe m) = plainHead n 8 (m .ident) 0 (backSpan (m .filters))
 headOf n (ping k) = plainHead n k 0 0 noSpan
 
 -- ---- an answer

@@ -15,7 +15,8 @@ use Rattle.positions.specs.Position.{fromAt}
 use Rattle.positions.proofs.Position.{got-left, got-within, bad-left}
 use Rattle.positions.proofs.Trails.{trails-reads}
 use Rattle.positions.proofs.Walk.{Less, fold-nil, fold-bad, fold-next}
-use Rattle.leaf_bench.specs.Numbers.{orZero, wrapped, sumFrom, sumOf}
+use Rattle.positions.specs.Count.{wrapped, orZero}
+use Rattle.leaf_bench.specs.Numbers.{sumFrom, sumOf}
 
 num-less : (bound : ℕ) → Less bound (numOf cut 4)
 num-less bound s z h e = less (reads-num cut 4) (num-solid 4) s z e

@@ -1,10 +1,11 @@
 -- What the functions on numbers hand back of what is read. Assumes nothing.
 use mathlib.Core.List.{List}
-use Prim.Native.Nat.{ℕ, _+_, _%_, _^_}
+use Prim.Native.Nat.{ℕ}
 use Rattle.grammar.specs.Gram.{forget}
 use Rattle.reading.specs.Refusal.{cut}
 use Rattle.reading.specs.Reader.{Fit, got, bad, foldFit}
 use Rattle.reading.specs.Read.{numOf}
+use Rattle.positions.specs.Count.{wrapped, orZero}
 
 -- the index after the number, or 0
 abbrev pub nextOf : Fit (ℕ × ℕ) → ℕ
@@ -15,15 +16,6 @@ nextOf (bad k) = 0
 abbrev pub valueOf : ℕ → Fit (ℕ × ℕ) → ℕ
 valueOf old (got (n, next)) = n
 valueOf old (bad k) = old
-
--- a sum, or 0
-abbrev pub orZero : Fit ℕ → ℕ
-orZero (got n) = n
-orZero (bad k) = 0
-
--- one number more, in 64 bits
-abbrev pub wrapped : ℕ → ℕ → ℕ
-wrapped sum n = (sum + n) % 2 ^ 64
 
 -- the sum of the numbers that fill s, beside what came before
 abbrev pub sumFrom : ℕ → List ℕ → Fit ℕ

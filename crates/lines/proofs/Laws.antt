@@ -1,15 +1,15 @@
 -- What is put behind what was put is one put of both. Assumes nothing.
 use mathlib.Core.Path.{_≡_, refl, sym, _∙_}
 use mathlib.Core.List.{List, [], _++_}
-use Prim.Native.Nat.{ℕ, _+_, _≤_}
+use Prim.Native.Nat.{ℕ, _≤_}
 use native.Mathlib.Omega.{arith}
 use lib.ListN.{length, replicate, length-append}
-use lib.Seq.{sets, take-at}
+use lib.Seq.{take-at}
 use Rattle.reading.specs.Place.{heldOf}
 use Rattle.records.specs.declared.error.Error.{Error}
 use Rattle.names.specs.Names.{names, nameAt, nameOf}
 use Rattle.byte_puts.proofs.Laws.{sets-then}
-use Rattle.wire.proofs.Laws.Strings.{held-within}
+use Rattle.wire.proofs.Laws.{held-within}
 use Rattle.lines.specs.Line.{PutAt}
 
 pub put-none : (l : List ℕ) (at : ℕ) → PutAt l at [] l at

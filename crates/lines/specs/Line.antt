@@ -36,5 +36,6 @@ refusedLine offset e taken = ((refusedHead offset e ++ nameOf e) ++ valuesText (
 abbrev pub tooLongAt : ℕ → ℕ → List ℕ
 tooLongAt offset size = (codesOf "desk: the frame at offset " ++ decimalOf offset) ++ (codesOf " has " ++ decimalOf size)
 
+-- the whole line, with the size of the buffer
 abbrev pub tooLongLine : ℕ → ℕ → ℕ → List ℕ
 tooLongLine offset size most = (tooLongAt offset size ++ (codesOf " bytes, and the buffer holds " ++ decimalOf most)) ++ (codesOf ": stopped there" ++ (10 ∷ []))

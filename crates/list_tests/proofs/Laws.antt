@@ -14,7 +14,7 @@ use Rattle.writing.specs.Lists.{flat, pieces}
 use Rattle.writing.specs.Order.{judge, word, fieldTests, small}
 use Rattle.writing.proofs.Judge.{judge-append, fields-more}
 use Rattle.utf8.specs.Text.{allAscii}
-use Rattle.utf8.proofs.Laws.Text.{and-both, ascii-split, ascii-text}
+use Rattle.utf8.proofs.Laws.{and-both, ascii-split, ascii-text}
 
 -- those from the i-th on decide
 abbrev pub Left : List ℕ → ℕ → Type 0

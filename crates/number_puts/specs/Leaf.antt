@@ -10,7 +10,7 @@ use Rattle.writing.specs.Order.{Test}
 use Rattle.writing.specs.Write.{leaves}
 
 -- 01, writing order: the test t of what is written, 19 last: the bytes b, into an output of `room` bytes
-abbrev pub leafOf : Test → List ℕ → ℕ → Fit (List ℕ)
+abbrev leafOf : Test → List ℕ → ℕ → Fit (List ℕ)
 leafOf t b room = do
   guard (t .0) (t .1)
   guard (leb (length b) room) (nr 19 (length b ∷ []))

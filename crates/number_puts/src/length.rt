@@ -6,6 +6,7 @@ ghost use mathlib.Core.Path.{_≡_};
 ghost use Prim.Native.Nat.{_<_};
 ghost use lib.ListN as list;
 ghost use lib.Seq.{sets};
+ghost use Rattle.writing.specs.Size.{lenLen};
 ghost use Rattle.writing.specs.Spell.{short};
 ghost use Rattle.writing.specs.Order.{small};
 ghost use Rattle.records.specs.Answered.{toldWritten};
@@ -16,7 +17,7 @@ pub const MOST: usize = 268435455;
 
 // How many bytes the shortest spelling has; four where the number is too large to spell.
 pub fn len_len(n: usize) -> usize
-    ensures { λ r. ⌜ r ≡ list.length (short n) ⌝ }
+    ensures { λ r. ⌜ r ≡ lenLen n ⌝ }
 {
     if n < 128 {
         1

@@ -1,20 +1,20 @@
 -- The answers of the leaves: numbers, strings, qualities of service, headers, kinds, and one property. Assumes nothing.
 use mathlib.Core.Path.{_≡_, refl, sym, ap, _∙_}
-use mathlib.Core.Bool.{Bool, true, false}
+use mathlib.Core.Bool.{Bool, true, false, cond}
 use mathlib.Core.Option.{Option, none, some}
 use mathlib.Core.List.{List}
 use Prim.Native.Nat.{ℕ, _-_}
 use native.Mathlib.Omega.{arith}
 use lib.Dec.{eqb}
-use Rattle.grammar.specs.Choice.{pick, lookup}
+use Rattle.grammar.specs.Choice.{lookup}
 use Rattle.grammar.specs.Tables.{Form, u8, u16, u32, number, text, bytes, pair, Place, Layout, aPublish, anAck, aSubscribe, aPing}
 use Rattle.grammar.specs.Record.{Val, num, str, duo, PropOf}
 use Rattle.reading.specs.Refusal.{nr, cut}
 use Rattle.reading.specs.Reader.{Fit, got, bad}
 use Rattle.reading.specs.Place as place
 use Rattle.reading.proofs.Reading.{bad-got, got-inj}
-use Rattle.records.specs.Told.{toldError}
-use Rattle.records.proofs.Told.{back-error, error-injective, backFit, backQoS, back-qos, backSpan, back-span}
+use Rattle.records.specs.Told.{toldError, backSpan}
+use Rattle.records.proofs.Told.{back-error, error-injective, backFit, backQoS, back-qos, back-span, numberIn}
 use Rattle.records.specs.declared.span.Span.{Span}
 use Rattle.numbers.specs.Told.{toldGotU8, toldGotU16, toldGotU32}
 use Rattle.var_length.specs.Length.{toldLength}
@@ -31,7 +31,7 @@ use Rattle.string_puts.specs.declared.GotStringLength.{GotStringLength}
 use Rattle.tables.specs.declared.qos.GotQos.{GotQos}
 use Rattle.tables.specs.declared.property.PropertyForm.{PropertyForm}
 use Rattle.framing.specs.Told.{toldKind, toldHeader, toldChecked, frameAt}
-use Rattle.framing.proofs.Laws.Frame as frame
+use Rattle.framing.proofs.Laws as frame
 use Rattle.framing.specs.declared.check.Checked.{Checked}
 use Rattle.framing.specs.declared.header.Kind.{Kind}
 use Rattle.property_value.specs.Told.{toldValue, formOf, toldProperty, Typed, PropertyRead}
@@ -76,7 +76,7 @@ u32-same = one-by toldGotU32 backU32 back-u32
 module _ (at : ℕ) where
   backLength : Fit (ℕ × ℕ) → GotLength
   backLength (got z) = GotLength.Number (z .0) (z .1 - at)
-  backLength (bad (nr k vs)) = pick (eqb k 2) GotLength.Long GotLength.Cut
+  backLength (bad (nr k vs)) = cond (eqb k 2) GotLength.Long GotLength.Cut
 
   back-length : (r : GotLength) → backLength (toldLength cut at r) ≡ r
   unfolding backLength
@@ -154,7 +154,7 @@ backKind (k, false, none) = Kind.NotCarried k
 backKind (k, false, some aPublish) = Kind.Publish
 backKind (k, false, some (anAck rs)) = Kind.PubAck
 backKind (k, false, some aSubscribe) = Kind.Subscribe
-backKind (k, false, some aPing) = pick (eqb k 12) Kind.PingReq Kind.PingResp
+backKind (k, false, some aPing) = cond (eqb k 12) Kind.PingReq Kind.PingResp
 
 back-kind : (k : Kind) → backKind (toldKind k) ≡ k
 unfolding backKind
@@ -190,12 +190,7 @@ checked-same limit s (Checked.Refused e) (Checked.Refused e′) i j = ap Checked
 
 -- ---- one property
 
--- what is told as a number, as a string or as the first of a pair, as the second of a pair
-abbrev numberIn : Val place.Span → ℕ
-numberIn (num n) = n
-numberIn (str p) = 0
-numberIn (duo p q) = 0
-
+-- what is told as a string or as the first of a pair, as the second of a pair
 abbrev firstIn : Val place.Span → place.Span
 firstIn (num n) = record { start = 0; len = 0 }
 firstIn (str p) = p

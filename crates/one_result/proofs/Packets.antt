@@ -7,7 +7,8 @@ use Rattle.grammar.specs.Record as record-of
 use Rattle.reading.specs.Reader.{Fit}
 use Rattle.reading.specs.Place.{Placed}
 use Rattle.reading.specs.Place as place
-use Rattle.records.proofs.Told.{back-error, backFit, backSpan, back-span}
+use Rattle.records.specs.Told.{backSpan}
+use Rattle.records.proofs.Told.{back-error, backFit, back-span}
 use Rattle.records.proofs.Said.{backPublishBlock, back-publish-block, backSubscribeBlock, back-subscribe-block, backPubAckBlock, back-puback-block, backFilter, back-filter, backPacket, back-packet}
 use Rattle.records.specs.declared.error.Error.{Error}
 use Rattle.records.specs.declared.packet_record.Packet.{Packet}

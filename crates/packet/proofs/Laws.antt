@@ -17,12 +17,11 @@ use Rattle.reading.specs.Place.{asPlaces, Placed, readPlacedOf, sayAnswer}
 use Rattle.reading.proofs.Reading.{got-inj}
 use Rattle.reading.proofs.Faults.{answered}
 use Rattle.reading.proofs.Places.{placed-says}
-use Rattle.records.specs.Told.{toldError}
 use Rattle.records.specs.Answered.{told}
 use Rattle.records.specs.declared.answer.Read.{Read}
 use Rattle.framing.specs.Told.{kindAt, frameAt}
-use Rattle.framing.proofs.Laws.Frame.{checked-within, checked-read, checked-refused}
-use Rattle.packet.specs.Told.{takenIn, takenBy, Judged}
+use Rattle.framing.proofs.Laws.{checked-within, checked-read, checked-refused}
+use Rattle.packet.specs.Told.{takenIn, Judged}
 
 -- ---- the body of a frame whose first byte is x
 
@@ -104,22 +103,14 @@ module _ (limit : Option ℕ) (s : List ℕ) (x l m : ℕ) (e : got ((x, take l 
 
 -- ---- no more bytes are taken than there are
 
-taken-told : (k : Refusal) (n : ℕ) → takenIn {A = Placed} (refusedAs k n) ≡ n
-taken-told (nr k vs) n = refl
-
--- what an answer takes is what it tells
-told-taken : (r : Read) → takenIn (told r) ≡ takenBy r
-told-taken (Read.Packet p n) = refl
-told-taken (Read.Refused e n) = taken-told (toldError e) n
-
 body-taken : (n : ℕ) (f : Fit Placed) → takenIn (bodyAnswer n f) ≡ n
 unfolding bodyAnswer
 body-taken n (got v) = refl
 body-taken n (bad (nr k vs)) = refl
 
-pub taken-within : (limit : Option ℕ) (s : List ℕ) (r : Read) → told r ≡ readPlacedOf limit s → takenBy r ≤ length s
+pub taken-within : (limit : Option ℕ) (s : List ℕ) (r : Read) → told r ≡ readPlacedOf limit s → takenIn (told r) ≤ length s
 unfolding readAs frameAnswer wholeAnswer
-taken-within limit s r e = rw (told-taken r) at (rw (← e) at (go (frameOf limit (length s) s)))
+taken-within limit s r e = rw e (go (frameOf limit (length s) s))
   where
     go : (f : Fit ((ℕ × List ℕ) × List ℕ)) → takenIn (frameAnswer asPlaces s f) ≤ length s
     go (got z) = rw (body-taken (length s - length (z .1)) (bodyFit asPlaces (z .0 .0) (length s - length (z .1)) (z .0 .1))) (omega arith)
@@ -135,5 +126,5 @@ module _ (limit : Option ℕ) (s : List ℕ) (r : Read) (e : told r ≡ readPlac
   pub judged : Judged limit s r
   judged a = (λ i. answered limit s a .0 (got-inj (sym says-read ∙ i)), λ v. says-read ∙ ap got (answered limit s a .1 v))
 
-  pub promised : (told r ≡ readPlacedOf limit s) × ((takenBy r ≤ length s) × Judged limit s r)
+  pub promised : (told r ≡ readPlacedOf limit s) × ((takenIn (told r) ≤ length s) × Judged limit s r)
   promised = (e, (taken-within limit s r e, judged))

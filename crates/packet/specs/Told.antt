@@ -23,11 +23,6 @@ abbrev pub takenIn : {A : Type 0} → Answer A → ℕ
 takenIn (accepted v n) = n
 takenIn (refused k vs n) = n
 
--- the same of an answer in code
-abbrev pub takenBy : Read → ℕ
-takenBy (Read.Packet p n) = n
-takenBy (Read.Refused e n) = n
-
 -- the answer r says a, once each of its places is looked up in the stream s
 abbrev pub Says : List ℕ → Read → Answer Packet → Type 0
 Says s r a = sayAnswer s (told r) ≡ got a

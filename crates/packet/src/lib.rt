@@ -21,7 +21,7 @@ ghost use Rattle.reading.specs.Read.{fieldsFit, bodyFit, bodyAnswer, wholeAnswe
 ghost use Rattle.reading.specs.Place.{asPlaces};
 ghost use Rattle.records.specs.Told.{limitOf};
 ghost use Rattle.records.specs.Answered.{told};
-ghost use Rattle.packet.specs.Told.{Meets, takenBy, Judged};
+ghost use Rattle.packet.specs.Told.{Meets, takenIn, Judged};
 
 // The fields of a kind, from index `at` to the end of the frame `s`. Each arm of a match returns: a match that has a value keeps a local
 // for it, and what is to be proved of a function grows with its wide locals times its steps.
@@ -104,7 +104,7 @@ fn read_frame(s: &[u8], h: FixedHeader) -> Read
 // whole frame within the limit, else the frame.
 pub fn read(stream: &[u8], limit: Limit) -> Read
     ensures answer { λ r. ⌜ Meets limit (now (stream .entry)) r ⌝ }
-    ensures within { λ r. ⌜ takenBy r ≤ length (now (stream .entry)) ⌝ }
+    ensures within { λ r. ⌜ takenIn (told r) ≤ length (now (stream .entry)) ⌝ }
     ensures verdict { λ r. ⌜ Judged (limitOf limit) (now (stream .entry)) r ⌝ }
 {
     match check::check(stream, limit) {

@@ -1,4 +1,5 @@
 pub mod At
+pub mod Behind
 pub mod Walk
 pub mod Less
 pub mod Trails

@@ -1,11 +1,11 @@
 -- A run of readings at an index of a slice: what a loop has passed, and that what stands at its index decides the rest. Assumes nothing.
+use mathlib.Core.Bool.{cond}
 use mathlib.Core.Path.{_≡_, refl, sym, ap, _∙_}
 use mathlib.Core.List.{List, [], _∷_, _++_, append-assoc, append-nil}
-use Prim.Native.Nat.{ℕ, zero, suc, _+_, _≤_, _<_}
+use Prim.Native.Nat.{ℕ, zero, suc, _≤_, _<_}
 use native.Mathlib.Omega.{arith}
 use lib.Dec.{eqb, eqb·zero-suc, eqb·suc-zero, eqb·suc-suc}
 use lib.ListN.{length, drop, length-drop, drop-of-length-le}
-use Rattle.grammar.specs.Choice.{pick}
 use Rattle.grammar.specs.Gram.{forget}
 use Rattle.reading.specs.Refusal.{Refusal}
 use Rattle.reading.specs.Reader.{Fit, got, bad, Reader, _>>=_, manyFit}
@@ -60,7 +60,7 @@ module _ {A : Type 0} {p : Reader A} (s : List ℕ) (L : Less (length s) p) wher
         go (bad k) = refl
 
 -- the n-th of one item more
-pub nth-behind : {A : Type 0} (n : ℕ) (vs : List A) (v : A) → nthOf n (vs ++ (v ∷ [])) ≡ pick (eqb (length vs) n) (got v) (nthOf n vs)
+pub nth-behind : {A : Type 0} (n : ℕ) (vs : List A) (v : A) → nthOf n (vs ++ (v ∷ [])) ≡ cond (eqb (length vs) n) (got v) (nthOf n vs)
 nth-behind zero [] v = refl
 nth-behind (suc n) [] v = rw (eqb·zero-suc n)
 nth-behind zero (a ∷ vs) v = rw (eqb·suc-zero (length vs))

@@ -28,7 +28,7 @@ use Rattle.records.specs.declared.answer.Limit.{Limit}
 use Rattle.records.specs.declared.answer.Read.{Read}
 use Rattle.records.specs.declared.error.Error.{Error}
 use Rattle.records.specs.declared.packet_record.Packet as code
-use Rattle.packet.specs.Told.{Meets, takenBy, Says, Judged}
+use Rattle.packet.specs.Told.{Meets, takenIn, Says, Judged}
 use Rattle.packet.proofs.Laws as packet
 
 -- first one, then the other
@@ -65,7 +65,7 @@ module _ (limit : Limit) (s : List ℕ) (r : Read) (m : Meets limit s r) where
   verdict = packet.judged (limitOf limit) s r m
 
   -- no more bytes are taken than the stream has
-  pub taken-within : takenBy r ≤ length s
+  pub taken-within : takenIn (told r) ≤ length s
   taken-within = packet.taken-within (limitOf limit) s r m
 
   -- ---- each refusal is given exactly when its row says, with its values and the bytes taken

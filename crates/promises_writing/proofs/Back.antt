@@ -1,13 +1,13 @@
 -- Reading back: what `packet::read` answers, with no limit, to a stream that begins with what was written. Assumes nothing.
 use mathlib.Core.Path.{_≡_, refl, sym, subst, _∙_}
-use mathlib.Core.Bool.{Bool, true, false}
+use mathlib.Core.Bool.{Bool, true, false, cond}
 use mathlib.Core.Option.{none, some}
 use mathlib.Core.List.{List, _++_, map}
 use Prim.Native.Nat.{ℕ, _<_}
 use native.Mathlib.Omega.{arith}
 use lib.Dec.{eqb}
 use lib.ListN.{drop}
-use Rattle.grammar.specs.Choice.{pick, isIn, isEmpty}
+use Rattle.grammar.specs.Choice.{isIn, isEmpty}
 use Rattle.grammar.specs.Tables.{publishPlace, subscribePlace, ackPlace, reasons, kinds}
 use Rattle.grammar.specs.Record.{num, mkFilter, PublishProps, SubscribeProps, AckProps}
 use Rattle.grammar.specs.Record as record-of
@@ -121,7 +121,7 @@ subscribe-filters : {m v : record-of.Subscribe (List ℕ) List} → record-of.su
 subscribe-filters e = cc
 
 -- where a set is read, it is the one that was handed over
-the-set : {A : Type 0} (t : Bool) (a b : A) → pick t none (some a) ≡ some b → a ≡ b
+the-set : {A : Type 0} (t : Bool) (a b : A) → cond t none (some a) ≡ some b → a ≡ b
 the-set true a b e = let z : _≡_ {A = ℕ} 0 1 = cc in absurd (omega arith)
 the-set false a b e = cc
 
@@ -218,12 +218,12 @@ module _ (limit : Limit) (alone : Bool) (before after : List ℕ) (w : Written) 
 -- ---- outside the two conditions: what the bytes say instead
 
 -- 01, grammar: "QoS 0 writes no identifier": 0 is read
-pub said-no-ident : (h : PublishHanded) → h .qos ≡ 0 → said (publish h) ≡ thePublish h 0 (pick (nonePublish h) none (some (publishSet h)))
+pub said-no-ident : (h : PublishHanded) → h .qos ≡ 0 → said (publish h) ≡ thePublish h 0 (cond (nonePublish h) none (some (publishSet h)))
 unfolding said
 said-no-ident h e = rw e
 
 -- 01, "Reading back": a set present but empty "reads as absent"
-pub publish-no-set : (h : PublishHanded) → nonePublish h ≡ true → said (publish h) ≡ thePublish h (pick (eqb (h .qos) 0) 0 (h .ident)) none
+pub publish-no-set : (h : PublishHanded) → nonePublish h ≡ true → said (publish h) ≡ thePublish h (cond (eqb (h .qos) 0) 0 (h .ident)) none
 unfolding said
 publish-no-set h e = rw e
 

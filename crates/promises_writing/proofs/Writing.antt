@@ -9,11 +9,12 @@ use Prim.Native.Nat.{ℕ}
 use lib.ListN.{length, drop}
 use Rattle.grammar.specs.Choice.{isIn, isEmpty}
 use Rattle.grammar.specs.Sentence.{Sentence}
+use Rattle.grammar.specs.Octets.{Octets}
 use Rattle.reading.specs.Refusal.{Refusal, nr}
 use Rattle.reading.specs.Reader.{Fit, got, bad}
 use Rattle.reading.proofs.Reading.{bad-got}
 use Rattle.reading.proofs.Lists.{no-way}
-use Rattle.writing.specs.Lists.{Octets, all}
+use Rattle.writing.specs.Lists.{all}
 use Rattle.writing.specs.Handed.{Handed}
 use Rattle.writing.specs.Order.{Field}
 use Rattle.writing.specs.Size.{sizeIs}
@@ -23,7 +24,6 @@ use Rattle.writing.specs.Refuse.{Faulty, long-raw, long-word, long-filter, bad-
 use Rattle.writing.specs.Refuse as refuse
 use Rattle.writing.specs.Meant.{said, Typed}
 use Rattle.writing.proofs.Verdict.{accepted-when, refused-when, answered-when, unanswered-when, sized-when, unsized-when}
-use Rattle.writing.proofs.Verdict as verdict
 use Rattle.writing.proofs.Demand.{writes, written-size, out-refused, out-written, out-length}
 use Rattle.records.specs.Told.{toldError, rowOf, limitOf}
 use Rattle.records.specs.Answered.{toldSized, toldWritten}
@@ -186,7 +186,7 @@ module _ (h : Handed) (z : Sized) where
 
   -- 01: "size leaves out a Publish identifier that is 0, and counts four bytes for a subscription identifier too large to write": the size is
   -- given, and is this number, exactly when nothing else is lent, what is handed over belongs together and R can be written
-  pub counted : (alone : Bool) → Counts alone h z → (n : ℕ) → (z ≡ Sized.Size n) ↔ ((alone ≡ true) × verdict.Sized h × (sizeIs h ≡ n))
+  pub counted : (alone : Bool) → Counts alone h z → (n : ℕ) → (z ≡ Sized.Size n) ↔ ((alone ≡ true) × refuse.Sized h × (sizeIs h ≡ n))
   unfolding sizeOfUnion
   counted true c n =
       let u = sized-when h n in

@@ -3,9 +3,9 @@ use mathlib.Core.Path.{_≡_}
 use mathlib.Core.Bool.{Bool, true, false}
 use mathlib.Core.List.{List, [], _∷_}
 use Prim.Native.Nat.{ℕ, _<_}
+use Rattle.grammar.specs.Octets.{Octets}
 use Rattle.reading.specs.Refusal.{Refusal, nr}
 use Rattle.reading.specs.Reader.{got, _>>_, guard}
-use Rattle.writing.specs.Lists.{Octets}
 use Rattle.writing.specs.Handed.{Handed}
 use Rattle.writing.specs.Meant.{Below}
 use Rattle.records.specs.Told.{limitOf}
@@ -41,7 +41,7 @@ writerRows = 9 ∷ 11 ∷ 12 ∷ 13 ∷ 14 ∷ 16 ∷ 17 ∷ 18 ∷ 19 ∷ 20 �
 -- ---- what the types of the arguments ensure: u8, u16 and u32 are below their bounds; nothing of a usize
 
 -- of a Publish by value
-pub record PublishWidths (m : PublishHead) : Type 0 where
+record PublishWidths (m : PublishHead) : Type 0 where
   pub pkid : m .pkid < 65536
   pub format : Below 256 (numberU8 (m .«payload_format_indicator»))
   pub expiry : Below 4294967296 (numberU32 (m .«message_expiry_interval»))

@@ -82,10 +82,12 @@ module _ (w : Row) where
 
 -- ---- answers: the properties, if there are any, and the index after the block; or the refusal
 
+-- 01, table of properties, row Subscribe
 abbrev pub toldSubscribeBlockAt : GotSubscribeBlock → Fit (Option (SubscribeProps Span (λ A. Span)) × ℕ)
 toldSubscribeBlockAt (GotSubscribeBlock.Value p n) = got (toldSubscribeBlock p, n)
 toldSubscribeBlockAt (GotSubscribeBlock.Refused e) = bad (toldError e)
 
+-- 01, table of properties, row PubAck
 abbrev pub toldPubAckBlockAt : GotPubAckBlock → Fit (Option (AckProps Span (λ A. Span)) × ℕ)
 toldPubAckBlockAt (GotPubAckBlock.Value p n) = got (toldPubAckBlock p, n)
 toldPubAckBlockAt (GotPubAckBlock.Refused e) = bad (toldError e)

@@ -1,15 +1,14 @@
 -- What is found of an acknowledgement, and its bytes. Assumes nothing.
 use mathlib.Core.Path.{_≡_, refl, sym, ap, _∙_}
-use mathlib.Core.Bool.{Bool, true, false, not, _&&_, and-true}
+use mathlib.Core.Bool.{Bool, true, false, not, _&&_, and-true, cond}
 use mathlib.Core.List.{List, [], _∷_, _++_, append-nil}
 use Prim.Native.Nat.{ℕ, _+_, _≤_, _<_, min}
 use native.Mathlib.Omega.{arith}
 use lib.Dec.{eqb}
 use lib.ListN.{length}
 use lib.Seq.{sets}
-use Rattle.grammar.specs.Choice.{pick}
 use Rattle.grammar.specs.Tables.{text, pair, ackPlace}
-use Rattle.reading.specs.Reader.{Fit, got}
+use Rattle.reading.specs.Reader.{Fit, got, _>>_}
 use Rattle.writing.specs.Lists.{flat}
 use Rattle.writing.specs.Handed.{AckHanded, ack, lent, pairs, ackGiven, rowBelongs, belongs}
 use Rattle.writing.specs.Size.{most, withLength, givenSize, propsSize, isPlain, restIs, cap}
@@ -20,8 +19,8 @@ use Rattle.writing.proofs.ForCode.{judgeAll, judge-if, ack-belongs, ack-tests, 
 use Rattle.writing.proofs.Pins.{ack-props, first-bytes}
 use Rattle.records.specs.declared.puback_record.PubAckReason.{PubAckReason}
 use Rattle.records.specs.Told.{toldReason}
-use Rattle.number_puts.proofs.Laws.Put.{length-wide, wide-one}
-use Rattle.row_tests.specs.Tested.{first}
+use Rattle.writing.proofs.Says.{length-wide}
+use Rattle.number_puts.proofs.Laws.Put.{wide-one}
 use Rattle.row_sizes.proofs.Laws.{cap-left, cap-last}
 use Rattle.row_puts.specs.Put.{Put}
 use Rattle.row_puts.proofs.Laws.{store-next, put-next, next-last}
@@ -52,7 +51,7 @@ module _ (h : AckHanded) where
   -- ---- 20 and the fields
 
   pub early-all : {b : Bool} {x y r : Fit (Unit {0})} → b ≡ belongs (ack 4 h) → b ≡ true → x ≡ judge (flat fieldTests (givenFields text (lent (h .text)))) → y ≡ judgeAll (h .user)
-      → r ≡ first x y → r ≡ earlyOf (ack 4 h)
+      → r ≡ (x >> y) → r ≡ earlyOf (ack 4 h)
   early-all {b} e f i j k = k ∙ rw (i, j, judge-if (h .text .on) (word (h .text .bytes))) (sym (ack-tests 4 h)) ∙ early-fields (ack 4 h) b e f
 
   pub ack-late : got tt ≡ lateOf (ack 4 h)
@@ -73,7 +72,7 @@ module _ (h : AckHanded) where
   module _ (before out₁ out₂ : List ℕ) (len n first : ℕ) (l : len ≡ cap (restIs (ack 4 h)))
       (p : Put before 0 (0x40 ∷ short len) out₁ n) (m : first ≡ min (0 + n) (length out₁)) (q : out₂ ≡ sets out₁ first (wide 2 (h .ident)))
       (e : belongs (ack 4 h) ≡ true) (s : restIs (ack 4 h) ≤ most) where
-    frame : frameBytes (ack 4 h) ≡ (0x40 ∷ short len) ++ (wide 2 (h .ident) ++ pick (isPlain h) [] behind)
+    frame : frameBytes (ack 4 h) ≡ (0x40 ∷ short len) ++ (wide 2 (h .ident) ++ cond (isPlain h) [] behind)
     unfolding firstByte
     frame =
         let i : len ≡ restIs (ack 4 h) = l ∙ cap-small (restIs (ack 4 h)) s in

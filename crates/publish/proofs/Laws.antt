@@ -11,7 +11,7 @@ use Rattle.grammar.specs.Tables.{publishPlace, aPublish}
 use Rattle.grammar.specs.Record.{PublishProps, publish, flagQos}
 use Rattle.grammar.specs.Sentence.{notThree, notZero}
 use Rattle.reading.specs.Refusal.{Refusal, nr, cut}
-use Rattle.reading.specs.Reader.{Fit, got, bad, Reader, Filler, _>>=_, _>>_, noneOf, onlyOf, mapFit, handFit, thenFit, isFit}
+use Rattle.reading.specs.Reader.{Fit, got, bad, Reader, Filler, _>>=_, noneOf, onlyOf, mapFit, handFit, thenFit, isFit}
 use Rattle.reading.specs.Read.{bigOf, identOf, anyBytes, stringFit, bytesOf, publishAs, blockOf, messageFit, fieldsFit}
 use Rattle.reading.specs.Place.{Span, asPlaces, Placed}
 use Rattle.reading.proofs.Reading.{bad-got}

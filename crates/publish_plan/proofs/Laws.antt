@@ -14,7 +14,6 @@ use Rattle.writing.specs.Order.{judge, raw, word, fieldTests, givenFields, fiel
 use Rattle.writing.proofs.Tests.{eq-when, eq-not}
 use Rattle.writing.proofs.ForCode.{publish-belongs, judge-if, publish-tests}
 use Rattle.rows.specs.Given.{givenU8, givenU16, givenU32, givenLent, givenPairs}
-use Rattle.row_tests.specs.Tested.{first}
 use Rattle.settle.specs.Found.{lateOf}
 use Rattle.publish_plan.specs.Handed.{handed}
 use Rattle.publish_plan.specs.declared.head.PublishHead.{PublishHead}
@@ -48,7 +47,7 @@ pub fields-all : (h : PublishHanded) {r₁ r₂ r₃ r₄ x₁ x₂ x₃ x₄ x�
     → x₃ ≡ judge (flat fieldTests (givenFields bytes (lent (h .correlation))))
     → x₄ ≡ judge (flat fieldTests (map word (strings (h .user))))
     → x₅ ≡ judge (flat fieldTests (givenFields text (lent (h .content))))
-    → r₄ ≡ first x₄ x₅ → r₃ ≡ first x₃ r₄ → r₂ ≡ first x₂ r₃ → r₁ ≡ first x₁ r₂
+    → r₄ ≡ (x₄ >> x₅) → r₃ ≡ (x₃ >> r₄) → r₂ ≡ (x₂ >> r₃) → r₁ ≡ (x₁ >> r₂)
     → r₁ ≡ judge (flat fieldTests (fieldsOf (publish h)))
 fields-all h e₁ e₂ e₃ e₄ e₅ f₄ f₃ f₂ f₁ =
     f₁

@@ -15,6 +15,7 @@ abbrev pub given : Bool → Val Span → Option (Val Span)
 given true v = some v
 given false v = none
 
+-- 01, table of properties, row Publish: every value that is given, and the block that holds the lists
 abbrev pub toldSingles : Singles → PublishProps Span (λ A. Span)
 toldSingles p = record {
   format = given (p .«has_format») (num (p .format));

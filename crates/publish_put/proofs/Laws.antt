@@ -15,7 +15,7 @@ use Rattle.writing.proofs.Pins.{publish-props}
 use Rattle.writing.proofs.Sizes.{length-string}
 use Rattle.records.specs.Told.{toldQoS}
 use Rattle.records.specs.declared.qos.QoS.{QoS}
-use Rattle.number_puts.proofs.Laws.Put.{length-wide}
+use Rattle.writing.proofs.Says.{length-wide}
 use Rattle.rows.specs.Given.{givenU8, givenU16, givenU32, givenLent, givenPairs}
 use Rattle.row_puts.specs.Put.{Put}
 use Rattle.row_puts.specs.Behind.{Behind}

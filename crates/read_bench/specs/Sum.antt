@@ -1,15 +1,12 @@
 -- What is added up of a stream that is read frame after frame. Assumes nothing.
 use mathlib.Core.Option.{none}
 use mathlib.Core.List.{List, [], _∷_}
-use Prim.Native.Nat.{ℕ, _+_, _%_, _^_}
+use Prim.Native.Nat.{ℕ}
 use lib.ListN.{drop}
 use Rattle.grammar.specs.Record.{publish, ack, subscribe, ping}
 use Rattle.reading.specs.Refusal.{Answer, accepted, refused}
 use Rattle.reading.specs.Place.{Placed, readPlacedOf}
-
--- in 64 bits
-abbrev pub wrapped : ℕ → ℕ → ℕ
-wrapped a b = (a + b) % 2 ^ 64
+use Rattle.positions.specs.Count.{wrapped}
 
 -- the lengths of topic and payload of a Publish
 abbrev pub weightOf : Placed → ℕ
@@ -23,7 +20,7 @@ abbrev pub counted : ℕ → Placed → ℕ → ℕ
 counted sum p n = wrapped (wrapped sum (weightOf p)) n
 
 -- the first refusal ends the sum
-abbrev pub afterAnswer : Answer Placed → ℕ → (Placed → ℕ → ℕ) → ℕ
+abbrev afterAnswer : Answer Placed → ℕ → (Placed → ℕ → ℕ) → ℕ
 afterAnswer (accepted p n) sum more = more p n
 afterAnswer (refused k vs n) sum more = sum
 

@@ -2,14 +2,13 @@
 use mathlib.Core.Path.{_≡_, refl, ap, _∙_, subst}
 use mathlib.Core.Logic.{_↔_}
 use mathlib.Core.Option.{Option, none, some}
-use mathlib.Core.Bool.{Bool, true, false}
+use mathlib.Core.Bool.{Bool, true, false, cond}
 use mathlib.Core.List.{List, [], _∷_, map}
 use Prim.Native.Nat.{ℕ, zero, suc, _+_, _≤_}
 use native.Mathlib.Omega.{arith}
 use lib.Dec.{eqb, leb, leb→le}
 use lib.ListN.{length, take, drop, length-drop, take-append-drop}
 use lib.Seq.{length-take-le}
-use Rattle.grammar.specs.Choice.{pick}
 use Rattle.grammar.specs.Gram.{Only, Many}
 use Rattle.grammar.specs.Tables.{Place, publishPlace, subscribePlace, ackPlace}
 use Rattle.grammar.specs.Record.{PropOf, allOf, PublishProps, SubscribeProps, AckProps, Filter, publish, ack, subscribe, ping}
@@ -79,7 +78,7 @@ all-says s i [] = refl
 all-says s i (p ∷ ps) = one (eqb (p .0) i) (all-says s i ps)
   where
     one : (t : Bool) → map (sayVal s) (allOf i ps) ≡ allOf i (map (sayProp s) ps)
-        → map (sayVal s) (pick t (p .1 ∷ allOf i ps) (allOf i ps)) ≡ pick t (sayVal s (p .1) ∷ allOf i (map (sayProp s) ps)) (allOf i (map (sayProp s) ps))
+        → map (sayVal s) (cond t (p .1 ∷ allOf i ps) (allOf i ps)) ≡ cond t (sayVal s (p .1) ∷ allOf i (map (sayProp s) ps)) (allOf i (map (sayProp s) ps))
     one true e = ap (λ (l : List Value). sayVal s (p .1) ∷ l) e
     one false e = e
 

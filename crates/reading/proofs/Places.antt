@@ -1,7 +1,7 @@
 -- The answer with places, looked up in the stream, is the answer in bytes: a string is the part at its span, and the items of a list are
 -- what is read again at its span. Assumes nothing.
 use mathlib.Core.Path.{_≡_, refl, sym, ap, _∙_}
-use mathlib.Core.Bool.{Bool, true, false, not, _||_}
+use mathlib.Core.Bool.{Bool, true, false, not, _||_, cond}
 use mathlib.Core.Option.{Option, none, some}
 use mathlib.Core.Logic.{_↔_}
 use mathlib.Core.List.{List, [], _∷_, _++_, map, append-assoc}
@@ -9,7 +9,7 @@ use Prim.Native.Nat.{ℕ, _+_, _-_, _≤_}
 use native.Mathlib.Omega.{arith}
 use lib.Dec.{eqb, leb, leb→le}
 use lib.ListN.{length, length-append}
-use Rattle.grammar.specs.Choice.{pick, isIn, lookup, isEmpty}
+use Rattle.grammar.specs.Choice.{isIn, lookup, isEmpty}
 use Rattle.grammar.specs.Gram.{Gram, Only, both, sized, Many, is}
 use Rattle.grammar.specs.Number.{byte}
 use Rattle.grammar.specs.Tables.{Form, u8, u16, u32, number, text, bytes, pair, Place, publishPlace, subscribePlace, ackPlace, Layout, aPublish, anAck, aSubscribe, aPing, kinds, reserved, isPing}
@@ -69,10 +69,10 @@ module _ (s : List ℕ) where
   last-from : (i : ℕ) (o : Option (Val Span)) (ps : List (PropOf Span)) → onSome (sayVal s) (lastFrom o i ps) ≡ lastFrom (onSome (sayVal s) o) i (map (sayProp s) ps)
   last-from i o [] = refl
   last-from i o (p ∷ ps) =
-      last-from i (pick (eqb (p .0) i) (some (p .1)) o) ps
+      last-from i (cond (eqb (p .0) i) (some (p .1)) o) ps
       ∙ ap (λ (o′ : Option Value). lastFrom o′ i (map (sayProp s) ps)) (one (eqb (p .0) i))
     where
-      one : (t : Bool) → onSome (sayVal s) (pick t (some (p .1)) o) ≡ pick t (some (sayVal s (p .1))) (onSome (sayVal s) o)
+      one : (t : Bool) → onSome (sayVal s) (cond t (some (p .1)) o) ≡ cond t (some (sayVal s (p .1))) (onSome (sayVal s) o)
       one true = refl
       one false = refl
 

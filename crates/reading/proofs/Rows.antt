@@ -1,7 +1,7 @@
 -- Rows 1 to 6 are given just when 01's words hold, and the rest just when the fields of a whole frame break; each number comes from one
 -- of the two. Assumes nothing.
 use mathlib.Core.Path.{_≡_, refl, sym, ap, _∙_, subst}
-use mathlib.Core.Bool.{Bool, true, false, _||_}
+use mathlib.Core.Bool.{Bool, true, false, _||_, cond}
 use mathlib.Core.Option.{Option, none, some}
 use mathlib.Core.Logic.{_↔_, _⊎_, inl, inr}
 use mathlib.Core.List.{List, [], _∷_, _++_}
@@ -9,7 +9,7 @@ use Prim.Native.Nat.{ℕ, _+_, _-_, _<_}
 use native.Mathlib.Omega.{arith}
 use lib.Dec.{eqb}
 use lib.ListN.{length, length-append}
-use Rattle.grammar.specs.Choice.{pick, isIn}
+use Rattle.grammar.specs.Choice.{isIn}
 use Rattle.grammar.specs.Gram.{Only, only, both}
 use Rattle.grammar.specs.Number.{Byte, byte, Spells}
 use Rattle.grammar.specs.Sentence.{Packet}
@@ -141,7 +141,7 @@ named : (r r′ : Framing) → rowNumber r ≡ rowNumber r′ → r ≡ r′
 named r r′ e = sym (back r) ∙ ap row e ∙ back r′
   where
     row : ℕ → Framing
-    row k = pick (eqb k 1) insufficient (pick (eqb k 2) malformed (pick (eqb k 3) exceeded (pick (eqb k 4) invalid (pick (eqb k 5) required notCarried))))
+    row k = cond (eqb k 1) insufficient (cond (eqb k 2) malformed (cond (eqb k 3) exceeded (cond (eqb k 4) invalid (cond (eqb k 5) required notCarried))))
 
     back : (q : Framing) → row (rowNumber q) ≡ q
     back insufficient = refl

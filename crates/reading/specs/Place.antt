@@ -2,13 +2,12 @@
 -- says once its places are looked up. A place in the stream is a `Span`; a place of the table of properties, whose row says what may
 -- stand in a block, is a `Place` (grammar). Assumes nothing.
 use mathlib.Core.Path.{_≡_}
-use mathlib.Core.Bool.{Bool}
+use mathlib.Core.Bool.{Bool, cond}
 use mathlib.Core.Option.{Option, none, some}
 use mathlib.Core.List.{List, [], _∷_}
 use Prim.Native.Nat.{ℕ, zero, suc, _+_, _-_}
 use lib.Dec.{leb}
 use lib.ListN.{length, take, drop}
-use Rattle.grammar.specs.Choice.{pick}
 use Rattle.grammar.specs.Tables.{Place, publishPlace, subscribePlace, ackPlace}
 use Rattle.grammar.specs.Record.{Val, num, str, duo, PropOf, allOf, PublishProps, SubscribeProps, AckProps, Publish, Filter, Subscribe, Ack, PacketOf, publish, ack, subscribe, ping}
 use Rattle.grammar.specs.Sentence.{Value, Prop, Packet}
@@ -35,7 +34,7 @@ liesIn s p = leb (p .start + p .len) (length s)
 
 -- demand 1: "any record may be handed to any public entry point": the part if it lies within the stream, else the empty part
 unfoldable pub heldOf : List ℕ → Span → List ℕ
-heldOf s p = pick (liesIn s p) (partOf s p) []
+heldOf s p = cond (liesIn s p) (partOf s p) []
 
 -- a string is handed back as its span, a list as the span that its items fill
 abbrev pub asPlaces : Shape

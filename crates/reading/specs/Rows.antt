@@ -1,13 +1,13 @@
 -- When each refusal of a read is given, in the words of 01, "When the desk says no", with values and bytes taken. Nothing here knows of a
 -- reader. Assumes nothing.
 use mathlib.Core.Path.{_≡_}
-use mathlib.Core.Bool.{Bool, true, false, not, _||_}
+use mathlib.Core.Bool.{Bool, true, false, not, _||_, cond}
 use mathlib.Core.Option.{Option, none, some}
 use mathlib.Core.List.{List, [], _∷_, _++_}
 use Prim.Native.Nat.{ℕ, _+_, _-_, _<_}
 use lib.Dec.{leb, ltb}
 use lib.ListN.{length, drop}
-use Rattle.grammar.specs.Choice.{pick, isIn, lookup, isEmpty}
+use Rattle.grammar.specs.Choice.{isIn, lookup, isEmpty}
 use Rattle.grammar.specs.Number.{Spells}
 use Rattle.grammar.specs.Tables.{Layout, kinds, reserved, isPing}
 use Rattle.grammar.specs.Record.{kindOf}
@@ -76,8 +76,8 @@ Breaks limit s k t = (x : ℕ) × (l : Layout) × (b : List ℕ) × Holds limit 
 -- each byte has its top bit set
 abbrev pub allTops : List ℕ → Bool
 allTops [] = true
-allTops (x ∷ b) = pick (leb 128 x) (allTops b) false
+allTops (x ∷ b) = cond (leb 128 x) (allTops b) false
 
 -- of the front s of a frame of F bytes
 unfoldable pub lacks : List ℕ → ℕ → ℕ
-lacks s F = pick (ltb (length s) 2) (2 - length s) (pick (allTops (drop 1 s)) 1 (F - length s))
+lacks s F = cond (ltb (length s) 2) (2 - length s) (cond (allTops (drop 1 s)) 1 (F - length s))

@@ -7,10 +7,10 @@ use Rattle.reading.specs.Refusal.{Refusal, nr, Answer, accepted, refused, refus
 use Rattle.reading.specs.Reader.{Fit, got, bad}
 use Rattle.reading.specs.Place.{Placed}
 use Rattle.reading.specs.Place as place
-use Rattle.records.specs.Told.{toldError}
+use Rattle.records.specs.Told.{toldError, backSpan}
 use Rattle.records.specs.Answered.{told, toldSized, toldWritten, toldUser, toldIdentifier, toldFilterItem, toldGotReason, toldGotRule}
 use Rattle.records.proofs.Laws.{injective-by}
-use Rattle.records.proofs.Told.{backError, back-error, backFit, backReason, back-reason, backRule, back-rule, backSpan, back-span}
+use Rattle.records.proofs.Told.{backError, back-error, backFit, backReason, back-reason, backRule, back-rule, back-span}
 use Rattle.records.proofs.Said.{backFilter, back-filter, backPacket, back-packet}
 use Rattle.records.specs.declared.answer.Read.{Read}
 use Rattle.records.specs.declared.answer.Sized.{Sized}

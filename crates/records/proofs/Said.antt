@@ -1,8 +1,8 @@
 -- Records: each comes back field by field from what it tells, so that what is told leaves no choice of it. Assumes nothing.
+use mathlib.Core.Bool.{cond}
 use mathlib.Core.Path.{_≡_, refl, ap}
 use mathlib.Core.Option.{Option, none, some}
 use lib.Dec.{eqb}
-use Rattle.grammar.specs.Choice.{pick}
 use Rattle.grammar.specs.Record.{PublishProps, SubscribeProps, AckProps, publish, ack, subscribe, ping}
 use Rattle.grammar.specs.Record as record-of
 use Rattle.reading.specs.Place.{Placed}
@@ -19,7 +19,8 @@ use Rattle.records.specs.declared.subscribe_record.Filter.{Filter}
 use Rattle.records.specs.declared.subscribe_record.Subscribe.{Subscribe}
 use Rattle.records.specs.declared.subscribe_record.SubscribeProperties.{SubscribeProperties}
 use Rattle.records.specs.declared.subscribe_record.MaybeSubscribeProperties.{MaybeSubscribeProperties}
-use Rattle.records.proofs.Told.{backBool, backQoS, backReason, backRule, backSpan, backU8, backU16, backU32, backString, back-bool, back-qos, back-reason, back-rule, back-span, back-u8, back-u16, back-u32, back-string}
+use Rattle.records.specs.Told.{backSpan}
+use Rattle.records.proofs.Told.{backBool, backQoS, backReason, backRule, backU8, backU16, backU32, backString, back-bool, back-qos, back-reason, back-rule, back-span, back-u8, back-u16, back-u32, back-string}
 
 -- ---- property sets
 
@@ -127,7 +128,7 @@ pub backPacket : Placed → Packet
 backPacket (publish m) = Packet.Publish (backPublish m)
 backPacket (ack k m) = Packet.PubAck (backPubAck m)
 backPacket (subscribe m) = Packet.Subscribe (backSubscribe m)
-backPacket (ping k) = pick (eqb k 12) Packet.PingReq Packet.PingResp
+backPacket (ping k) = cond (eqb k 12) Packet.PingReq Packet.PingResp
 
 pub back-packet : (p : Packet) → backPacket (toldPacket p) ≡ p
 unfolding backPacket

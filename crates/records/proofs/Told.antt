@@ -10,7 +10,7 @@ use Rattle.grammar.specs.Record.{Val, num, str, duo}
 use Rattle.reading.specs.Refusal.{Refusal, nr}
 use Rattle.reading.specs.Reader.{Fit, got, bad}
 use Rattle.reading.specs.Place as place
-use Rattle.records.specs.Told.{toldError, toldValues, limitOf, toldBool, toldQoS, toldReason, toldRule, toldSpan, toldU8, toldU16, toldU32, toldString}
+use Rattle.records.specs.Told.{toldError, toldValues, limitOf, toldBool, toldQoS, toldReason, toldRule, toldSpan, backSpan, toldU8, toldU16, toldU32, toldString}
 use Rattle.records.specs.declared.answer.Limit.{Limit}
 use Rattle.records.specs.declared.error.Error.{Error}
 use Rattle.records.specs.declared.puback_record.PubAckReason.{PubAckReason}
@@ -175,15 +175,11 @@ back-rule RetainForwardRule.Never = refl
 
 -- ---- places, and values of properties
 
-pub backSpan : place.Span → Span
-backSpan p = record { start = p .start; len = p .len }
-
 pub back-span : (p : Span) → backSpan (toldSpan p) ≡ p
-unfolding backSpan
 back-span p = refl
 
 -- the number of a value
-abbrev numberIn : Val place.Span → ℕ
+abbrev pub numberIn : Val place.Span → ℕ
 numberIn (num n) = n
 numberIn (str p) = 0
 numberIn (duo p q) = 0
@@ -226,6 +222,6 @@ backString none = MaybeSpan.Absent
 backString (some v) = MaybeSpan.Present (spanIn v)
 
 pub back-string : (m : MaybeSpan) → backString (toldString m) ≡ m
-unfolding backString backSpan
+unfolding backString
 back-string MaybeSpan.Absent = refl
 back-string (MaybeSpan.Present p) = refl

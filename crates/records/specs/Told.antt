@@ -100,6 +100,10 @@ toldRule RetainForwardRule.Never = 2
 abbrev pub toldSpan : Span → place.Span
 toldSpan p = record { start = p .start; len = p .len }
 
+-- and back: the place that is told so
+abbrev pub backSpan : place.Span → Span
+backSpan p = record { start = p .start; len = p .len }
+
 -- 01, table of properties: a u8, if it is given
 abbrev pub toldU8 : MaybeU8 → Option (Val place.Span)
 toldU8 MaybeU8.Absent = none

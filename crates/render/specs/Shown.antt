@@ -20,6 +20,7 @@ unfoldable pub decimalIn : ℕ → ℕ → List ℕ
 decimalIn zero n = (48 + n) ∷ []
 decimalIn (suc bound) n = cond (ltb n 10) ((48 + n) ∷ []) (decimalIn bound (n / 10) ++ ((48 + n % 10) ∷ []))
 
+-- a number in decimal
 abbrev pub decimalOf : ℕ → List ℕ
 decimalOf n = decimalIn n n
 
@@ -35,6 +36,7 @@ isPlain b = cond (leb 32 b) (leb b 126) (leb 32 b)
 unfoldable pub shownOf : ℕ → List ℕ
 shownOf b = cond (isMarked b) (92 ∷ b ∷ []) (cond (isPlain b) (b ∷ []) (92 ∷ 120 ∷ hexOf b))
 
+-- how many bytes a byte is shown in
 unfoldable pub shownSize : ℕ → ℕ
 unfolding shownOf
 shownSize b = length (shownOf b)

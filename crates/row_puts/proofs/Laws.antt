@@ -15,7 +15,7 @@ use Rattle.writing.specs.Spell.{wide, short, string, numeral, value, rowBytes}
 use Rattle.writing.proofs.Tests.{le-or}
 use Rattle.writing.proofs.Sizes.{length-string}
 use Rattle.byte_puts.proofs.Laws.{sets-append, sets-out}
-use Rattle.number_puts.proofs.Laws.Put.{length-wide}
+use Rattle.writing.proofs.Says.{length-wide}
 use Rattle.rows.specs.Given.{givenLent}
 use Rattle.row_puts.specs.Put.{Put}
 use Rattle.row_puts.specs.Behind.{Behind}

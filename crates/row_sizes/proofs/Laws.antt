@@ -1,6 +1,6 @@
 -- Sums that are cut off, and identifiers counted one by one. Assumes nothing.
 use mathlib.Core.Path.{_≡_, refl, sym, ap, _∙_}
-use mathlib.Core.Bool.{Bool, true, false}
+use mathlib.Core.Bool.{Bool, true, false, cond}
 use mathlib.Core.List.{List}
 use Prim.Native.Nat.{ℕ, suc, _+_, _≤_, _<_}
 use native.Mathlib.Omega.{arith}
@@ -8,7 +8,6 @@ use native.Mathlib.Numerals.{add-one}
 use lib.Dec.{ltb}
 use lib.ListN.{length, drop, getD, drop-of-length-le}
 use lib.Seq.{drop-cons}
-use Rattle.grammar.specs.Choice.{pick}
 use Rattle.grammar.specs.Tables.{number}
 use Rattle.writing.specs.Handed.{several}
 use Rattle.writing.specs.Size.{lenLen, givenSize, cap}
@@ -17,7 +16,7 @@ use Rattle.writing.proofs.ForCode.{cap-add}
 pub len-len-most : (n : ℕ) → lenLen n ≤ 4
 len-len-most n = go (ltb n 128) (ltb n 16384) (ltb n 2097152)
   where
-    go : (a b c : Bool) → pick a 1 (pick b 2 (pick c 3 4)) ≤ 4
+    go : (a b c : Bool) → cond a 1 (cond b 2 (cond c 3 4)) ≤ 4
     go true b c = omega arith
     go false true c = omega arith
     go false false true = omega arith

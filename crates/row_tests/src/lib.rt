@@ -9,10 +9,11 @@ use utf8::is_utf8;
 ghost use mathlib.Core.Path.{_≡_};
 ghost use mathlib.Core.List.{map};
 ghost use Rattle.grammar.specs.Tables.{text, bytes as bytesForm};
+ghost use Rattle.reading.specs.Reader.{_>>_ as first};
 ghost use Rattle.writing.specs.Lists.{flat};
 ghost use Rattle.writing.specs.Order.{judge, raw, word, fieldTests, givenFields, small, orNone};
 ghost use Rattle.rows.specs.Given.{numberU32, givenLent};
-ghost use Rattle.row_tests.specs.Tested.{toldTested, first};
+ghost use Rattle.row_tests.specs.Tested.{toldTested};
 
 pub enum Tested {
     Fine,

@@ -23,13 +23,15 @@ abbrev pub numberU32 : MaybeU32 → Option ℕ
 numberU32 MaybeU32.Absent = none
 numberU32 (MaybeU32.Present n) = some n
 
--- the row of each
+-- 01, table of properties: a row of a u8
 abbrev pub givenU8 : MaybeU8 → Given
 givenU8 v = one (numberU8 v)
 
+-- 01, table of properties: a row of a u16
 abbrev pub givenU16 : MaybeU16 → Given
 givenU16 v = one (numberU16 v)
 
+-- 01, table of properties: a row of a u32 or of a variable length number
 abbrev pub givenU32 : MaybeU32 → Given
 givenU32 v = one (numberU32 v)
 

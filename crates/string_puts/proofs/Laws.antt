@@ -8,13 +8,13 @@ use lib.Dec.{leb}
 use lib.ListN.{length, length-append}
 use lib.Seq.{sets}
 use Rattle.reading.specs.Refusal.{Refusal, nr}
-use Rattle.reading.specs.Reader.{Fit, got, bad, _>>_, guard}
+use Rattle.reading.specs.Reader.{Fit, got, bad}
 use Rattle.reading.proofs.Reading.{bad-got}
 use Rattle.writing.specs.Spell.{wide, string}
 use Rattle.writing.specs.Order.{judge, fits}
 use Rattle.byte_puts.proofs.Laws.{sets-append}
 use Rattle.number_puts.specs.Leaf.{LeafWritten}
-use Rattle.number_puts.proofs.Laws.Put.{length-wide}
+use Rattle.writing.proofs.Says.{length-wide}
 use Rattle.number_puts.proofs.Laws.Leaf.{leaf-refused}
 use Rattle.string_puts.specs.Written.{stringLength}
 

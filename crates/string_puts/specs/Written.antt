@@ -8,6 +8,7 @@ use Rattle.records.specs.Told.{toldError}
 use Rattle.string_puts.specs.declared.GotStringLength.{GotStringLength}
 use Rattle.string_puts.specs.declared.GotStringLength.the-variants.{Value, Refused}
 
+-- 01, grammar: the u16 length of a string, or the refusal
 abbrev pub toldStringLength : GotStringLength → Fit ℕ
 toldStringLength (Value n) = got n
 toldStringLength (Refused e) = bad (toldError e)

@@ -10,7 +10,7 @@ use lib.Seq.{sets}
 use Rattle.grammar.specs.Choice.{isEmpty}
 use Rattle.grammar.specs.Tables.{number, pair, subscribePlace}
 use Rattle.reading.specs.Refusal.{nr}
-use Rattle.reading.specs.Reader.{Fit, guard}
+use Rattle.reading.specs.Reader.{Fit, _>>_, guard}
 use Rattle.writing.specs.Lists.{flat}
 use Rattle.writing.specs.Handed.{SubscribeHanded, subscribe, one, pairs, addsUp, subscribeGiven, filters, filtersBelong, rowBelongs, belongs}
 use Rattle.writing.specs.Size.{most, withLength, givenSize, propsSize, restIs, cap}
@@ -19,8 +19,7 @@ use Rattle.writing.specs.Order.{judge, fieldTests, filterField, small, orNone}
 use Rattle.writing.specs.Write.{firstByte, frameBytes}
 use Rattle.writing.proofs.ForCode.{judgeAll, subscribe-belongs, subscribe-tests, subscribe-sum, subscribe-frame, cap-small, cap-length}
 use Rattle.writing.proofs.Pins.{subscribe-props, first-bytes}
-use Rattle.number_puts.proofs.Laws.Put.{length-wide}
-use Rattle.row_tests.specs.Tested.{first}
+use Rattle.writing.proofs.Says.{length-wide}
 use Rattle.row_sizes.proofs.Laws.{cap-left, cap-both, cap-last}
 use Rattle.row_puts.specs.Put.{Put}
 use Rattle.row_puts.specs.Behind.{Behind}
@@ -59,14 +58,14 @@ module _ (h : SubscribeHanded) where
   -- ---- 20 and the fields
 
   pub early-all : {b : Bool} {x y r : Fit (Unit {0})} → b ≡ belongs (subscribe h) → b ≡ true → x ≡ judgeAll (h .user)
-      → y ≡ judge (flat fieldTests (map filterField (filtersOf (h .filters .bytes) (h .filters .lengths) (h .options)))) → r ≡ first x y → r ≡ earlyOf (subscribe h)
+      → y ≡ judge (flat fieldTests (map filterField (filtersOf (h .filters .bytes) (h .filters .lengths) (h .options)))) → r ≡ (x >> y) → r ≡ earlyOf (subscribe h)
   unfolding filters
   early-all {b} e f i j k = k ∙ rw (i, j) (sym (subscribe-tests h)) ∙ early-fields (subscribe h) b e f
 
   -- ---- 17 for the identifier, and 13
 
   pub late-all : {x y r : Fit (Unit {0})} → x ≡ judge (map small (orNone (h .subscription)))
-      → y ≡ guard (not (isEmpty (filtersOf (h .filters .bytes) (h .filters .lengths) (h .options)))) (nr 13 []) → r ≡ first x y → r ≡ lateOf (subscribe h)
+      → y ≡ guard (not (isEmpty (filtersOf (h .filters .bytes) (h .filters .lengths) (h .options)))) (nr 13 []) → r ≡ (x >> y) → r ≡ lateOf (subscribe h)
   unfolding filters
   late-all e f g = g ∙ rw (e, f)
 

@@ -8,6 +8,7 @@ use Rattle.records.specs.Told.{toldError, toldQoS}
 use Rattle.tables.specs.declared.qos.GotQos.{GotQos}
 use Rattle.tables.specs.declared.qos.GotQos.the-variants.{Value, Refused}
 
+-- the quality of service as its number, or the refusal
 abbrev pub toldGotQos : GotQos → Fit ℕ
 toldGotQos (Value q) = got (toldQoS q)
 toldGotQos (Refused e) = bad (toldError e)

@@ -22,6 +22,7 @@ kindAt Packet.PingResp = 62
 abbrev pub oneMore : List ℕ → ℕ → List ℕ
 oneMore t k = set t k ((getD t k 0 + 1) % 2 ^ 64)
 
+-- one more refusal: under its number, and among all
 abbrev pub refusedMore : List ℕ → Error → List ℕ
 refusedMore t e = oneMore (oneMore t (rowOf (toldError e))) 63
 
@@ -46,5 +47,6 @@ refusalsTo t (suc k) = refusalsTo t k ++ refusalText (k + 1) (getD t (k + 1) 0)
 abbrev pub endText : ℕ → List ℕ
 endText bytes = (codesOf " bytes=" ++ decimalOf bytes) ++ (10 ∷ [])
 
+-- docs/DESK.md: the last line, of all that was read
 abbrev pub summaryLine : List ℕ → ℕ → List ℕ
 summaryLine t bytes = ((kindsText t ++ pingsText t) ++ refusalsTo t 21) ++ endText bytes

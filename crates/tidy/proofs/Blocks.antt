@@ -1,17 +1,18 @@
 -- A block that was read, handed over to be written: row by row it belongs together, can be written, and is no longer. Assumes nothing.
 use mathlib.Core.Path.{_≡_, refl, sym, ap}
-use mathlib.Core.Bool.{Bool, true, false, not}
+use mathlib.Core.Bool.{Bool, true, false, not, cond}
 use mathlib.Core.Option.{none, some}
 use mathlib.Core.List.{List, [], _∷_, _++_}
 use Prim.Native.Nat.{ℕ, _+_, _≤_}
 use native.Mathlib.Omega.{arith}
 use lib.Dec.{eqb, eqb-refl}
-use Rattle.grammar.specs.Choice.{pick, lookup, isEmpty}
+use Rattle.grammar.specs.Choice.{lookup, isEmpty}
 use Rattle.grammar.specs.Tables.{Form, Place}
 use Rattle.grammar.specs.Record.{allOf, unlessEmpty}
 use Rattle.grammar.specs.Sentence.{Value, Prop}
+use Rattle.grammar.specs.Octets.{Each, nil, _&_}
 use Rattle.reading.proofs.Lists.{no-way, T-true, eq-of, not-true}
-use Rattle.writing.specs.Lists.{Each, nil, _&_, flat, all, total}
+use Rattle.writing.specs.Lists.{flat, all, total}
 use Rattle.writing.specs.Handed.{Givens, items, tag, entries}
 use Rattle.writing.specs.Size.{most, withLength, propsSize}
 use Rattle.writing.specs.Order.{propsFields}
@@ -51,7 +52,7 @@ module _ (p : Prop) (ps : List Prop) where
   add-row (r ∷ rs) d = go (eqb (p .0) (r .0)) refl (add-row rs (d .1))
     where
       go : (t : Bool) → eqb (p .0) (r .0) ≡ t → allSize rs (p ∷ ps) ≤ propSize rs p + allSize rs ps
-          → weigh (r .1) (pick t (p .1 ∷ allOf (r .0) ps) (allOf (r .0) ps)) + allSize rs (p ∷ ps) ≤ propSize (r ∷ rs) p + (weigh (r .1) (allOf (r .0) ps) + allSize rs ps)
+          → weigh (r .1) (cond t (p .1 ∷ allOf (r .0) ps) (allOf (r .0) ps)) + allSize rs (p ∷ ps) ≤ propSize (r ∷ rs) p + (weigh (r .1) (allOf (r .0) ps) + allSize rs ps)
       go true e ih =
           let i : p .0 ≡ r .0 = eq-of (p .0) (r .0) e in
           let n = other-rows rs (rw i (d .0)) in
@@ -75,7 +76,7 @@ no-row : (i : ℕ) (f : Form) (ps : List Prop) {place : Place} → Each (λ r. a
 no-row i f ps nil e = cc
 no-row i f ps (_&_ {a = r} {l = rs} p rows) e = go (no-row i f ps rows) (eqb (r .0) i) refl e
   where
-    go : (lookup rs i ≡ some f → allOf i ps ≡ []) → (t : Bool) → eqb (r .0) i ≡ t → pick t (some (r .1)) (lookup rs i) ≡ some f → allOf i ps ≡ []
+    go : (lookup rs i ≡ some f → allOf i ps ≡ []) → (t : Bool) → eqb (r .0) i ≡ t → cond t (some (r .1)) (lookup rs i) ≡ some f → allOf i ps ≡ []
     go ih true q w = rw (← eq-of (r .0) i q) p
     go ih false q w = ih w
 
@@ -142,6 +143,6 @@ module _ {A : Type 0} (f : List Prop → A) where
   with-list from e i [] = ap (from false) (sym i)
   with-list from e i (p ∷ ps) = refl
 
-  pub set-list : (ps : List Prop) (s : A) → s ≡ f ps → pick (not (isEmpty ps)) (some s) none ≡ unlessEmpty f ps
+  pub set-list : (ps : List Prop) (s : A) → s ≡ f ps → cond (not (isEmpty ps)) (some s) none ≡ unlessEmpty f ps
   set-list [] s e = refl
   set-list (p ∷ ps) s e = ap some e

@@ -1,18 +1,19 @@
 -- A packet that a sentence says, handed over to be written: the write is accepted, and what it means is that packet. Assumes nothing.
 use mathlib.Core.Path.{_≡_, refl, sym, ap, _∙_, subst}
-use mathlib.Core.Bool.{Bool, true, false, not}
+use mathlib.Core.Bool.{Bool, true, false, not, cond}
 use mathlib.Core.Option.{Option, none, some}
 use mathlib.Core.List.{List, [], _∷_, map}
 use Prim.Native.Nat.{ℕ, _+_, _*_, _/_, _%_, _≤_, _<_}
 use native.Mathlib.Omega.{arith}
 use lib.ListN.{length, length-append, length-map}
-use Rattle.grammar.specs.Choice.{pick, isEmpty}
+use Rattle.grammar.specs.Choice.{isEmpty}
 use Rattle.grammar.specs.Tables.{Form, u8, u16, u32, number, text, bytes, pair, publishPlace, subscribePlace, ackPlace}
 use Rattle.grammar.specs.Record.{num, str, lastOf, allOf, PublishProps, publishProps, SubscribeProps, subscribeProps, AckProps, ackProps, Publish, Filter, Subscribe, Ack, mkFilter}
 use Rattle.grammar.specs.Sentence.{Value, Prop, asList, qosFine, ruleFine, someOf, Packet}
 use Rattle.grammar.specs.Record as g
+use Rattle.grammar.specs.Octets.{Each, nil, _&_, Octets}
 use Rattle.reading.proofs.Lists.{no-way}
-use Rattle.writing.specs.Lists.{Each, nil, _&_, Octets, flat, total, beside}
+use Rattle.writing.specs.Lists.{flat, total, beside}
 use Rattle.writing.specs.Handed.{PublishHanded, SubscribeHanded, AckHanded, Handed, publish, ack, subscribe, ping, publishGiven, subscribeGiven, ackGiven, filters}
 use Rattle.writing.specs.Size.{most, withLength, propsSize, isPlain, restIs, sizeIs}
 use Rattle.writing.specs.Order.{stringField, filterField, fieldsOf, orNone, numbersOf}
@@ -198,7 +199,7 @@ ack-none : ackProps (List ℕ) List asList [] ≡ noAck
 unfolding ackProps lastOf allOf
 ack-none = refl
 
-plain-small : (t : Bool) (n : ℕ) → 3 + n ≤ most → pick t 2 (3 + n) ≤ most
+plain-small : (t : Bool) (n : ℕ) → 3 + n ≤ most → cond t 2 (3 + n) ≤ most
 plain-small true n h = omega arith
 plain-small false n h = h
 
@@ -330,7 +331,7 @@ subscribe-good p w =
       typed = record { ident = w .ident; user = users-octets (subscribe-user p ps (w .props .suits)); filters = run-octets (b .octets) };
       plain = rows-filled (subscribeGiven h) ps rows (w .props .suits);
       means =
-          ap (λ (fs : List (Filter (List ℕ))). g.subscribe (record { ident = p .ident; props = pick (not (isEmpty ps)) (some (subscribeSet h)) none; filters = fs })) (ap (map mkFilter) e ∙ b .back)
+          ap (λ (fs : List (Filter (List ℕ))). g.subscribe (record { ident = p .ident; props = cond (not (isEmpty ps)) (some (subscribeSet h)) none; filters = fs })) (ap (map mkFilter) e ∙ b .back)
           ∙ ap (λ (o : Option (SubscribeProps (List ℕ) List)). g.subscribe (record { ident = p .ident; props = o; filters = p .filters })) (set-list (subscribeProps (List ℕ) List asList) ps (subscribeSet h) (subscribe-set-back p ps (w .props .suits)) ∙ sym (w .props .is));
     }
 

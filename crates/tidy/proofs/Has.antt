@@ -4,15 +4,17 @@ use mathlib.Core.Option.{Option, none, some}
 use mathlib.Core.List.{List, [], _∷_, _++_}
 use Prim.Native.Nat.{ℕ, suc, _+_, _*_, _^_, _≤_, _<_}
 use native.Mathlib.Omega.{arith}
-use native.Mathlib.Nat.{pow-suc, mul-assoc, mul-comm, mul-le-mul-right, one-le-pow}
+use native.Mathlib.Nat.{pow-suc, mul-assoc, mul-comm, mul-le-mul-right}
 use lib.ListN.{length, length-append}
 use Rattle.grammar.specs.Choice.{lookup}
 use Rattle.grammar.specs.Gram.{Gram, mapped, both, Sized, sized, done, more, Many, Is, is}
-use Rattle.grammar.specs.Number.{Byte, byte, bigFrom, Big, big, Groups, last, next, Spells}
+use Rattle.grammar.specs.Number.{Byte, byte, bigFrom, Big, big, Spells}
 use Rattle.grammar.specs.Text.{Utf8}
 use Rattle.grammar.specs.Tables.{Form, u8, u16, u32, number, text, bytes, pair, Place}
 use Rattle.grammar.specs.Sentence.{Any, Value, Prop, Spelt, Property, property, Block}
-use Rattle.writing.specs.Lists.{Each, nil, _&_, Octet, Octets, total}
+use Rattle.grammar.proofs.Numbers.{spells-small}
+use Rattle.grammar.specs.Octets.{Each, nil, _&_, Octet, Octets}
+use Rattle.writing.specs.Lists.{total}
 use Rattle.writing.specs.Spell.{short, string, numeral, value}
 use Rattle.writing.specs.Size.{lenLen, withLength}
 use Rattle.writing.specs.Refuse.{Short, Small}
@@ -52,19 +54,8 @@ big-bound n (x ∷ b) o =
 pub has-big : (k : ℕ) → Has (Big k) (λ v n. (v < 256 ^ k) × (n ≡ k))
 has-big k _ b (big e) o = let h = big-bound 0 b o in (rw (← e) (omega arith), e)
 
-groups-small : (k : ℕ) → Has (Groups k) (λ v n. v < 128 ^ k)
-groups-small _ _ _ (last {k = k} {x = x} h) o =
-    let p : 128 ^ suc k ≡ 128 ^ k * 128 = pow-suc 128 k in
-    let q : 1 ≤ 128 ^ k = one-le-pow k 128 (omega arith) in
-    rw p (omega arith)
-groups-small _ _ _ (next {k = k} {x = x} {n = n} {b = b} h g) o =
-    let p : 128 ^ suc k ≡ 128 ^ k * 128 = pow-suc 128 k in
-    let q : x < 256 = each-head o in
-    let i = groups-small k n b g (each-tail o) in
-    rw p (omega arith)
-
 pub has-number : Has Spells (λ v n. Small v × (lenLen v ≤ n))
-has-number v b g o = let h = groups-small 4 v b g o in (omega arith, omega (arith, length-short v, short-shortest v b g o))
+has-number v b g o = (spells-small v b g o, omega (arith, length-short v, short-shortest v b g o))
 
 -- a smaller number has no more bytes in front
 pub withLength-mono : (m n : ℕ) → m ≤ n → Small n → withLength m ≤ withLength n

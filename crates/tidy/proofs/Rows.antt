@@ -1,7 +1,7 @@
 -- A row of a set that was read, handed over to be written: it belongs together, can be written, and takes no more bytes than the block
 -- that it was read from. Assumes nothing.
 use mathlib.Core.Path.{_≡_, refl, sym, ap, _∙_, subst}
-use mathlib.Core.Bool.{Bool, true, false}
+use mathlib.Core.Bool.{Bool, true, false, cond}
 use mathlib.Core.Option.{Option, none, some}
 use mathlib.Core.List.{List, [], _∷_, map}
 use Prim.Native.Nat.{ℕ, _+_, _%_, _≤_}
@@ -9,12 +9,13 @@ use native.Mathlib.Omega.{arith}
 use lib.Dec.{eqb}
 use lib.ListN.{length, length-append}
 use lib.Seq.{take-append-seam, drop-append-seam}
-use Rattle.grammar.specs.Choice.{pick, lookup}
+use Rattle.grammar.specs.Choice.{lookup}
 use Rattle.grammar.specs.Tables.{Form, number, bytes, pair, Place}
 use Rattle.grammar.specs.Record.{num, str, duo, lastFrom, lastOf, allOf}
 use Rattle.grammar.specs.Sentence.{Value, Prop}
+use Rattle.grammar.specs.Octets.{Each, nil, _&_, Octets}
 use Rattle.reading.proofs.Lists.{no-way, eq-of}
-use Rattle.writing.specs.Lists.{Each, nil, _&_, Octets, flat}
+use Rattle.writing.specs.Lists.{flat}
 use Rattle.writing.specs.Handed.{Given, one, lent, pairs, several, strings, duos, items}
 use Rattle.writing.specs.Size.{givenSize}
 use Rattle.writing.specs.Order.{word, stringField, givenFields, orNone}
@@ -44,7 +45,7 @@ module _ (place : Place) (i : ℕ) (f : Form) (e : lookup place i ≡ some f) wh
   last-from h nil = h
   last-from {o} h (_&_ {a = p} s ss) = last-from (go (eqb (p .0) i) refl) ss
     where
-      go : (t : Bool) → eqb (p .0) i ≡ t → Perhaps (Suits f) (pick t (some (p .1)) o)
+      go : (t : Bool) → eqb (p .0) i ≡ t → Perhaps (Suits f) (cond t (some (p .1)) o)
       go true q = present (of-row p s q)
       go false q = h
 
@@ -57,7 +58,7 @@ module _ (place : Place) (i : ℕ) (f : Form) (e : lookup place i ≡ some f) wh
   all-suits nil = nil
   all-suits (_&_ {a = p} {l = ps} s ss) = go (all-suits ss) (eqb (p .0) i) refl
     where
-      go : Each (Suits f) (allOf i ps) → (t : Bool) → eqb (p .0) i ≡ t → Each (Suits f) (pick t (p .1 ∷ allOf i ps) (allOf i ps))
+      go : Each (Suits f) (allOf i ps) → (t : Bool) → eqb (p .0) i ≡ t → Each (Suits f) (cond t (p .1 ∷ allOf i ps) (allOf i ps))
       go r true q = of-row p s q & r
       go r false q = r
 
@@ -119,19 +120,19 @@ optional (some v) = v ∷ []
 last-light : (f : Form) (i : ℕ) (o : Option Value) (ps : List Prop) → weigh f (optional (lastFrom o i ps)) ≤ weigh f (optional o) + weigh f (allOf i ps)
 unfolding allOf
 last-light f i o [] = omega arith
-last-light f i o (p ∷ ps) = go (eqb (p .0) i) (last-light f i (pick (eqb (p .0) i) (some (p .1)) o) ps)
+last-light f i o (p ∷ ps) = go (eqb (p .0) i) (last-light f i (cond (eqb (p .0) i) (some (p .1)) o) ps)
   where
-    go : (t : Bool) → weigh f (optional (lastFrom (pick (eqb (p .0) i) (some (p .1)) o) i ps)) ≤ weigh f (optional (pick t (some (p .1)) o)) + weigh f (allOf i ps)
-        → weigh f (optional (lastFrom (pick (eqb (p .0) i) (some (p .1)) o) i ps)) ≤ weigh f (optional o) + weigh f (pick t (p .1 ∷ allOf i ps) (allOf i ps))
+    go : (t : Bool) → weigh f (optional (lastFrom (cond (eqb (p .0) i) (some (p .1)) o) i ps)) ≤ weigh f (optional (cond t (some (p .1)) o)) + weigh f (allOf i ps)
+        → weigh f (optional (lastFrom (cond (eqb (p .0) i) (some (p .1)) o) i ps)) ≤ weigh f (optional o) + weigh f (cond t (p .1 ∷ allOf i ps) (allOf i ps))
     go true h = omega arith
     go false h = h
 
 last-none : (i : ℕ) (ps : List Prop) (o : Option Value) → lastFrom o i ps ≡ none → (o ≡ none) × (allOf i ps ≡ [])
 unfolding allOf
 last-none i [] o e = (e, refl)
-last-none i (p ∷ ps) o e = go (eqb (p .0) i) (last-none i ps (pick (eqb (p .0) i) (some (p .1)) o) e)
+last-none i (p ∷ ps) o e = go (eqb (p .0) i) (last-none i ps (cond (eqb (p .0) i) (some (p .1)) o) e)
   where
-    go : (t : Bool) → (pick t (some (p .1)) o ≡ none) × (allOf i ps ≡ []) → (o ≡ none) × (pick t (p .1 ∷ allOf i ps) (allOf i ps) ≡ [])
+    go : (t : Bool) → (cond t (some (p .1)) o ≡ none) × (allOf i ps ≡ []) → (o ≡ none) × (cond t (p .1 ∷ allOf i ps) (allOf i ps) ≡ [])
     go true (q, r) = let z : _≡_ {A = ℕ} 0 1 = cc in absurd (omega arith)
     go false h = h
 

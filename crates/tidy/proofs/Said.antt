@@ -1,13 +1,13 @@
 -- What holds of every packet that a sentence says. Assumes nothing.
 use mathlib.Core.Path.{_≡_, refl, sym, ap, _∙_}
-use mathlib.Core.Bool.{Bool, true, false, not, _||_}
+use mathlib.Core.Bool.{Bool, true, false, not, _||_, cond}
 use mathlib.Core.Option.{Option, none, some}
 use mathlib.Core.List.{List, [], _++_}
 use Prim.Native.Nat.{ℕ, zero, suc, _+_, _≤_, _<_}
 use native.Mathlib.Omega.{arith}
 use lib.Dec.{eqb}
 use lib.ListN.{length, length-append}
-use Rattle.grammar.specs.Choice.{pick, isIn, lookup}
+use Rattle.grammar.specs.Choice.{isIn, lookup}
 use Rattle.grammar.specs.Gram.{nothing, mapped, only, both, sized, is}
 use Rattle.grammar.specs.Number.{byte}
 use Rattle.grammar.specs.Text.{Utf8}
@@ -15,8 +15,9 @@ use Rattle.grammar.specs.Tables.{publishPlace, subscribePlace, ackPlace, reason
 use Rattle.grammar.specs.Record.{AckProps, Publish, Filter, Subscribe, Ack, kindOf, flagQos, mkFilter}
 use Rattle.grammar.specs.Sentence.{Any, publishOf, subscribeOf, ackOf, notThree, notZero, Ident, qosFine, ruleFine, FilterOf, someOf, AckRest, plain, coded, full, Packet, Fields, body, framed, Sentence}
 use Rattle.grammar.specs.Record as g
+use Rattle.grammar.specs.Octets.{Each, nil, Octets}
 use Rattle.reading.proofs.Lists.{no-way}
-use Rattle.writing.specs.Lists.{Each, nil, Octets, total}
+use Rattle.writing.specs.Lists.{total}
 use Rattle.writing.specs.Size.{most, identSize}
 use Rattle.writing.specs.Refuse.{Short}
 use Rattle.writing.proofs.Each.{each-tail, each-left, each-right, lookup-each}
@@ -95,7 +96,7 @@ has-ident (suc q) i b (only t g) o =
     let (h, e) = has-big 2 i b g o in
     record { small = omega arith; unnamed = λ z. absurd (omega arith); named = λ _ z. no-way (ap notZero (sym z) ∙ t); light = omega (arith, two (eqb (suc q) 0 || eqb i 0)) }
   where
-    two : (t : Bool) → pick t 0 2 ≤ 2
+    two : (t : Bool) → cond t 0 2 ≤ 2
     two true = omega arith
     two false = omega arith
 

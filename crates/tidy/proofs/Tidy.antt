@@ -7,12 +7,12 @@ use mathlib.Core.List.{List, [], _++_, append-nil}
 use Prim.Native.Nat.{ℕ}
 use lib.ListN.{length}
 use Rattle.grammar.specs.Sentence.{Packet, Sentence}
+use Rattle.grammar.specs.Octets.{Octets}
 use Rattle.reading.specs.Refusal.{nr, accepted, refused}
 use Rattle.reading.specs.Reader.{got, bad}
 use Rattle.reading.specs.Read.{readOf}
 use Rattle.reading.proofs.Reading.{got-inj}
 use Rattle.reading.proofs.Demand.{reads-sentence}
-use Rattle.writing.specs.Lists.{Octets}
 use Rattle.writing.specs.Size.{sizeIs}
 use Rattle.writing.specs.Write.{frameBytes, writeOf}
 use Rattle.writing.proofs.Each.{each-left}

@@ -10,6 +10,7 @@ use Rattle.records.specs.Told.{toldError, toldSpan}
 use Rattle.wire.specs.declared.got.GotSpan.{GotSpan}
 use Rattle.wire.specs.declared.got.GotSpan.the-variants.{Value, Refused}
 
+-- 01, grammar: the place of a string, and the index after it; or the refusal
 abbrev pub toldPart : GotSpan → Fit (place.Span × ℕ)
 toldPart (Value p next) = got (toldSpan p, next)
 toldPart (Refused e) = bad (toldError e)

@@ -9,6 +9,7 @@ use Rattle.names.specs.Names.{codesOf}
 use Rattle.words.specs.declared.Asked.{Asked}
 use Rattle.words.specs.declared.Parsed.{Parsed}
 
+-- docs/DESK.md, the N of `--limit N`: the number, if the word is one
 abbrev pub toldNumber : Parsed → Option ℕ
 toldNumber (Parsed.Value n) = some n
 toldNumber Parsed.Bad = none

@@ -1,13 +1,12 @@
 -- What the benchmark hands over, and the number that it is given. Assumes nothing.
 use mathlib.Core.Path.{_≡_}
-use mathlib.Core.Bool.{true, false}
+use mathlib.Core.Bool.{true, false, cond}
 use mathlib.Core.Option.{none}
 use mathlib.Core.List.{List}
 use Prim.Native.Nat.{ℕ}
 use lib.Dec.{eqb}
 use lib.ListN.{length}
-use Rattle.grammar.specs.Choice.{pick}
-use Rattle.reading.specs.Reader.{Fit, got, bad}
+use Rattle.positions.specs.Count.{orZero}
 use Rattle.records.specs.declared.qos.QoS.{QoS}
 use Rattle.records.specs.declared.span.MaybeU8.{MaybeU8}
 use Rattle.records.specs.declared.span.MaybeU16.{MaybeU16}
@@ -19,7 +18,7 @@ use Rattle.packet_parts.specs.declared.head.PacketHead.{PacketHead}
 
 -- QoS 0 for the identifier 0, else QoS 1
 abbrev pub qosFor : ℕ → QoS
-qosFor pkid = pick (eqb pkid 0) QoS.AtMostOnce QoS.AtLeastOnce
+qosFor pkid = cond (eqb pkid 0) QoS.AtMostOnce QoS.AtLeastOnce
 
 -- a Publish with user properties alone
 abbrev pub headOf : ℕ → PublishHead
@@ -37,12 +36,7 @@ headOf i = record {
   «content_type» = false;
 }
 
--- the size, or 0
-abbrev pub numberOf : Fit ℕ → ℕ
-numberOf (got n) = n
-numberOf (bad k) = 0
-
 -- the number r that is given, and the output before and after
 pub record Counted (pkid : ℕ) (p : Parts) (before after : List ℕ) (r : ℕ) : Type 0 where
-  pub number : r ≡ numberOf (answerOfUnion none (length before) (unionOf (PacketHead.Publish (headOf pkid)) p))
+  pub number : r ≡ orZero (answerOfUnion none (length before) (unionOf (PacketHead.Publish (headOf pkid)) p))
   pub output : after ≡ outOfUnion none before (unionOf (PacketHead.Publish (headOf pkid)) p)

@@ -9,8 +9,9 @@ use lib.Dec.{eqb}
 use lib.ListN.{length}
 use Rattle.grammar.specs.Choice.{isEmpty}
 use Rattle.grammar.specs.Tables.{Place, publishPlace, subscribePlace, ackPlace}
+use Rattle.grammar.specs.Octets.{Each, nil, _&_}
 use Rattle.reading.proofs.Lists.{no-way, eq-of}
-use Rattle.writing.specs.Lists.{Each, nil, _&_, flat, sum}
+use Rattle.writing.specs.Lists.{flat, sum}
 use Rattle.writing.specs.Handed.{AckHanded, Handed, publish, ack, subscribe, ping, Given, one, lent, pairs, several, Givens, publishGiven, subscribeGiven, ackGiven, items, tag, entries, filters, addsUp, sorted, nothing, blockBelongs, filtersBelong, belongs}
 use Rattle.writing.specs.Size.{isPlain}
 use Rattle.writing.specs.Order.{named, asked}

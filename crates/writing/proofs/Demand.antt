@@ -1,7 +1,7 @@
 -- What is written is a sentence that says the record, it is bytes, and it is as long as the size says; so it is read back.
 -- Assumes nothing.
 use mathlib.Core.Path.{_≡_, refl, sym, ap, _∙_}
-use mathlib.Core.Bool.{Bool, true, false}
+use mathlib.Core.Bool.{Bool, true, false, cond}
 use mathlib.Core.Option.{Option, none, some}
 use mathlib.Core.List.{List, _++_}
 use Prim.Native.Nat.{ℕ, _≤_}
@@ -10,35 +10,27 @@ use native.Mathlib.Nat.{zero-add}
 use lib.Dec.{eqb}
 use lib.ListN.{length, drop, length-append, length-drop}
 use lib.Seq.{sets, sets-eq}
-use Rattle.grammar.specs.Choice.{pick, isEmpty}
+use Rattle.grammar.specs.Choice.{isEmpty}
 use Rattle.grammar.specs.Tables.{Place, publishPlace, subscribePlace, ackPlace}
 use Rattle.grammar.specs.Sentence.{Sentence}
+use Rattle.grammar.specs.Octets.{Each}
 use Rattle.reading.specs.Refusal.{Refusal, accepted}
 use Rattle.reading.specs.Reader.{Fit, got, bad}
 use Rattle.reading.specs.Read.{readOf}
 use Rattle.reading.proofs.Lists.{eq-of}
 use Rattle.reading.proofs.Demand.{reads-sentence}
-use Rattle.writing.specs.Lists.{Each, Octets}
 use Rattle.writing.specs.Handed.{PublishHanded, SubscribeHanded, AckHanded, Handed, publish, ack, subscribe, ping, Givens, publishGiven, subscribeGiven, ackGiven, entries}
 use Rattle.writing.specs.Size.{sizeIs}
-use Rattle.writing.specs.Write.{frameBytes, sizeOf, writeOf, answerOf, leaves, outOf}
-use Rattle.writing.specs.Refuse.{InBlock, Belongs, Within}
+use Rattle.writing.specs.Write.{frameBytes, writeOf, leaves, outOf}
+use Rattle.writing.specs.Refuse.{InBlock, Belongs}
 use Rattle.writing.specs.Meant.{publishSet, subscribeSet, ackSet, thePublish, theAck, theSubscribe, meant, nonePublish, noneAck, noneSubscribe, said, Typed, Filled, Plain}
+use Rattle.writing.specs.Written.{WrittenBytes}
 use Rattle.writing.proofs.Belong.{nothing-entries}
 use Rattle.writing.proofs.Sizes.{length-frame}
 use Rattle.writing.proofs.Verdict.{answered-when, accepts, written, sized-when}
 use Rattle.writing.proofs.Packets.{says-handed}
 
 -- ---- an accepted write, of anything that is handed over
-
--- the bytes b that were written
-pub record WrittenBytes (limit : Option ℕ) (room : ℕ) (h : Handed) (b : List ℕ) : Type 0 where
-  pub sentence : Sentence (said h) b
-  pub octets : Octets b
-  pub size : sizeOf h ≡ got (length b)
-  pub answer : answerOf limit room h ≡ got (length b)
-  pub within : Within limit (length b)
-  pub fits : length b ≤ room
 
 module _ (limit : Option ℕ) (room : ℕ) (h : Handed) (b : List ℕ) (e : writeOf limit room h ≡ got b) where
   -- the size is the number of bytes
@@ -67,18 +59,18 @@ module _ (limit : Option ℕ) (room : ℕ) (h : Handed) (b : List ℕ) (t : Type
 
 -- ---- when that is the record
 
-ident-same : (q i : ℕ) → (q ≡ 0 → i ≡ 0) → pick (eqb q 0) 0 i ≡ i
+ident-same : (q i : ℕ) → (q ≡ 0 → i ≡ 0) → cond (eqb q 0) 0 i ≡ i
 ident-same q i f = go (eqb q 0) refl
   where
-    go : (t : Bool) → eqb q 0 ≡ t → pick t 0 i ≡ i
+    go : (t : Bool) → eqb q 0 ≡ t → cond t 0 i ≡ i
     go true e = sym (f (eq-of q 0 e))
     go false e = refl
 
 set-same : {A : Type 0} (place : Place) (block : Bool) (g : Givens) → Each (InBlock block g) place → Filled block (isEmpty (entries place g)) → (a : A)
-    → pick (isEmpty (entries place g)) none (some a) ≡ pick block (some a) none
+    → cond (isEmpty (entries place g)) none (some a) ≡ cond block (some a) none
 set-same place true g w f a = go (isEmpty (entries place g)) refl
   where
-    go : (t : Bool) → isEmpty (entries place g) ≡ t → pick t none (some a) ≡ some a
+    go : (t : Bool) → isEmpty (entries place g) ≡ t → cond t none (some a) ≡ some a
     go true e = absurd (f refl e)
     go false e = refl
 set-same place false g w f a = rw (nothing-entries place false g w refl)
@@ -106,14 +98,14 @@ module _ (limit : Option ℕ) (room : ℕ) (h : Handed) (b : List ℕ) (t : Type
 
 module _ (limit : Option ℕ) (room : ℕ) (b r : List ℕ) where
   pub reads-no-ident : (h : PublishHanded) → Typed (publish h) → Filled (h .block) (nonePublish h) → h .qos ≡ 0 → writeOf limit room (publish h) ≡ got b
-      → readOf none (b ++ r) ≡ accepted (thePublish h 0 (pick (h .block) (some (publishSet h)) none)) (length b)
+      → readOf none (b ++ r) ≡ accepted (thePublish h 0 (cond (h .block) (some (publishSet h)) none)) (length b)
   unfolding said
   reads-no-ident h t f q e =
       reads-said limit room (publish h) b t e r
       ∙ rw (set-same publishPlace (h .block) (publishGiven h) (accepts limit room (publish h) b e .countable .belongs) f (publishSet h), q)
 
   pub publish-no-set : (h : PublishHanded) → Typed (publish h) → nonePublish h ≡ true → writeOf limit room (publish h) ≡ got b
-      → readOf none (b ++ r) ≡ accepted (thePublish h (pick (eqb (h .qos) 0) 0 (h .ident)) none) (length b)
+      → readOf none (b ++ r) ≡ accepted (thePublish h (cond (eqb (h .qos) 0) 0 (h .ident)) none) (length b)
   unfolding said
   publish-no-set h t f e = reads-said limit room (publish h) b t e r ∙ rw f
 

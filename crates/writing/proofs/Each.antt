@@ -1,15 +1,16 @@
 -- Facts of every element, and of lists one after the other. Assumes nothing.
 use mathlib.Core.Path.{_≡_, refl}
-use mathlib.Core.Bool.{Bool, true, false}
+use mathlib.Core.Bool.{Bool, true, false, cond}
 use mathlib.Core.Option.{some}
 use native.Mathlib.Omega.{arith}
 use lib.Dec.{eqb}
 use mathlib.Core.List.{List, [], _∷_, _++_, map, append-assoc}
 use Prim.Native.Nat.{ℕ, zero, suc}
 use lib.ListN.{take, drop}
-use Rattle.grammar.specs.Choice.{pick, lookup}
+use Rattle.grammar.specs.Choice.{lookup}
+use Rattle.grammar.specs.Octets.{Each, nil, _&_, Octets}
 use Rattle.reading.proofs.Lists.{eq-of}
-use Rattle.writing.specs.Lists.{Each, nil, _&_, Octets, flat, pieces}
+use Rattle.writing.specs.Lists.{flat, pieces}
 
 module _ {A : Type 0} {P : A → Type 0} where
   pub each-head : {a : A} {l : List A} → Each P (a ∷ l) → P a
@@ -76,7 +77,7 @@ pub lookup-each : {A : Type 0} (P : ℕ × A → Type 0) {t : List (ℕ × A)} �
 lookup-each P nil k a e = let z : _≡_ {A = ℕ} 0 1 = cc in absurd (omega arith)
 lookup-each {A} P (_&_ {a = r} {l = rs} p ps) k a e = go (eqb (r .0) k) refl e (lookup-each P ps k a)
   where
-    go : (t : Bool) → eqb (r .0) k ≡ t → pick t (some (r .1)) (lookup rs k) ≡ some a → (lookup rs k ≡ some a → P (k, a)) → P (k, a)
+    go : (t : Bool) → eqb (r .0) k ≡ t → cond t (some (r .1)) (lookup rs k) ≡ some a → (lookup rs k ≡ some a → P (k, a)) → P (k, a)
     go true q e ih =
         let i : r .0 ≡ k = eq-of (r .0) k q in
         let j : r .1 ≡ a = cc in

@@ -1,7 +1,7 @@
 -- What the code of a writer goes by: the contract from the answer and the stores; for each kind its tests, its sums and its bytes one after
 -- the other; and a list's items by the index of a length and the place in the run. Assumes nothing.
 use mathlib.Core.Path.{_≡_, refl, sym, ap, _∙_}
-use mathlib.Core.Bool.{Bool, true, false, _&&_}
+use mathlib.Core.Bool.{Bool, true, false, _&&_, cond}
 use mathlib.Core.Logic.{_⊎_, inl, inr}
 use mathlib.Core.Option.{Option}
 use mathlib.Core.List.{List, [], _∷_, _++_, map, append-assoc, append-nil}
@@ -11,7 +11,6 @@ use native.Mathlib.Numerals.{add-one}
 use lib.Dec.{eqb, leb}
 use lib.ListN.{length, take, drop, getD, drop-of-length-le}
 use lib.Seq.{drop-cons, drop-drop, sets}
-use Rattle.grammar.specs.Choice.{pick}
 use Rattle.grammar.specs.Tables.{u8, u16, u32, number, text, bytes, pair, publishPlace, subscribePlace, ackPlace}
 use Rattle.reading.specs.Refusal.{Refusal}
 use Rattle.reading.specs.Reader.{Fit, got, bad, _>>_}
@@ -75,9 +74,9 @@ fields-append fs gs = rw (flat-append fieldTests fs gs) (judge-append (flat fiel
 
 -- a string that may be absent
 abbrev pub judgeIf : Bool → Field → Fit (Unit {0})
-judgeIf on f = pick on (judge (fieldTests f)) (got tt)
+judgeIf on f = cond on (judge (fieldTests f)) (got tt)
 
-pub judge-if : (on : Bool) (f : Field) → judge (flat fieldTests (pick on (f ∷ []) [])) ≡ judgeIf on f
+pub judge-if : (on : Bool) (f : Field) → judge (flat fieldTests (cond on (f ∷ []) [])) ≡ judgeIf on f
 unfolding judge
 judge-if true f = ap judge (append-nil (fieldTests f))
 judge-if false f = refl
@@ -96,10 +95,10 @@ publish-tests h =
     rw (
       publish-order h,
       fields-more (raw (h .topic)) _,
-      fields-append (pick (h .response .on) (word (h .response .bytes) ∷ []) []) _,
-      fields-append (pick (h .correlation .on) (raw (h .correlation .bytes) ∷ []) []) _,
+      fields-append (cond (h .response .on) (word (h .response .bytes) ∷ []) []) _,
+      fields-append (cond (h .correlation .on) (raw (h .correlation .bytes) ∷ []) []) _,
       fields-append (map word (strings (h .user))) _,
-      append-nil (pick (h .content .on) (word (h .content .bytes) ∷ []) []),
+      append-nil (cond (h .content .on) (word (h .content .bytes) ∷ []) []),
       judge-if (h .response .on) (word (h .response .bytes)),
       judge-if (h .correlation .on) (raw (h .correlation .bytes)),
       judge-if (h .content .on) (word (h .content .bytes)),
@@ -108,7 +107,7 @@ publish-tests h =
 pub ack-tests : (k : ℕ) (h : AckHanded) → judge (flat fieldTests (fieldsOf (ack k h))) ≡ (judgeIf (h .text .on) (word (h .text .bytes)) >> judgeAll (h .user))
 ack-tests k h = rw (
   ack-order k h,
-  fields-append (pick (h .text .on) (word (h .text .bytes) ∷ []) []) _,
+  fields-append (cond (h .text .on) (word (h .text .bytes) ∷ []) []) _,
   append-nil (map word (strings (h .user))),
   judge-if (h .text .on) (word (h .text .bytes)),
 )
@@ -156,7 +155,7 @@ publish-frame h e =
 
 pub ack-frame : (k : ℕ) (h : AckHanded) → belongs (ack k h) ≡ true → frameBytes (ack k h)
     ≡ firstByte (ack k h) ∷ (short (restIs (ack k h)) ++ (wide 2 (h .ident)
-    ++ pick (isPlain h) [] (h .reason ∷ (short (propsSize ackPlace (ackGiven h)) ++ propsBytes ackPlace (ackGiven h)))))
+    ++ cond (isPlain h) [] (h .reason ∷ (short (propsSize ackPlace (ackGiven h)) ++ propsBytes ackPlace (ackGiven h)))))
 unfolding bodyBytes block counted
 ack-frame k h e =
     let w : Belongs (ack k h) = belongs-when (ack k h) .0 e in

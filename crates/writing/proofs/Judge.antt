@@ -7,12 +7,13 @@ use Prim.Native.Nat.{ℕ, _<_}
 use lib.Dec.{leb}
 use lib.ListN.{length}
 use Rattle.grammar.specs.Text.{Utf8}
+use Rattle.grammar.specs.Octets.{Each, nil, _&_}
 use Rattle.reading.specs.Refusal.{Refusal, nr}
 use Rattle.reading.specs.Reader.{got, bad, _>>_, guard}
 use Rattle.reading.specs.Read.{isText}
 use Rattle.reading.proofs.Lists.{leb-yes, leb-no}
 use Rattle.reading.proofs.Fields.{text-fine}
-use Rattle.writing.specs.Lists.{Each, nil, _&_, flat}
+use Rattle.writing.specs.Lists.{flat}
 use Rattle.writing.specs.Size.{most}
 use Rattle.writing.specs.Order.{Test, judge, Field, raw, word, filter, fieldTests, small, limitTests}
 use Rattle.writing.specs.Refuse.{Sound, Faulty, long-raw, long-word, long-filter, bad-word, bad-filter, bad-rule, bad-qos, FirstFault, Small, TooLarge, Within}

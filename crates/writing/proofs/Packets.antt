@@ -1,20 +1,21 @@
 -- What each kind writes fills a frame as its grammar says. Assumes nothing.
 use mathlib.Core.Path.{_≡_, refl, ap, _∙_}
-use mathlib.Core.Bool.{Bool, true, false, not, _&&_, _||_}
+use mathlib.Core.Bool.{Bool, true, false, not, _&&_, _||_, cond}
 use mathlib.Core.Option.{Option, some}
 use mathlib.Core.List.{List, [], _∷_, map}
 use Prim.Native.Nat.{ℕ, zero, suc, _+_, _*_, _/_, _%_, _≤_, _<_}
 use native.Mathlib.Omega.{arith}
 use lib.Dec.{eqb, ltb, ltb→lt, eqb·suc-zero}
 use lib.ListN.{length, length-append}
-use Rattle.grammar.specs.Choice.{pick, isIn, lookup, isEmpty}
+use Rattle.grammar.specs.Choice.{isIn, lookup, isEmpty}
 use Rattle.grammar.specs.Gram.{Only, both, sized, is}
 use Rattle.grammar.specs.Number.{byte, Big}
 use Rattle.grammar.specs.Tables.{publishPlace, subscribePlace, ackPlace, reasons, Layout, aPublish, anAck, aSubscribe, aPing, kinds}
 use Rattle.grammar.specs.Record.{kindOf, flagQos, mkPublish, mkAck, mkFilter, mkSubscribe, mkPing}
 use Rattle.grammar.specs.Sentence.{Any, publishOf, subscribeOf, ackOf, notThree, notZero, Ident, publishGood, someOf, AckRest, plain, full, Packet, Fields, body, framed, Sentence}
+use Rattle.grammar.specs.Octets.{Each, nil, _&_, Octet, Octets}
 use Rattle.reading.proofs.Lists.{no-way, T-of, ltb-yes, eq-of}
-use Rattle.writing.specs.Lists.{Each, nil, _&_, Octet, Octets, flat, all, beside}
+use Rattle.writing.specs.Lists.{flat, all, beside}
 use Rattle.writing.specs.Handed.{PublishHanded, SubscribeHanded, AckHanded, Handed, publish, ack, subscribe, ping, publishGiven, subscribeGiven, ackGiven, strings, propOf, entries, filters}
 use Rattle.writing.specs.Spell.{wide, propsBytes, counted, block}
 use Rattle.writing.specs.Size.{most, isPlain}
@@ -109,11 +110,11 @@ publish-rows h t (_ & (_ & (_ & (a & (b & (c & (_ & (d & nil)))))))) q = rows-of
     & (record { known = refl; small = omega arith; suits = lent-suits (h .content) (a-text (t .content)) d }
     & nil))))))))
 
-says-ident : (q i : ℕ) → i < 65536 → (eqb q 0 || notZero i) ≡ true → Says (Ident q) (pick (eqb q 0) 0 i) (identBytes q i)
+says-ident : (q i : ℕ) → i < 65536 → (eqb q 0 || notZero i) ≡ true → Says (Ident q) (cond (eqb q 0) 0 i) (identBytes q i)
 says-ident zero i h e = says-nothing 0
 says-ident (suc q) i h e = rw (eqb·suc-zero q) (go (eqb i 0) refl (rw (eqb·suc-zero q) at e))
   where
-    go : (t : Bool) → eqb i 0 ≡ t → not t ≡ true → Says (Only notZero (Big 2)) i (pick (eqb i 0) [] (wide 2 i))
+    go : (t : Bool) → eqb i 0 ≡ t → not t ≡ true → Says (Only notZero (Big 2)) i (cond (eqb i 0) [] (wide 2 i))
     go true p n = absurd (no-way n)
     go false p n = rw p (says-only notZero (ap not p) (says-wide 2 i (omega arith)))
 
@@ -146,7 +147,7 @@ publish-fields : (h : PublishHanded) → PublishTyped h → Each Sound (fieldsOf
 unfolding firstByte bodyBytes fieldsOf propsFields said block
 publish-fields h t p i q l =
     let x : ℕ = flags (h .dup) (h .qos) (h .retain) (t .dup) (t .qos) (t .retain) in
-    let j : ℕ = pick (eqb (h .qos) 0) 0 (h .ident) in
+    let j : ℕ = cond (eqb (h .qos) 0) 0 (h .ident) in
     let eq : flagQos x ≡ h .qos = flags-qos (h .dup) (h .qos) (h .retain) (t .dup) (t .qos) (t .retain) in
     let s₁ = says-bytes (t .topic) (each-head p) in
     let s₂ : Says (Ident (flagQos x)) j (identBytes (h .qos) (h .ident)) = rw eq (says-ident (h .qos) (h .ident) (t .ident) i) in
@@ -177,8 +178,8 @@ ack-rows k h t (a & (b & nil)) = rows-of (RightRow ackPlace (ackGiven h)) ackPla
     & nil))
 
 ack-rest : (k : ℕ) (h : AckHanded) (t : AckTyped k h) → Octets (t .reasons) → Each (InBlock (h .block) (ackGiven h)) ackPlace → Each Sound (propsFields ackPlace (ackGiven h))
-    → (b : Bool) → isPlain h ≡ b → length (pick b [] (h .reason ∷ block ackPlace (ackGiven h))) ≤ most
-    → Says (AckRest (t .reasons)) (h .reason, ackOf (map propOf (entries ackPlace (ackGiven h)))) (pick b [] (h .reason ∷ block ackPlace (ackGiven h)))
+    → (b : Bool) → isPlain h ≡ b → length (cond b [] (h .reason ∷ block ackPlace (ackGiven h))) ≤ most
+    → Says (AckRest (t .reasons)) (h .reason, ackOf (map propOf (entries ackPlace (ackGiven h)))) (cond b [] (h .reason ∷ block ackPlace (ackGiven h)))
 unfolding propsFields block
 ack-rest k h t o w p true e l =
     let (success, absent) = plain-when h .0 e in
@@ -191,7 +192,7 @@ ack-fields : (k : ℕ) (h : AckHanded) (t : AckTyped k h) → First k → Octets
     → Says (Fields (anAck (t .reasons)) (firstOf k)) (said (ack k h)) (bodyBytes (ack k h))
 unfolding fieldsOf bodyBytes said
 ack-fields k h t f o w p l =
-    let m : length (pick (isPlain h) [] (h .reason ∷ block ackPlace (ackGiven h))) ≤ most = omega (arith, simp length-append at l) in
+    let m : length (cond (isPlain h) [] (h .reason ∷ block ackPlace (ackGiven h))) ≤ most = omega (arith, simp length-append at l) in
     let same : mkAck (firstOf k) (h .ident, (h .reason, ackOf (map propOf (entries ackPlace (ackGiven h))))) ≡ said (ack k h) = rw (f .kind, ack-says h) in
     rw (← same) (says-map (mkAck (firstOf k)) (says-then (says-wide 2 (h .ident) (omega (arith, t .ident))) (ack-rest k h t o w p (isPlain h) refl m)))
 

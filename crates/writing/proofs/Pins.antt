@@ -1,12 +1,11 @@
 -- What 01 says of the bytes, and the sentence theorem leaves open: first bytes, shortest lengths (`Shortest`), the order of properties,
 -- bits 6-7 of options, a plain success, empty pings. Assumes nothing.
 use mathlib.Core.Path.{_≡_, refl, _∙_}
-use mathlib.Core.Bool.{false}
+use mathlib.Core.Bool.{false, cond}
 use mathlib.Core.Option.{Option}
 use mathlib.Core.List.{List, [], _∷_, _++_, map}
 use Prim.Native.Nat.{ℕ, _+_, _*_, _%_}
 use native.Mathlib.Omega.{arith}
-use Rattle.grammar.specs.Choice.{pick}
 use Rattle.grammar.specs.Tables.{u8, u16, u32, number, text, bytes, pair, publishPlace, subscribePlace, ackPlace}
 use Rattle.reading.specs.Reader.{got}
 use Rattle.writing.specs.Lists.{flat}
@@ -48,10 +47,10 @@ ack-props h = refl
 -- 01, writing order: topic, 8, 9, pairs key then value, 3
 pub publish-order : (h : PublishHanded) → fieldsOf (publish h)
     ≡ raw (h .topic)
-    ∷ (pick (h .response .on) (word (h .response .bytes) ∷ []) []
-    ++ (pick (h .correlation .on) (raw (h .correlation .bytes) ∷ []) []
+    ∷ (cond (h .response .on) (word (h .response .bytes) ∷ []) []
+    ++ (cond (h .correlation .on) (raw (h .correlation .bytes) ∷ []) []
     ++ (map word (strings (h .user))
-    ++ (pick (h .content .on) (word (h .content .bytes) ∷ []) []
+    ++ (cond (h .content .on) (word (h .content .bytes) ∷ []) []
     ++ []))))
 unfolding fieldsOf propsFields publishPlace publishGiven
 publish-order h = refl
@@ -62,7 +61,7 @@ unfolding fieldsOf propsFields subscribePlace subscribeGiven
 subscribe-order h = refl
 
 -- 01, writing order: 31, pairs
-pub ack-order : (k : ℕ) (h : AckHanded) → fieldsOf (ack k h) ≡ pick (h .text .on) (word (h .text .bytes) ∷ []) [] ++ (map word (strings (h .user)) ++ [])
+pub ack-order : (k : ℕ) (h : AckHanded) → fieldsOf (ack k h) ≡ cond (h .text .on) (word (h .text .bytes) ∷ []) [] ++ (map word (strings (h .user)) ++ [])
 unfolding fieldsOf propsFields ackPlace ackGiven
 ack-order k h = refl
 

@@ -1,11 +1,11 @@
 -- The set of properties that a block says is the one that was handed over. Assumes nothing.
 use mathlib.Core.Path.{_≡_, refl, ap, _∙_}
-use mathlib.Core.Bool.{Bool, true, false}
+use mathlib.Core.Bool.{Bool, true, false, cond}
 use mathlib.Core.Option.{Option, none, some}
 use mathlib.Core.List.{List, [], _∷_, _++_, map, append-nil}
 use Prim.Native.Nat.{ℕ}
 use lib.Dec.{eqb}
-use Rattle.grammar.specs.Choice.{pick, isEmpty}
+use Rattle.grammar.specs.Choice.{isEmpty}
 use Rattle.grammar.specs.Tables.{Form, Place, publishPlace, subscribePlace, ackPlace}
 use Rattle.grammar.specs.Record.{str, lastFrom, lastOf, allOf, unlessEmpty, publishProps, subscribeProps, ackProps}
 use Rattle.grammar.specs.Sentence.{Value, Prop, asList, publishOf, subscribeOf, ackOf}
@@ -21,33 +21,33 @@ lastVal o (v ∷ vs) = lastVal (some v) vs
 
 abbrev lastRow : Option Value → ℕ → Place → Givens → Option Value
 lastRow o i [] g = o
-lastRow o i (r ∷ rs) g = lastRow (pick (eqb (r .0) i) (lastVal o (items (g (r .0)))) o) i rs g
+lastRow o i (r ∷ rs) g = lastRow (cond (eqb (r .0) i) (lastVal o (items (g (r .0)))) o) i rs g
 
 abbrev allRow : ℕ → Place → Givens → List Value
 allRow i [] g = []
-allRow i (r ∷ rs) g = pick (eqb (r .0) i) (items (g (r .0))) [] ++ allRow i rs g
+allRow i (r ∷ rs) g = cond (eqb (r .0) i) (items (g (r .0))) [] ++ allRow i rs g
 
 last-tag : (r : ℕ × Form) (i : ℕ) (t : Bool) → eqb (r .0) i ≡ t → (o : Option Value) (vs : List Value) (es : List Entry)
-    → lastFrom o i (map propOf (tag r vs ++ es)) ≡ lastFrom (pick t (lastVal o vs) o) i (map propOf es)
+    → lastFrom o i (map propOf (tag r vs ++ es)) ≡ lastFrom (cond t (lastVal o vs) o) i (map propOf es)
 last-tag r i true e o [] es = refl
 last-tag r i false e o [] es = refl
 last-tag r i true e o (v ∷ vs) es =
-    ap (λ (p : Bool). lastFrom (pick p (some v) o) i (map propOf (tag r vs ++ es))) e ∙ last-tag r i true e (some v) vs es
+    ap (λ (p : Bool). lastFrom (cond p (some v) o) i (map propOf (tag r vs ++ es))) e ∙ last-tag r i true e (some v) vs es
 last-tag r i false e o (v ∷ vs) es =
-    ap (λ (p : Bool). lastFrom (pick p (some v) o) i (map propOf (tag r vs ++ es))) e ∙ last-tag r i false e o vs es
+    ap (λ (p : Bool). lastFrom (cond p (some v) o) i (map propOf (tag r vs ++ es))) e ∙ last-tag r i false e o vs es
 
 last-rows : (i : ℕ) (g : Givens) (o : Option Value) (place : Place) → lastFrom o i (map propOf (flat (λ r. tag r (items (g (r .0)))) place)) ≡ lastRow o i place g
 last-rows i g o [] = refl
 last-rows i g o (r ∷ rs) =
     last-tag r i (eqb (r .0) i) refl o (items (g (r .0))) (flat (λ r. tag r (items (g (r .0)))) rs)
-    ∙ last-rows i g (pick (eqb (r .0) i) (lastVal o (items (g (r .0)))) o) rs
+    ∙ last-rows i g (cond (eqb (r .0) i) (lastVal o (items (g (r .0)))) o) rs
 
 last-entries : (i : ℕ) (place : Place) (g : Givens) → lastOf i (map propOf (entries place g)) ≡ lastRow none i place g
 unfolding lastOf entries
 last-entries i place g = last-rows i g none place
 
 all-tag : (r : ℕ × Form) (i : ℕ) (t : Bool) → eqb (r .0) i ≡ t → (vs : List Value) (es : List Entry)
-    → allOf i (map propOf (tag r vs ++ es)) ≡ pick t vs [] ++ allOf i (map propOf es)
+    → allOf i (map propOf (tag r vs ++ es)) ≡ cond t vs [] ++ allOf i (map propOf es)
 unfolding allOf
 all-tag r i true e [] es = refl
 all-tag r i false e [] es = refl
@@ -59,7 +59,7 @@ unfolding allOf
 all-rows i g [] = refl
 all-rows i g (r ∷ rs) =
     all-tag r i (eqb (r .0) i) refl (items (g (r .0))) (flat (λ r. tag r (items (g (r .0)))) rs)
-    ∙ ap (λ (l : List Value). pick (eqb (r .0) i) (items (g (r .0))) [] ++ l) (all-rows i g rs)
+    ∙ ap (λ (l : List Value). cond (eqb (r .0) i) (items (g (r .0))) [] ++ l) (all-rows i g rs)
 
 all-entries : (i : ℕ) (place : Place) (g : Givens) → allOf i (map propOf (entries place g)) ≡ allRow i place g
 unfolding entries
@@ -74,7 +74,7 @@ last-one (some n) = refl
 last-lent : (l : Lent) → lastVal none (items (lent l)) ≡ stringOf l
 last-lent l = go (l .on)
   where
-    go : (t : Bool) → lastVal none (pick t (str (l .bytes) ∷ []) []) ≡ pick t (some (str (l .bytes))) none
+    go : (t : Bool) → lastVal none (cond t (str (l .bytes) ∷ []) []) ≡ cond t (some (str (l .bytes))) none
     go true = refl
     go false = refl
 
@@ -114,15 +114,15 @@ subscribe-set h = rw (
 )
 
 -- a set that has nothing in it is said to be absent
-unless-empty : {A : Type 0} (f : List Prop → A) (es : List Entry) (a : A) → f (map propOf es) ≡ a → unlessEmpty f (map propOf es) ≡ pick (isEmpty es) none (some a)
+unless-empty : {A : Type 0} (f : List Prop → A) (es : List Entry) (a : A) → f (map propOf es) ≡ a → unlessEmpty f (map propOf es) ≡ cond (isEmpty es) none (some a)
 unless-empty f [] a e = refl
 unless-empty f (x ∷ es) a e = ap some e
 
-pub publish-says : (h : PublishHanded) → publishOf (map propOf (entries publishPlace (publishGiven h))) ≡ pick (nonePublish h) none (some (publishSet h))
+pub publish-says : (h : PublishHanded) → publishOf (map propOf (entries publishPlace (publishGiven h))) ≡ cond (nonePublish h) none (some (publishSet h))
 publish-says h = unless-empty (publishProps (List ℕ) List asList) (entries publishPlace (publishGiven h)) (publishSet h) (publish-set h)
 
-pub ack-says : (h : AckHanded) → ackOf (map propOf (entries ackPlace (ackGiven h))) ≡ pick (noneAck h) none (some (ackSet h))
+pub ack-says : (h : AckHanded) → ackOf (map propOf (entries ackPlace (ackGiven h))) ≡ cond (noneAck h) none (some (ackSet h))
 ack-says h = unless-empty (ackProps (List ℕ) List asList) (entries ackPlace (ackGiven h)) (ackSet h) (ack-set h)
 
-pub subscribe-says : (h : SubscribeHanded) → subscribeOf (map propOf (entries subscribePlace (subscribeGiven h))) ≡ pick (noneSubscribe h) none (some (subscribeSet h))
+pub subscribe-says : (h : SubscribeHanded) → subscribeOf (map propOf (entries subscribePlace (subscribeGiven h))) ≡ cond (noneSubscribe h) none (some (subscribeSet h))
 subscribe-says h = unless-empty (subscribeProps (List ℕ) List asList) (entries subscribePlace (subscribeGiven h)) (subscribeSet h) (subscribe-set h)

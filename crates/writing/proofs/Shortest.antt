@@ -8,9 +8,9 @@ use native.Mathlib.Nat.{pow-suc}
 use lib.Dec.{ltb, ltb→lt}
 use lib.ListN.{length}
 use Rattle.grammar.specs.Number.{Groups, last, next, Spells}
+use Rattle.grammar.specs.Octets.{Octets}
 use Rattle.reading.proofs.Lists.{T-of, ltb-false}
 use Rattle.reading.proofs.Fields.{num-solid}
-use Rattle.writing.specs.Lists.{Octets}
 use Rattle.writing.specs.Spell.{spell, short}
 use Rattle.writing.proofs.Each.{each-head, each-tail}
 use Rattle.writing.proofs.Sizes.{spell-less, spell-more}

@@ -1,6 +1,6 @@
 -- The size is the number of bytes written: a sum for each way that they are built. Assumes nothing.
 use mathlib.Core.Path.{_≡_, refl, ap, _∙_}
-use mathlib.Core.Bool.{Bool, true, false, _||_}
+use mathlib.Core.Bool.{Bool, true, false, _||_, cond}
 use mathlib.Core.Option.{none, some}
 use mathlib.Core.List.{List, [], _∷_}
 use Prim.Native.Nat.{ℕ, suc, _+_, _*_, _/_, _%_, _≤_, _<_}
@@ -8,12 +8,12 @@ use native.Mathlib.Omega.{arith}
 use lib.Dec.{eqb, ltb, ltb→lt}
 use lib.ListN.{length, take, drop, length-append, length-drop}
 use lib.Seq.{length-take-le}
-use Rattle.grammar.specs.Choice.{pick}
 use Rattle.grammar.specs.Tables.{Form, u8, u16, u32, number, text, bytes, pair, Place, publishPlace, subscribePlace, ackPlace}
 use Rattle.grammar.specs.Record.{str}
 use Rattle.grammar.specs.Sentence.{Value}
+use Rattle.grammar.specs.Octets.{Each, nil, _&_}
 use Rattle.reading.proofs.Lists.{T-of, ltb-yes, ltb-false, ltb-no}
-use Rattle.writing.specs.Lists.{Each, nil, _&_, flat, total, sum, pieces, beside}
+use Rattle.writing.specs.Lists.{flat, total, sum, pieces, beside}
 use Rattle.writing.specs.Handed.{SubscribeHanded, Handed, publish, ack, subscribe, ping, Given, one, lent, pairs, several, Givens, publishGiven, subscribeGiven, ackGiven, strings, duos, items, tag, filters}
 use Rattle.writing.specs.Spell.{wide, spellStep, spell, short, string, numeral, value, entry, rowBytes, propsBytes, counted, block, filterBytes}
 use Rattle.writing.specs.Size.{lenLen, withLength, numSize, givenSize, propsSize, noIdent, identSize, isPlain, filtersSize, restIs, sizeIs}
@@ -43,7 +43,7 @@ pub length-short : (n : ℕ) → length (short n) ≡ lenLen n
 unfolding short
 length-short n = go (ltb n 128) (ltb n 16384) (ltb n 2097152) refl refl refl
   where
-    go : (t u w : Bool) → ltb n 128 ≡ t → ltb n 16384 ≡ u → ltb n 2097152 ≡ w → length (spell 4 n) ≡ pick t 1 (pick u 2 (pick w 3 4))
+    go : (t u w : Bool) → ltb n 128 ≡ t → ltb n 16384 ≡ u → ltb n 2097152 ≡ w → length (spell 4 n) ≡ cond t 1 (cond u 2 (cond w 3 4))
     go true u w e f h = spell-less 3 n (ltb→lt n 128 (T-of (ltb n 128) e))
     go false true w e f h =
         let l = ltb-false n 128 e in
@@ -119,7 +119,7 @@ weigh-given f (one none) w = refl
 weigh-given f (one (some n)) w = rw (length-numeral f n) (omega arith)
 weigh-given f (lent l) w = go (l .on)
   where
-    go : (t : Bool) → weigh f (pick t (str (l .bytes) ∷ []) []) ≡ pick t (3 + length (l .bytes)) 0
+    go : (t : Bool) → weigh f (cond t (str (l .bytes) ∷ []) []) ≡ cond t (3 + length (l .bytes)) 0
     go true = rw (length-string (l .bytes)) (omega arith)
     go false = refl
 weigh-given f (pairs r) (a, e) =
@@ -155,14 +155,14 @@ no-ident i = refl
 pub zero-left-out : (q : ℕ) → identSize q 0 ≡ 0
 zero-left-out q = go (eqb q 0)
   where
-    go : (t : Bool) → _≡_ {A = ℕ} (pick (t || true) 0 2) 0
+    go : (t : Bool) → _≡_ {A = ℕ} (cond (t || true) 0 2) 0
     go true = refl
     go false = refl
 
 length-ident : (q i : ℕ) → length (identBytes q i) ≡ identSize q i
 length-ident q i = go (noIdent q i)
   where
-    go : (t : Bool) → length (pick t [] (wide 2 i)) ≡ pick t 0 2
+    go : (t : Bool) → length (cond t [] (wide 2 i)) ≡ cond t 0 2
     go true = refl
     go false = length-wide 2 i
 
@@ -192,7 +192,7 @@ length-body (ack k h) w =
     simp (length-append, length-wide) (go (isPlain h) e)
   where
     go : (t : Bool) → length (block ackPlace (ackGiven h)) ≡ withLength (propsSize ackPlace (ackGiven h))
-        → 2 + length (pick t [] (h .reason ∷ block ackPlace (ackGiven h))) ≡ pick t 2 (3 + withLength (propsSize ackPlace (ackGiven h)))
+        → 2 + length (cond t [] (h .reason ∷ block ackPlace (ackGiven h))) ≡ cond t 2 (3 + withLength (propsSize ackPlace (ackGiven h)))
     go true e = refl
     go false e = omega arith
 length-body (subscribe h) (w, (a, n)) =

@@ -6,8 +6,9 @@ use mathlib.Core.List.{List, [], _∷_}
 use Prim.Native.Nat.{ℕ, _≤_, _<_}
 use lib.Dec.{eqb, leb, eqb-refl, leb→le}
 use Rattle.grammar.specs.Choice.{isEmpty}
+use Rattle.grammar.specs.Octets.{Each, nil, _&_}
 use Rattle.reading.proofs.Lists.{no-way, T-true, T-of, leb-false, eq-of, not-true, nil-of}
-use Rattle.writing.specs.Lists.{Each, nil, _&_, all}
+use Rattle.writing.specs.Lists.{all}
 use Rattle.writing.proofs.Each.{each-head, each-tail}
 
 pub and-left : (a b : Bool) → (a && b) ≡ true → a ≡ true

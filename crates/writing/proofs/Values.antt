@@ -1,19 +1,20 @@
 -- Strings, values, properties, blocks and filters that pass their tests say what was handed over. Assumes nothing.
 use mathlib.Core.Path.{_≡_, refl}
-use mathlib.Core.Bool.{Bool, true, false}
+use mathlib.Core.Bool.{Bool, true, false, cond}
 use mathlib.Core.Option.{Option, none, some}
 use mathlib.Core.List.{List, [], _∷_, map}
 use Prim.Native.Nat.{ℕ, _/_, _%_, _≤_, _<_}
 use native.Mathlib.Omega.{arith}
 use lib.ListN.{length}
-use Rattle.grammar.specs.Choice.{pick, lookup}
+use Rattle.grammar.specs.Choice.{lookup}
 use Rattle.grammar.specs.Gram.{Sized, Many, Is}
 use Rattle.grammar.specs.Number.{Big}
 use Rattle.grammar.specs.Text.{Utf8}
 use Rattle.grammar.specs.Tables.{Form, u8, u16, u32, number, text, bytes, pair, Place}
 use Rattle.grammar.specs.Record.{num, str, duo, mkFilter}
 use Rattle.grammar.specs.Sentence.{Any, Bytes, Text, Value, Prop, duoOf, Spelt, Property, property, Block, qosFine, ruleFine, FilterOf}
-use Rattle.writing.specs.Lists.{Each, nil, _&_, Octets, flat}
+use Rattle.grammar.specs.Octets.{Each, nil, _&_, Octets}
+use Rattle.writing.specs.Lists.{flat}
 use Rattle.writing.specs.Handed.{Lent, Run, one, lent, pairs, several, Givens, strings, duos, items, Entry, propOf, tag, entries}
 use Rattle.writing.specs.Spell.{string, numeral, value, entry, rowBytes, propsBytes, block, filterBytes}
 use Rattle.writing.specs.Size.{most}
@@ -108,10 +109,10 @@ pub below-each : (m : ℕ) (o : Option ℕ) → Below m o → Each (λ (n : ℕ)
 below-each m none b = nil
 below-each m (some n) b = b & nil
 
-pub lent-suits : {f : Form} (l : Lent) → (Sound (stringField f (l .bytes)) → Suits f (str (l .bytes))) → Each Sound (pick (l .on) (stringField f (l .bytes) ∷ []) []) → Each (Suits f) (items (lent l))
+pub lent-suits : {f : Form} (l : Lent) → (Sound (stringField f (l .bytes)) → Suits f (str (l .bytes))) → Each Sound (cond (l .on) (stringField f (l .bytes) ∷ []) []) → Each (Suits f) (items (lent l))
 lent-suits {f} l s = go (l .on)
   where
-    go : (t : Bool) → Each Sound (pick t (stringField f (l .bytes) ∷ []) []) → Each (Suits f) (pick t (str (l .bytes) ∷ []) [])
+    go : (t : Bool) → Each Sound (cond t (stringField f (l .bytes) ∷ []) []) → Each (Suits f) (cond t (str (l .bytes) ∷ []) [])
     go true (p & nil) = s p & nil
     go false p = nil
 

@@ -9,18 +9,18 @@ use lib.Dec.{leb}
 use lib.ListN.{length}
 use Rattle.grammar.specs.Text.{Utf8}
 use Rattle.grammar.specs.Sentence.{qosFine, ruleFine}
+use Rattle.grammar.specs.Octets.{Each, nil, _&_}
 use Rattle.reading.specs.Refusal.{Refusal, nr}
 use Rattle.reading.specs.Reader.{Fit, got, bad, _>>_, guard}
 use Rattle.reading.specs.Read.{isText}
 use Rattle.reading.proofs.Lists.{no-way, leb-yes, leb-no}
 use Rattle.reading.proofs.Reading.{bad-got, got-inj}
 use Rattle.reading.proofs.Fields.{text-fine}
-use Rattle.writing.specs.Lists.{Each, nil, _&_}
 use Rattle.writing.specs.Handed.{Handed, belongs}
 use Rattle.writing.specs.Size.{most, restIs, sizeIs}
 use Rattle.writing.specs.Order.{judge, Field, raw, word, filter, fieldsOf, small, numbersOf, named, asked, limitTests, permit}
 use Rattle.writing.specs.Write.{frameBytes, sizeOf, writeOf, answerOf}
-use Rattle.writing.specs.Refuse.{Belongs, Short, Sound, Faulty, long-raw, long-word, long-filter, bad-word, bad-filter, bad-rule, bad-qos, FirstFault, Small, TooLarge, Unnamed, Unasked, Within, Countable, Refuses, field, too-large, no-name, number, none-asked, no-room, Accepts, Unsized}
+use Rattle.writing.specs.Refuse.{Belongs, Short, Sound, Faulty, long-raw, long-word, long-filter, bad-word, bad-filter, bad-rule, bad-qos, FirstFault, Small, TooLarge, Unnamed, Unasked, Within, Countable, Refuses, field, too-large, no-name, number, none-asked, no-room, Accepts, Unsized, Sized}
 use Rattle.writing.proofs.Tests.{passes-when, fails-when, decide-by, le-or}
 use Rattle.writing.proofs.Belong.{belongs-when, unnamed-when, unasked-when}
 use Rattle.writing.proofs.Judge.{fields-pass, fields-fault, numbers-pass, numbers-fault, limit-pass, limit-fault}
@@ -221,18 +221,15 @@ module _ (limit : Option ℕ) (room : ℕ) (h : Handed) (b : List ℕ) (e : writ
 -- ---- size, asked alone
 
 module _ (h : Handed) where
-  abbrev pub Sized : Type 0
-  Sized = Belongs h × Small (restIs h)
-
-  decide-size : Sized ⊎ ((k : Refusal) × Unsized h k)
+  decide-size : Sized h ⊎ ((k : Refusal) × Unsized h k)
   decide-size = go (holds-or (belongs h) (belongs-when h)) (le-or (restIs h) most)
     where
-      go : (Belongs h ⊎ (Belongs h → ⊥)) → (Small (restIs h) ⊎ (most < restIs h)) → Sized ⊎ ((k : Refusal) × Unsized h k)
+      go : (Belongs h ⊎ (Belongs h → ⊥)) → (Small (restIs h) ⊎ (most < restIs h)) → Sized h ⊎ ((k : Refusal) × Unsized h k)
       go (inr w) l = inr (nr 20 [], r.Unsized.mismatch w)
       go (inl w) (inr l) = inr (nr 17 [], r.Unsized.too-long w l)
       go (inl w) (inl l) = inl (w, l)
 
-  sized-got : Sized → sizeOf h ≡ got (sizeIs h)
+  sized-got : Sized h → sizeOf h ≡ got (sizeIs h)
   unfolding sizeOf
   sized-got (w, l) = rw (belongs-when h .1 w, leb-yes (restIs h) most l)
 
@@ -242,7 +239,7 @@ module _ (h : Handed) where
   unsized-bad _ (r.Unsized.too-long w l) = rw (belongs-when h .1 w, leb-no (restIs h) most l)
 
   -- the size is told exactly when what is handed over belongs together and R can be written
-  pub sized-when : (n : ℕ) → (sizeOf h ≡ got n) ↔ (Sized × (sizeIs h ≡ n))
+  pub sized-when : (n : ℕ) → (sizeOf h ≡ got n) ↔ (Sized h × (sizeIs h ≡ n))
   sized-when = got-when (sizeOf h) (sizeIs h) sized-got unsized-bad decide-size
 
   -- it is refused exactly as 20, then 17 for R say

@@ -1,12 +1,12 @@
 -- What a caller hands over to have a packet written (01, "What must change shape"): numbers and presence by value, each string as a list
 -- of bytes, a list of strings as one run of bytes and the lengths. Assumes nothing.
-use mathlib.Core.Bool.{Bool, true, false, not, _&&_, _||_}
+use mathlib.Core.Bool.{Bool, true, false, not, _&&_, _||_, cond}
 use mathlib.Core.Option.{Option, none, some}
 use mathlib.Core.List.{List, [], _∷_, map}
 use Prim.Native.Nat.{ℕ, _%_}
 use lib.Dec.{eqb}
 use lib.ListN.{length}
-use Rattle.grammar.specs.Choice.{pick, lookup, isEmpty}
+use Rattle.grammar.specs.Choice.{lookup, isEmpty}
 use Rattle.grammar.specs.Tables.{Form, Place, publishPlace, subscribePlace, ackPlace}
 use Rattle.grammar.specs.Record.{num, str, duo}
 use Rattle.grammar.specs.Sentence.{Value, Prop}
@@ -119,7 +119,7 @@ duos (k ∷ v ∷ l) = duo k v ∷ duos l
 abbrev pub items : Given → List Value
 items (one none) = []
 items (one (some n)) = num n ∷ []
-items (lent l) = pick (l .on) (str (l .bytes) ∷ []) []
+items (lent l) = cond (l .on) (str (l .bytes) ∷ []) []
 items (pairs r) = duos (strings r)
 items (several ns) = map num ns
 

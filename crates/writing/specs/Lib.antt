@@ -6,3 +6,4 @@ pub mod Order
 pub mod Write
 pub mod Refuse
 pub mod Meant
+pub mod Written

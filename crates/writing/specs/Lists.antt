@@ -1,22 +1,8 @@
--- Lists: every element, one after the other, a run cut by lengths. Assumes nothing.
+-- Lists: one after the other, sums, a run cut by lengths, side by side. Assumes nothing.
 use mathlib.Core.Bool.{Bool, true, _&&_}
 use mathlib.Core.List.{List, [], _∷_, _++_}
-use Prim.Native.Nat.{ℕ, _+_, _<_}
+use Prim.Native.Nat.{ℕ, _+_}
 use lib.ListN.{take, drop}
-
--- P holds of every element
-infixr 5 _&_
-pub data Each {A : Type 0} (P : A → Type 0) : List A → Type 0 where
-  nil : Each P []
-  _&_ : {a : A} {l : List A} → P a → Each P l → Each P (a ∷ l)
-
--- a byte
-abbrev pub Octet : ℕ → Type 0
-Octet x = x < 256
-
--- bytes
-abbrev pub Octets : List ℕ → Type 0
-Octets = Each Octet
 
 -- what f makes of each element, one after the other
 abbrev pub flat : {A B : Type 0} → (A → List B) → List A → List B
@@ -42,7 +28,7 @@ abbrev pub pieces : List ℕ → List ℕ → List (List ℕ)
 pieces [] run = []
 pieces (n ∷ ns) run = take n run ∷ pieces ns (drop n run)
 
--- the elements of two lists side by side, as far as the shorter goes
+-- the elements of two lists side by side, as far as the shorter goes: the kit's `zip`, which computes only where a law opens it
 abbrev pub beside : {A B : Type 0} → List A → List B → List (A × B)
 beside [] bs = []
 beside (a ∷ as′) [] = []

@@ -1,16 +1,16 @@
 -- The value of what is handed over: the packet that a caller means, and the packet that the bytes say. Assumes nothing.
 use mathlib.Core.Path.{_≡_}
-use mathlib.Core.Bool.{Bool, true}
+use mathlib.Core.Bool.{Bool, true, cond}
 use mathlib.Core.Option.{Option, none, some}
 use mathlib.Core.List.{List, map}
 use Prim.Native.Nat.{ℕ, _<_}
 use lib.Dec.{eqb}
-use Rattle.grammar.specs.Choice.{pick, isIn, lookup, isEmpty}
+use Rattle.grammar.specs.Choice.{isIn, lookup, isEmpty}
 use Rattle.grammar.specs.Tables.{publishPlace, subscribePlace, ackPlace, anAck, aPing, kinds}
 use Rattle.grammar.specs.Record.{num, str, PublishProps, SubscribeProps, AckProps, mkFilter}
 use Rattle.grammar.specs.Sentence.{Value, Packet}
 use Rattle.grammar.specs.Record as g
-use Rattle.writing.specs.Lists.{Octets}
+use Rattle.grammar.specs.Octets.{Octets}
 use Rattle.writing.specs.Handed.{Lent, PublishHanded, SubscribeHanded, AckHanded, Handed, publish, ack, subscribe, ping, publishGiven, subscribeGiven, ackGiven, strings, duos, entries, filters}
 
 -- ---- properties
@@ -22,7 +22,7 @@ numeralOf (some n) = some (num n)
 
 -- a string, if it is present
 abbrev pub stringOf : Lent → Option Value
-stringOf l = pick (l .on) (some (str (l .bytes))) none
+stringOf l = cond (l .on) (some (str (l .bytes))) none
 
 -- 01, table of properties, row Publish
 abbrev pub publishSet : PublishHanded → PublishProps (List ℕ) List
@@ -61,9 +61,9 @@ theSubscribe h ps = g.subscribe (record { ident = h .ident; props = ps; filters 
 
 -- the record: what the caller means
 unfoldable pub meant : Handed → Packet
-meant (publish h) = thePublish h (h .ident) (pick (h .block) (some (publishSet h)) none)
-meant (ack k h) = theAck k h (pick (h .block) (some (ackSet h)) none)
-meant (subscribe h) = theSubscribe h (pick (h .block) (some (subscribeSet h)) none)
+meant (publish h) = thePublish h (h .ident) (cond (h .block) (some (publishSet h)) none)
+meant (ack k h) = theAck k h (cond (h .block) (some (ackSet h)) none)
+meant (subscribe h) = theSubscribe h (cond (h .block) (some (subscribeSet h)) none)
 meant (ping k) = g.ping k
 
 -- a property set has nothing in it
@@ -80,9 +80,9 @@ noneSubscribe h = isEmpty (entries subscribePlace (subscribeGiven h))
 
 -- what the bytes say: 01, grammar: "QoS 0 writes no identifier"; reading back: a set present but empty "writes length 0 and reads as absent"
 unfoldable pub said : Handed → Packet
-said (publish h) = thePublish h (pick (eqb (h .qos) 0) 0 (h .ident)) (pick (nonePublish h) none (some (publishSet h)))
-said (ack k h) = theAck k h (pick (noneAck h) none (some (ackSet h)))
-said (subscribe h) = theSubscribe h (pick (noneSubscribe h) none (some (subscribeSet h)))
+said (publish h) = thePublish h (cond (eqb (h .qos) 0) 0 (h .ident)) (cond (nonePublish h) none (some (publishSet h)))
+said (ack k h) = theAck k h (cond (noneAck h) none (some (ackSet h)))
+said (subscribe h) = theSubscribe h (cond (noneSubscribe h) none (some (subscribeSet h)))
 said (ping k) = g.ping k
 
 -- ---- what the types of the code ensure: lent bytes are u8, numbers are of their widths; nothing is assumed of lengths, options bytes

@@ -1,11 +1,11 @@
 -- What is tested of a hand-over, and in which order: the first test that fails says the refusal. Assumes nothing.
-use mathlib.Core.Bool.{Bool, true, not, _||_}
+use mathlib.Core.Bool.{Bool, true, not, _||_, cond}
 use mathlib.Core.Option.{Option, none, some}
 use mathlib.Core.List.{List, [], _∷_, _++_, map}
 use Prim.Native.Nat.{ℕ}
 use lib.Dec.{leb, eqb}
 use lib.ListN.{length}
-use Rattle.grammar.specs.Choice.{pick, isEmpty}
+use Rattle.grammar.specs.Choice.{isEmpty}
 use Rattle.grammar.specs.Tables.{Form, u8, u16, u32, number, text, bytes, pair, Place, publishPlace, subscribePlace, ackPlace}
 use Rattle.grammar.specs.Sentence.{notZero, qosFine, ruleFine}
 use Rattle.reading.specs.Refusal.{Refusal, nr}
@@ -61,7 +61,7 @@ stringField pair s = raw s
 -- the fields of a row
 abbrev pub givenFields : Form → Given → List Field
 givenFields f (one o) = []
-givenFields f (lent l) = pick (l .on) (stringField f (l .bytes) ∷ []) []
+givenFields f (lent l) = cond (l .on) (stringField f (l .bytes) ∷ []) []
 givenFields f (pairs r) = map word (strings r)
 givenFields f (several ns) = []
 

@@ -8,8 +8,9 @@ use lib.ListN.{length}
 use Rattle.grammar.specs.Text.{Utf8}
 use Rattle.grammar.specs.Tables.{Form, publishPlace, subscribePlace, ackPlace}
 use Rattle.grammar.specs.Sentence.{qosFine, ruleFine}
+use Rattle.grammar.specs.Octets.{Each}
 use Rattle.reading.specs.Refusal.{Refusal, nr}
-use Rattle.writing.specs.Lists.{Each, sum}
+use Rattle.writing.specs.Lists.{sum}
 use Rattle.writing.specs.Handed.{Run, Handed, publish, ack, subscribe, ping, Given, one, lent, pairs, several, Givens, publishGiven, subscribeGiven, ackGiven, filters}
 use Rattle.writing.specs.Size.{most, restIs, sizeIs}
 use Rattle.writing.specs.Order.{Field, raw, word, filter, fieldsOf, numbersOf}
@@ -134,3 +135,7 @@ pub record Accepts (limit : Option ℕ) (room : ℕ) (h : Handed) : Type 0 where
 pub data Unsized (h : Handed) : Refusal → Type 0 where
   mismatch : (Belongs h → ⊥) → Unsized h (nr 20 [])
   too-long : Belongs h → most < restIs h → Unsized h (nr 17 [])
+
+-- and is told otherwise: what is handed over belongs together, and R can be written
+abbrev pub Sized : Handed → Type 0
+Sized h = Belongs h × Small (restIs h)

@@ -1,17 +1,16 @@
 -- The size of what is written, as a sum over what is handed over. Assumes nothing.
-use mathlib.Core.Bool.{Bool, not, _&&_, _||_}
+use mathlib.Core.Bool.{Bool, not, _&&_, _||_, cond}
 use mathlib.Core.Option.{none, some}
 use Prim.Native.Nat.{ℕ, _+_, _*_, _/_}
 use lib.Dec.{leb, ltb, eqb}
 use lib.ListN.{length}
-use Rattle.grammar.specs.Choice.{pick}
 use Rattle.grammar.specs.Tables.{Form, u8, u16, u32, number, text, bytes, pair, Place, publishPlace, subscribePlace, ackPlace}
 use Rattle.writing.specs.Lists.{total}
 use Rattle.writing.specs.Handed.{SubscribeHanded, AckHanded, Handed, publish, ack, subscribe, ping, Given, one, lent, pairs, several, Givens, publishGiven, subscribeGiven, ackGiven}
 
 -- 01, "Lengths": how many bytes spell a number; writing order: "counts four bytes for a subscription identifier too large to write"
 abbrev pub lenLen : ℕ → ℕ
-lenLen n = pick (ltb n 128) 1 (pick (ltb n 16384) 2 (pick (ltb n 2097152) 3 4))
+lenLen n = cond (ltb n 128) 1 (cond (ltb n 16384) 2 (cond (ltb n 2097152) 3 4))
 
 -- 01, grammar: "Largest: 268,435,455"
 abbrev pub most : ℕ
@@ -37,7 +36,7 @@ numSize pair n = 0
 abbrev pub givenSize : Form → Given → ℕ
 givenSize f (one none) = 0
 givenSize f (one (some n)) = 1 + numSize f n
-givenSize f (lent l) = pick (l .on) (3 + length (l .bytes)) 0
+givenSize f (lent l) = cond (l .on) (3 + length (l .bytes)) 0
 givenSize f (pairs r) = length (r .bytes) + 5 * (length (r .lengths) / 2)
 givenSize f (several ns) = total (λ n. 1 + numSize f n) ns
 
@@ -53,7 +52,7 @@ noIdent q i = eqb q 0 || eqb i 0
 
 -- two bytes, if it is written
 abbrev pub identSize : ℕ → ℕ → ℕ
-identSize q i = pick (noIdent q i) 0 2
+identSize q i = cond (noIdent q i) 0 2
 
 -- 01, grammar: "A successful PubAck with properties absent is 4 bytes"
 abbrev pub isPlain : AckHanded → Bool
@@ -66,7 +65,7 @@ filtersSize h = length (h .filters .bytes) + 3 * length (h .options)
 -- 01, grammar: R of each kind
 unfoldable pub restIs : Handed → ℕ
 restIs (publish h) = 2 + length (h .topic) + (identSize (h .qos) (h .ident) + (withLength (propsSize publishPlace (publishGiven h)) + length (h .payload)))
-restIs (ack k h) = pick (isPlain h) 2 (3 + withLength (propsSize ackPlace (ackGiven h)))
+restIs (ack k h) = cond (isPlain h) 2 (3 + withLength (propsSize ackPlace (ackGiven h)))
 restIs (subscribe h) = 2 + (withLength (propsSize subscribePlace (subscribeGiven h)) + filtersSize h)
 restIs (ping k) = 0
 
@@ -78,4 +77,4 @@ sizeIs h = 1 + withLength (restIs h)
 
 -- 01, row 17: "above 268,435,455": the sum itself up to there, else one more, which is as much of it as the refusal needs
 abbrev pub cap : ℕ → ℕ
-cap n = pick (leb n most) n (most + 1)
+cap n = cond (leb n most) n (most + 1)

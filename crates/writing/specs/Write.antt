@@ -1,11 +1,12 @@
 -- The bytes of a frame, the size, what a write gives, and the output afterwards. Assumes nothing.
+use mathlib.Core.Bool.{cond}
 use mathlib.Core.Path.{_≡_}
 use mathlib.Core.Option.{Option, none, some}
 use mathlib.Core.List.{List, [], _∷_, _++_}
 use Prim.Native.Nat.{ℕ, _+_, _*_}
 use lib.Dec.{leb}
 use lib.ListN.{length, drop}
-use Rattle.grammar.specs.Choice.{pick, lookup}
+use Rattle.grammar.specs.Choice.{lookup}
 use Rattle.grammar.specs.Tables.{publishPlace, subscribePlace, ackPlace}
 use Rattle.reading.specs.Refusal.{nr}
 use Rattle.reading.specs.Reader.{Fit, got, bad, _>>_, guard}
@@ -41,12 +42,12 @@ firstByte (ping k) = firstOf k
 
 -- 01, grammar: "QoS 0 writes no identifier"; writing order: "leaves out a Publish identifier that is 0"
 abbrev pub identBytes : ℕ → ℕ → List ℕ
-identBytes q i = pick (noIdent q i) [] (wide 2 i)
+identBytes q i = cond (noIdent q i) [] (wide 2 i)
 
 -- 01, grammar: each kind
 unfoldable pub bodyBytes : Handed → List ℕ
 bodyBytes (publish h) = string (h .topic) ++ (identBytes (h .qos) (h .ident) ++ (block publishPlace (publishGiven h) ++ h .payload))
-bodyBytes (ack k h) = wide 2 (h .ident) ++ pick (isPlain h) [] (h .reason ∷ block ackPlace (ackGiven h))
+bodyBytes (ack k h) = wide 2 (h .ident) ++ cond (isPlain h) [] (h .reason ∷ block ackPlace (ackGiven h))
 bodyBytes (subscribe h) = wide 2 (h .ident) ++ (block subscribePlace (subscribeGiven h) ++ flat filterBytes (filters h))
 bodyBytes (ping k) = []
 

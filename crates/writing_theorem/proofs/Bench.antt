@@ -8,10 +8,10 @@ use native.Mathlib.Omega.{arith}
 use lib.ListN.{replicate, length-replicate}
 use Rattle.grammar.specs.Text.{rows}
 use Rattle.grammar.specs.Tables.{publishPlace, subscribePlace, ackPlace}
+use Rattle.grammar.specs.Octets.{Each, nil, _&_}
 use Rattle.reading.specs.Refusal.{nr}
 use Rattle.reading.specs.Reader.{Fit, got, bad, noneOf, neverOf, mapOf, onlyOf, thenOf, runFit, chainFit}
 use Rattle.reading.specs.Read.{byteOf, followOf, restOf, charOf, isText}
-use Rattle.writing.specs.Lists.{Each, nil, _&_}
 use Rattle.writing.specs.Handed.{Lent, Run, PublishHanded, Handed, publish, ack, subscribe, ping, publishGiven, subscribeGiven, ackGiven, filters, blockBelongs, filtersBelong, belongs}
 use Rattle.writing.specs.Spell.{wide, spellStep, spell, short, string, numeral, value, propsBytes, counted, block}
 use Rattle.writing.specs.Size.{most, propsSize, restIs, sizeIs}

@@ -7,7 +7,7 @@ use borrow.Author.Tests.{leb-true, leb-false}
 use lib.ListN.{length}
 use lib.Seq.{length-take-le}
 use denote.Ref.{now}
-use Rattle.items.proofs.Laws.Nth.{nth-outside, nth-within}
+use Rattle.items.proofs.Laws.{nth-outside, nth-within}
 use Rattle.items.proofs.nth_value.Statement.{statement}
 use Rattle.items.proofs.nth_value.Tie as tie
 

@@ -4,7 +4,7 @@ use lib.ListN.{length}
 use native.Mathlib.Omega.{arith}
 use Prim.Native.Nat.{_-_}
 use Rattle.tables.specs.Property.{placeOf}
-use Rattle.items.proofs.Laws.Nth.{Seeking, seeking-start, seeking-end, seeking-bad, seeking-ahead, seeking-next}
+use Rattle.items.proofs.Laws.{Seeking, seeking-start, seeking-end, seeking-bad, seeking-ahead, seeking-next}
 use Rattle.items.proofs.seek_in.Statement.{statement}
 use Rattle.items.proofs.seek_in.Tie as tie
 

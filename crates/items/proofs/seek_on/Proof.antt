@@ -1,6 +1,6 @@
 -- `items::seek_on` is right since a value of the property takes one off the count, and any other property leaves it. Assumes nothing.
 use borrow.Author.Needs.{needs}
-use Rattle.items.proofs.Laws.Nth.{seek-other, seek-here, seek-past, seek-after}
+use Rattle.items.proofs.Laws.{seek-other, seek-here, seek-past, seek-after}
 use Rattle.items.proofs.seek_on.Statement.{statement}
 use Rattle.items.proofs.seek_on.Tie as tie
 

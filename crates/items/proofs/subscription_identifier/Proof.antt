@@ -3,7 +3,7 @@ use mathlib.Core.List.{[], _∷_}
 use borrow.Author.Needs.{needs}
 use Rattle.grammar.specs.Tables.{number, publishPlace}
 use Rattle.reading.specs.Place.{subscriptionAt}
-use Rattle.items.proofs.Laws.Nth.{not-other}
+use Rattle.items.proofs.Laws.{not-other}
 use Rattle.items.proofs.subscription_identifier.Statement.{statement}
 use Rattle.items.proofs.subscription_identifier.Tie as tie
 

@@ -4,7 +4,7 @@ use mathlib.Core.Path.{_∙_}
 use mathlib.Core.List.{[], _∷_}
 use Rattle.grammar.specs.Tables.{pair}
 use Rattle.reading.specs.Place.{userAt}
-use Rattle.items.proofs.Laws.Nth.{not-other, user-form}
+use Rattle.items.proofs.Laws.{not-other, user-form}
 use Rattle.items.proofs.user_property.Statement.{statement}
 use Rattle.items.proofs.user_property.Tie as tie
 

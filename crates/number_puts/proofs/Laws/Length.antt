@@ -1,11 +1,9 @@
 -- The shortest spelling, turn by turn: how it goes on, and what a writer has put. Assumes nothing.
-use mathlib.Core.Path.{_≡_, refl, sym, ap, _∙_}
-use mathlib.Core.Bool.{Bool, true, false}
+use mathlib.Core.Path.{_≡_, sym, ap, _∙_}
 use mathlib.Core.List.{List, [], _∷_}
 use Prim.Native.Nat.{ℕ, suc, _+_, _-_, _/_, _%_, _≤_, _<_}
 use native.Mathlib.Omega.{arith}
 use borrow.Author.Tests.{lt-ltb, le-ltb}
-use lib.Dec.{ltb}
 use lib.ListN.{length}
 use lib.Seq.{sets, length-sets}
 use Rattle.writing.specs.Spell.{wide, spellStep, spell, short}
@@ -20,15 +18,6 @@ spell-last k n h = rw (lt-ltb _ _ h)
 pub spell-next : (k n : ℕ) → 128 ≤ n → spell (suc k) n ≡ (n % 128 + 128) ∷ spell k (n / 128)
 unfolding spell spellStep
 spell-next k n h = rw (le-ltb _ _ h)
-
--- the last byte that may be is one byte, whatever is left
-pub spell-one : (n : ℕ) → length (spell 1 n) ≡ 1
-unfolding spell spellStep
-spell-one n = go (ltb n 128)
-  where
-    go : (b : Bool) → length (spellStep b n []) ≡ 1
-    go true = refl
-    go false = refl
 
 -- ---- writing
 

@@ -1,19 +1,14 @@
 -- Numbers of a fixed width put by halves: one law for every width. Assumes nothing.
-use mathlib.Core.Path.{_≡_, refl, sym, ap, _∙_}
+use mathlib.Core.Path.{_≡_, sym, ap, _∙_}
 use mathlib.Core.List.{List, [], _∷_, _++_, append-assoc, append-nil}
 use Prim.Native.Nat.{ℕ, zero, suc, _+_, _*_, _/_, _%_, _^_, _<_}
 use native.Mathlib.Omega.{arith}
 use native.Mathlib.Nat.{pow-suc, pow-succ', one-le-pow, div-div-eq-div-mul}
 use lib.Arith.{mod-mul, digits-div, digits-mod}
-use lib.ListN.{length, length-append}
 use lib.Seq.{sets}
 use Rattle.writing.specs.Spell.{wide}
+use Rattle.writing.proofs.Says.{length-wide}
 use Rattle.byte_puts.proofs.Laws.{sets-then}
-
-pub length-wide : (k n : ℕ) → length (wide k n) ≡ k
-unfolding wide
-length-wide zero n = refl
-length-wide (suc k) n = simp (length-append, length-wide k (n / 256)) (omega arith)
 
 pub wide-one : {n : ℕ} → n < 256 → n ∷ [] ≡ wide 1 n
 unfolding wide

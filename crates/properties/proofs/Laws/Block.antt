@@ -1,21 +1,19 @@
 -- A block at an index of a slice: its length, then what fills it; one law over the row. Assumes nothing.
 use mathlib.Core.Path.{_≡_, refl, sym, ap, _∙_}
-use mathlib.Core.Bool.{Bool, true, false}
 use mathlib.Core.Option.{Option, none, some}
 use mathlib.Core.List.{List, [], _∷_}
 use Prim.Native.Nat.{ℕ, _+_, _-_, _≤_, _<_}
 use native.Mathlib.Omega.{arith}
-use lib.Dec.{leb}
 use lib.ListN.{length, take, drop, length-drop}
 use lib.Seq.{length-take-le}
-use borrow.Author.Tests.{leb-true, leb-false}
 use Rattle.reading.specs.Refusal.{Refusal, nr, cut, crossed}
 use Rattle.reading.specs.Reader.{Fit, got, bad, Filler, _>>=_, sizedOf, isFit, handFit}
 use Rattle.reading.specs.Read.{numOf, anyBytes, stringFit, propertiesFit, blockOf}
 use Rattle.reading.specs.Place.{Span, asPlaces, onGot}
-use Rattle.reading.proofs.Reading.{bad-got, from-got}
+use Rattle.reading.proofs.Reading.{bad-got}
 use Rattle.positions.specs.Position.{fromAt}
 use Rattle.positions.proofs.At.{sized-bad, sized-crossed, sized-at, span-at, part-slice}
+use Rattle.positions.proofs.Behind.{Way, short, crosses, stands, way, Stands, read-stands}
 use Rattle.positions.proofs.Trails.{trails-num}
 use Rattle.positions.proofs.Position.{got-left, got-within, bad-left, left-bad}
 use Rattle.properties.specs.Block.{roomOf, Row, loopFrom, filledAt}
@@ -85,40 +83,12 @@ module _ (s : List ℕ) (at : ℕ) where
   unfolding roomOf stringFit handFit isFit
   room-within l m e o = sym (sized-within (stringFit asPlaces anyBytes cut) s at l m e o ∙ rw (span-at s l m o))
 
-  -- the three ways that a length and its bytes go
-  data Way : Type 0 where
-    short : (k : Refusal) → bad k ≡ lengthAt s at → Way
-    over : (l m : ℕ) → got (l, m) ≡ lengthAt s at → length s < m + l → Way
-    within : (l m : ℕ) → got (l, m) ≡ lengthAt s at → m + l ≤ length s → Way
-
-  way : Way
-  way = go (lengthAt s at) refl
-    where
-      room : (l m : ℕ) → got (l, m) ≡ lengthAt s at → (b : Bool) → leb (m + l) (length s) ≡ b → Way
-      room l m e true h = within l m e (leb-true (m + l) (length s) h)
-      room l m e false h = over l m e (leb-false (m + l) (length s) h)
-
-      go : (f : Fit (ℕ × ℕ)) → lengthAt s at ≡ f → Way
-      go (bad k) e = short k (sym e)
-      go (got (l, m)) e = room l m (sym e) (leb (m + l) (length s)) refl
-
-  -- a block that has room: its length before it, its end within the slice
-  record Stands (z : Span × ℕ) : Type 0 where
-    size : got (z .0 .len, z .0 .start) ≡ lengthAt s at
-    ends : z .1 ≡ z .0 .start + z .0 .len
-    inside : z .1 ≤ length s
-
-  room-stands : (z : Span × ℕ) → got z ≡ fromAt (roomOf (length s)) s at → Stands z
-  room-stands z e = go way
-    where
-      go : Way → Stands z
-      go (short k w) = absurd (bad-got (room-short k w ∙ sym e))
-      go (over l m w o) = absurd (bad-got (room-over l m w o ∙ sym e))
-      go (within l m w o) =
-          from-got Stands (record { start = m; len = l }, m + l) (record { size = w; ends = refl; inside = o }) z (room-within l m w o ∙ sym e)
+  -- a block that has room stands
+  room-stands : (z : Span × ℕ) → got z ≡ fromAt (roomOf (length s)) s at → Stands (lengthAt s at) (length s) z
+  room-stands = read-stands (lengthAt s at) (length s) (fromAt (roomOf (length s)) s at) room-short room-over room-within
 
   pub room-inside : {z : Span × ℕ} → got z ≡ fromAt (roomOf (length s)) s at → z .1 ≤ length s
-  room-inside {z = z} e = room-stands z e .inside
+  room-inside {z = z} e = room-stands z e .within
 
   -- ---- the block there, of a row
 
@@ -129,15 +99,15 @@ module _ (s : List ℕ) (at : ℕ) where
     -- what has no room is no block
     pub block-bad : {k : Refusal} → bad k ≡ fromAt (roomOf (length s)) s at → bad k ≡ blockAt
     unfolding blockOf
-    block-bad {k = k} e = go way
+    block-bad {k = k} e = go (way (lengthAt s at) (length s))
       where
-        go : Way → bad k ≡ sizedAt (handFit (blockAs w) (propertiesFit asPlaces (w .place))) s at
+        go : Way (lengthAt s at) (length s) → bad k ≡ sizedAt (handFit (blockAs w) (propertiesFit asPlaces (w .place))) s at
         go (short k′ v) = ap bad (bad-inj (e ∙ sym (room-short k′ v))) ∙ sized-short (handFit (blockAs w) (propertiesFit asPlaces (w .place))) s at k′ v
-        go (over l m v o) = ap bad (bad-inj (e ∙ sym (room-over l m v o))) ∙ sized-over (handFit (blockAs w) (propertiesFit asPlaces (w .place))) s at l m v o
-        go (within l m v o) = absurd (bad-got (e ∙ sym (room-within l m v o)))
+        go (crosses l m v o) = ap bad (bad-inj (e ∙ sym (room-over l m v o))) ∙ sized-over (handFit (blockAs w) (propertiesFit asPlaces (w .place))) s at l m v o
+        go (stands l m v o) = absurd (bad-got (e ∙ sym (room-within l m v o)))
 
   module _ {w : Row} (W : Lawful w) {z : Span × ℕ} (r : got z ≡ fromAt (roomOf (length s)) s at) where
-    h : Stands z
+    h : Stands (lengthAt s at) (length s) z
     h = room-stands z r
 
     -- 01: "L = 0 means absent"
@@ -146,7 +116,7 @@ module _ (s : List ℕ) (at : ℕ) where
     block-absent e =
         let i : z .0 .start + 0 ≡ z .1 = omega (arith, h .ends) in
         sym (
-        sized-within (handFit (blockAs w) (propertiesFit asPlaces (w .place))) s at (z .0 .len) (z .0 .start) (h .size) (omega (arith, h .ends, h .inside))
+        sized-within (handFit (blockAs w) (propertiesFit asPlaces (w .place))) s at (z .0 .len) (z .0 .start) (h .size) (omega (arith, h .ends, h .within))
         ∙ rw (e, block-none w W (z .0 .start + 0), i)
         )
 
@@ -155,7 +125,7 @@ module _ (s : List ℕ) (at : ℕ) where
     unfolding blockOf filledAt loopFrom
     block-present ne =
         let pos : 0 < z .0 .len = omega (arith, ne) in
-        let o : z .0 .start + z .0 .len ≤ length s = omega (arith, h .ends, h .inside) in
+        let o : z .0 .start + z .0 .len ≤ length s = omega (arith, h .ends, h .within) in
         let n : length (take (z .0 .start + z .0 .len) s) ≡ z .0 .start + z .0 .len = length-take-le (z .0 .start + z .0 .len) s o in
         let i : 0 < length (take (z .0 .len) (drop (z .0 .start) s)) = rw (length-take-le (z .0 .len) (drop (z .0 .start) s) (rw length-drop (omega arith))) pos in
         sym (

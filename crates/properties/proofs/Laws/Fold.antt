@@ -1,7 +1,7 @@
 -- A loop over the properties of a block, one law over the row: how it goes on, and what it comes to. Assumes nothing.
 use mathlib.Core.Path.{_≡_, refl, sym, ap, _∙_}
 use mathlib.Core.Logic.{_⊎_, inl, inr}
-use mathlib.Core.Bool.{Bool, true, false}
+use mathlib.Core.Bool.{Bool, true, false, cond}
 use mathlib.Core.Option.{Option, none, some}
 use mathlib.Core.List.{List, [], _∷_}
 use Prim.Native.Nat.{ℕ, suc, _-_, _≤_, _<_}
@@ -9,7 +9,7 @@ use native.Mathlib.Omega.{arith}
 use lib.Dec.{eqb}
 use lib.ListN.{length, drop, getD, length-drop, drop-of-length-le}
 use lib.Seq.{drop-cons}
-use Rattle.grammar.specs.Choice.{pick, lookup}
+use Rattle.grammar.specs.Choice.{lookup}
 use Rattle.grammar.specs.Gram.{forget}
 use Rattle.grammar.specs.Tables.{Form, u8, u16, u32, number, text, bytes, pair, Place, publishPlace, subscribePlace, ackPlace}
 use Rattle.grammar.specs.Record.{Val, PropOf, lastOf, unlessEmpty, publishProps, subscribeProps, ackProps}
@@ -26,7 +26,7 @@ use Rattle.positions.proofs.Position.{bad-left}
 use Rattle.records.specs.Told.{toldError}
 use Rattle.records.specs.declared.error.Error.{Error}
 use Rattle.property_value.specs.Told.{toldValue, formOf, publishLists, nextOr, PropertyRead, PropertyPassed}
-use Rattle.property_value.proofs.Laws.Value.{value-tag, property-left, property-ahead}
+use Rattle.property_value.proofs.Laws.{value-tag, property-left, property-ahead}
 use Rattle.property_value.specs.declared.Value.{Value}
 use Rattle.property_value.specs.declared.GotProperty.{GotProperty}
 use Rattle.property_value.specs.declared.GotProperty.the-variants.{Found, Refused}
@@ -42,7 +42,7 @@ looked-up : (Q : ℕ → Form → Type 0) (place : Place) → Every Q place → 
 looked-up Q [] a k f e = absurd (let z : _≡_ {A = ℕ} 0 1 = cc in omega arith)
 looked-up Q (r ∷ rs) a k f e = go (eqb (r .0) k) refl (λ e′. looked-up Q rs (a .1) k f e′) e
   where
-    go : (b : Bool) → eqb (r .0) k ≡ b → (lookup rs k ≡ some f → Q k f) → pick b (some (r .1)) (lookup rs k) ≡ some f → Q k f
+    go : (b : Bool) → eqb (r .0) k ≡ b → (lookup rs k ≡ some f → Q k f) → cond b (some (r .1)) (lookup rs k) ≡ some f → Q k f
     go true t ih e′ = let i : r .1 ≡ f = cc in rw (sym (eq-of (r .0) k t), sym i) (a .0)
     go false t ih e′ = ih e′
 

@@ -1,6 +1,6 @@
 -- `property_value::pass_number` is right since the number ends where `read_length` says. Assumes nothing.
 use borrow.Author.Needs.{needs}
-use Rattle.property_value.proofs.Laws.Value.{of-number, past, not-past}
+use Rattle.property_value.proofs.Laws.{of-number, past, not-past}
 use Rattle.property_value.proofs.pass_number.Statement.{statement}
 use Rattle.property_value.proofs.pass_number.Tie as tie
 

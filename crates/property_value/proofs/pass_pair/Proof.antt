@@ -1,6 +1,6 @@
 -- `property_value::pass_pair` is right since the second text is read where the first ends. Assumes nothing.
 use borrow.Author.Needs.{needs}
-use Rattle.property_value.proofs.Laws.Value.{pair-not-past, pair-next-not-past, pair-past}
+use Rattle.property_value.proofs.Laws.{pair-not-past, pair-next-not-past, pair-past}
 use Rattle.property_value.proofs.pass_pair.Statement.{statement}
 use Rattle.property_value.proofs.pass_pair.Tie as tie
 

@@ -1,6 +1,6 @@
 -- `property_value::read_pair` is right since the second text is read where the first ends. Assumes nothing.
 use borrow.Author.Needs.{needs}
-use Rattle.property_value.proofs.Laws.Value.{pair-bad, pair-next-bad, pair-got}
+use Rattle.property_value.proofs.Laws.{pair-bad, pair-next-bad, pair-got}
 use Rattle.property_value.proofs.read_pair.Statement.{statement}
 use Rattle.property_value.proofs.read_pair.Tie as tie
 

@@ -1,6 +1,6 @@
 -- `property_value::read_property` is right since the identifier that was read says the form of the value behind it. Assumes nothing.
 use borrow.Author.Needs.{needs}
-use Rattle.property_value.proofs.Laws.Value.{property-refused, property-read}
+use Rattle.property_value.proofs.Laws.{property-refused, property-read}
 use Rattle.property_value.proofs.read_property.Statement.{statement}
 use Rattle.property_value.proofs.read_property.Tie as tie
 

@@ -3,7 +3,7 @@ use mathlib.Core.Path.{refl}
 use borrow.Author.Needs.{needs}
 use Rattle.reading.specs.Read.{valueAt}
 use Rattle.positions.specs.Position.{fromAt}
-use Rattle.property_value.proofs.Laws.Value.{of-u8, of-u16, of-u32, of-number, of-text, of-bytes, found, refused}
+use Rattle.property_value.proofs.Laws.{of-u8, of-u16, of-u32, of-number, of-text, of-bytes, found, refused}
 use Rattle.property_value.proofs.read_value.Statement.{statement}
 use Rattle.property_value.proofs.read_value.Tie as tie
 

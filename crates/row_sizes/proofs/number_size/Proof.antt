@@ -1,10 +1,9 @@
 -- `row_sizes::number_size` is right since `len_len` counts the bytes of the spelling, four at most. Assumes nothing.
-use mathlib.Core.Path.{_≡_, _∙_}
+use mathlib.Core.Path.{_≡_}
 use Prim.Native.Nat.{ℕ}
 use native.Mathlib.Omega.{arith}
 use borrow.Author.Needs.{needs}
 use Rattle.writing.specs.Size.{lenLen}
-use Rattle.writing.proofs.Sizes.{length-short}
 use Rattle.row_sizes.proofs.Laws.{len-len-most}
 use Rattle.row_sizes.proofs.number_size.Statement.{statement}
 use Rattle.row_sizes.proofs.number_size.Tie as tie
@@ -15,13 +14,13 @@ len-len-requires c κs = search needs
 add-result : tie.Need-add-result
 add-result c =
     let n : ℕ = c .before .args .n in
-    let e : c .len-len .result ≡ lenLen n = c .len-len .ensures ∙ length-short n in
+    let e : c .len-len .result ≡ lenLen n = c .len-len .ensures in
     omega (arith, len-len-most n)
 
 returns : tie.Need-returns
 returns c =
     let n : ℕ = c .before .args .n in
-    let e : c .len-len .result ≡ lenLen n = c .len-len .ensures ∙ length-short n in
+    let e : c .len-len .result ≡ lenLen n = c .len-len .ensures in
     (omega arith, omega (arith, len-len-most n))
 
 pub number-size-spec : {M : Type 1} → statement M

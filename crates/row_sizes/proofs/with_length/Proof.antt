@@ -3,7 +3,6 @@ use mathlib.Core.Path.{ap, _∙_}
 use Prim.Native.Nat.{ℕ, _+_}
 use borrow.Author.Needs.{needs}
 use Rattle.writing.specs.Size.{cap}
-use Rattle.writing.proofs.Sizes.{length-short}
 use Rattle.row_sizes.proofs.with_length.Statement.{statement}
 use Rattle.row_sizes.proofs.with_length.Tie as tie
 
@@ -16,7 +15,7 @@ add-requires c κs = search needs
 returns : tie.Need-returns
 returns c =
     let n : ℕ = c .before .before .args .n in
-    c .add .ensures ∙ ap (λ (k : ℕ). cap (k + n)) (c .before .len-len .ensures ∙ length-short n)
+    c .add .ensures ∙ ap (λ (k : ℕ). cap (k + n)) (c .before .len-len .ensures)
 
 pub with-length-spec : {M : Type 1} → statement M
 with-length-spec = tie.close (tie.spec len-len-requires add-requires returns)

@@ -1,10 +1,9 @@
 -- `settle::frame_size` is right since `len_len` counts the bytes of R, four at most. Assumes nothing.
-use mathlib.Core.Path.{_≡_, _∙_}
+use mathlib.Core.Path.{_≡_}
 use Prim.Native.Nat.{ℕ}
 use native.Mathlib.Omega.{arith}
 use borrow.Author.Needs.{needs}
 use Rattle.writing.specs.Size.{lenLen}
-use Rattle.writing.proofs.Sizes.{length-short}
 use Rattle.row_sizes.proofs.Laws.{len-len-most}
 use Rattle.settle.proofs.frame_size.Statement.{statement}
 use Rattle.settle.proofs.frame_size.Tie as tie
@@ -15,19 +14,19 @@ len-len-requires c κs = search needs
 add-result : tie.Need-add-result
 add-result c =
     let n : ℕ = c .before .args .rest in
-    let e : c .len-len .result ≡ lenLen n = c .len-len .ensures ∙ length-short n in
+    let e : c .len-len .result ≡ lenLen n = c .len-len .ensures in
     omega (arith, len-len-most n)
 
 add-result-2 : tie.Need-add-result-2
 add-result-2 c =
     let n : ℕ = c .before .args .rest in
-    let e : c .len-len .result ≡ lenLen n = c .len-len .ensures ∙ length-short n in
+    let e : c .len-len .result ≡ lenLen n = c .len-len .ensures in
     omega (arith, len-len-most n)
 
 returns : tie.Need-returns
 returns c =
     let n : ℕ = c .before .args .rest in
-    let e : c .len-len .result ≡ lenLen n = c .len-len .ensures ∙ length-short n in
+    let e : c .len-len .result ≡ lenLen n = c .len-len .ensures in
     omega (arith, len-len-most n)
 
 pub frame-size-spec : {M : Type 1} → statement M

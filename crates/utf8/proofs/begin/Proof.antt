@@ -3,7 +3,7 @@
 use mathlib.Core.Path.{sym}
 use native.Mathlib.Omega.{arith}
 use Rattle.grammar.specs.Text.{rows}
-use Rattle.utf8.proofs.Laws.Text.{row-at, no-row}
+use Rattle.utf8.proofs.Laws.{row-at, no-row}
 use Rattle.utf8.proofs.begin.Statement.{statement}
 use Rattle.utf8.proofs.begin.Tie as tie
 

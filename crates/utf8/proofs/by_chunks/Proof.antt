@@ -4,7 +4,7 @@ use Prim.Native.Nat.{_-_}
 use native.Mathlib.Omega.{arith}
 use lib.ListN.{length}
 use denote.Ref.{now}
-use Rattle.utf8.proofs.Laws.Text.{Going, going-start, going-next, going-stuck, going-end}
+use Rattle.utf8.proofs.Laws.{Going, going-start, going-next, going-stuck, going-end}
 use Rattle.utf8.proofs.by_chunks.Statement.{statement}
 use Rattle.utf8.proofs.by_chunks.Tie as tie
 

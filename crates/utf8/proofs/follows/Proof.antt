@@ -3,7 +3,7 @@
 use Prim.Native.Nat.{_-_}
 use native.Mathlib.Omega.{arith}
 use denote.Ref.{now}
-use Rattle.utf8.proofs.Laws.Text.{Following, follow-short, follow-start, follow-low, follow-high, follow-next, follow-end}
+use Rattle.utf8.proofs.Laws.{Following, follow-short, follow-start, follow-low, follow-high, follow-next, follow-end}
 use Rattle.utf8.proofs.follows.Statement.{statement}
 use Rattle.utf8.proofs.follows.Tie as tie
 

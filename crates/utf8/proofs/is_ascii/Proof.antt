@@ -11,7 +11,7 @@ use denote.Ref.{now}
 use borrow.Author.Tests.{ltb-true}
 use Rattle.reading.specs.Read.{isText}
 use Rattle.utf8.specs.Text.{allAscii}
-use Rattle.utf8.proofs.Laws.Text.{ascii, both-low, or-low, ascii-more}
+use Rattle.utf8.proofs.Laws.{ascii, both-low, or-low, ascii-more}
 use Rattle.utf8.proofs.is_ascii.Statement.{statement}
 use Rattle.utf8.proofs.is_ascii.Tie as tie
 

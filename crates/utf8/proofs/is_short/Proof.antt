@@ -4,7 +4,7 @@ use native.Mathlib.Omega.{arith}
 use lib.ListN.{length}
 use borrow.Author.Needs.{needs}
 use denote.Ref.{now}
-use Rattle.utf8.proofs.Laws.Text.{text-over}
+use Rattle.utf8.proofs.Laws.{text-over}
 use Rattle.utf8.proofs.is_short.Statement.{statement}
 use Rattle.utf8.proofs.is_short.Tie as tie
 

@@ -5,7 +5,7 @@ use native.Mathlib.Omega.{arith}
 use borrow.Author.Needs.{needs}
 use denote.Ref.{now}
 use Rattle.utf8.specs.Text.{toldLead}
-use Rattle.utf8.proofs.Laws.Text.{no-char, char-whole, char-broken}
+use Rattle.utf8.proofs.Laws.{no-char, char-whole, char-broken}
 use Rattle.utf8.proofs.next_char.Statement.{statement}
 use Rattle.utf8.proofs.next_char.Tie as tie
 

@@ -3,7 +3,7 @@ use Prim.Native.Nat.{_-_}
 use native.Mathlib.Omega.{arith}
 use lib.ListN.{length}
 use denote.Ref.{now}
-use Rattle.utf8.proofs.Laws.Text.{stuck, went, Going, going-start, going-next, going-stuck}
+use Rattle.utf8.proofs.Laws.{stuck, went, Going, going-start, going-next, going-stuck}
 use Rattle.utf8.proofs.pass_chars.Statement.{statement}
 use Rattle.utf8.proofs.pass_chars.Tie as tie
 

@@ -1,7 +1,7 @@
 -- `utf8::pass_chunk` meets its contract: a chunk is passed at once if `is_ascii` says so, else by `pass_chars`. Assumes nothing.
 use native.Mathlib.Omega.{arith}
 use borrow.Author.Needs.{needs}
-use Rattle.utf8.proofs.Laws.Text.{went}
+use Rattle.utf8.proofs.Laws.{went}
 use Rattle.utf8.proofs.pass_chunk.Statement.{statement}
 use Rattle.utf8.proofs.pass_chunk.Tie as tie
 

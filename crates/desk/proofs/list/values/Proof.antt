@@ -6,7 +6,7 @@ use borrow.Author.Needs.{needs}
 use lib.ListN.{length}
 use denote.Ref.{now}
 use Rattle.tables.specs.Property.{placeOf}
-use Rattle.property_value.proofs.Laws.Value.{property-ahead}
+use Rattle.property_value.proofs.Laws.{property-ahead}
 use Rattle.desk.proofs.list.values.Statement.{statement}
 use Rattle.desk.proofs.list.values.Tie as tie
 

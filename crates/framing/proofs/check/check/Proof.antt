@@ -1,6 +1,6 @@
 -- `framing::check::check` is right since it refuses as the header does, then above the limit, then where bytes are lacking: 01's order. Assumes nothing.
 use borrow.Author.Needs.{needs}
-use Rattle.framing.proofs.Laws.Frame.{header-within, frame-refused, frame-checked}
+use Rattle.framing.proofs.Laws.{header-within, frame-refused, frame-checked}
 use Rattle.framing.proofs.check.check.Statement.{statement}
 use Rattle.framing.proofs.check.check.Tie as tie
 

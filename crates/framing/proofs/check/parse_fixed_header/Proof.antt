@@ -5,7 +5,7 @@ use mathlib.Core.List.{[], _∷_}
 use native.Mathlib.Omega.{arith}
 use Rattle.reading.specs.Refusal.{nr}
 use Rattle.var_length.proofs.Laws.{number-within}
-use Rattle.framing.proofs.Laws.Frame.{header-none, header-first}
+use Rattle.framing.proofs.Laws.{header-none, header-first}
 use Rattle.framing.proofs.check.parse_fixed_header.Statement.{statement}
 use Rattle.framing.proofs.check.parse_fixed_header.Tie as tie
 

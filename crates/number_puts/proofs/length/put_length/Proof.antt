@@ -1,7 +1,9 @@
 -- `number_puts::length::put_length` is right since past the end nothing is stored, and `len_len` counts all the same. Assumes nothing.
+use mathlib.Core.Path.{sym, _∙_}
 use native.Mathlib.Omega.{arith}
 use borrow.Author.Needs.{needs}
 use Rattle.writing.specs.Spell.{short}
+use Rattle.writing.proofs.Sizes.{length-short}
 use Rattle.byte_puts.proofs.Laws.{sets-out}
 use Rattle.number_puts.proofs.length.put_length.Statement.{statement}
 use Rattle.number_puts.proofs.length.put_length.Tie as tie
@@ -19,7 +21,7 @@ returns : tie.Need-returns
 returns c = c .before .before .put-groups .ensures
 
 returns-2 : tie.Need-returns-2
-returns-2 c = let a = c .before .before .before .args in (sets-out (short (a .n)) (a .out .now) (a .at) (omega arith), c .len-len .ensures)
+returns-2 c = let a = c .before .before .before .args in (sets-out (short (a .n)) (a .out .now) (a .at) (omega arith), c .len-len .ensures ∙ sym (length-short (a .n)))
 
 pub put-length-spec : {M : Type 1} → statement M
 put-length-spec =

@@ -1,5 +1,6 @@
 -- `number_puts::length::write_remaining_length` is right since it tests first the number, then the room, and puts the spelling at the front.
 -- Assumes nothing.
+use mathlib.Core.Path.{sym, _∙_}
 use native.Mathlib.Omega.{arith}
 use borrow.Author.Needs.{needs}
 use borrow.Author.Tests.{le-leb, lt-leb}
@@ -7,6 +8,7 @@ use denote.Ref.{now}
 use Rattle.writing.specs.Size.{most}
 use Rattle.writing.specs.Spell.{short}
 use Rattle.writing.specs.Order.{small}
+use Rattle.writing.proofs.Sizes.{length-short}
 use Rattle.number_puts.proofs.Laws.Leaf.{leaf-refused, leaf-no-room, leaf-written}
 use Rattle.number_puts.proofs.length.write_remaining_length.Statement.{statement}
 use Rattle.number_puts.proofs.length.write_remaining_length.Tie as tie
@@ -22,7 +24,7 @@ len-len-requires c κs = search needs
 returns-2 : tie.Need-returns-2
 returns-2 c =
     let a = c .before .before .before .before .args in
-    leaf-no-room (small (a .n)) (short (a .n)) (now (a .out)) (le-leb (a .n) most (omega arith)) _ (c .before .len-len .ensures) (omega arith)
+    leaf-no-room (small (a .n)) (short (a .n)) (now (a .out)) (le-leb (a .n) most (omega arith)) _ (c .before .len-len .ensures ∙ sym (length-short (a .n))) (omega arith)
 
 put-length-requires : tie.Need-put-length-requires
 put-length-requires c κs = search needs
@@ -34,7 +36,7 @@ returns-3 : tie.Need-returns-3
 returns-3 c =
     let a = c .before .before .before .before .before .before .before .before .args in
     let e = c .before .before .put-length .ensures in
-    leaf-written (small (a .n)) (short (a .n)) (now (a .out)) (le-leb (a .n) most (omega arith)) _ (e .1) _ (omega arith) (e .0)
+    leaf-written (small (a .n)) (short (a .n)) (now (a .out)) (le-leb (a .n) most (omega arith)) _ (e .1) _ (omega (arith, length-short (a .n))) (e .0)
 
 pub write-remaining-length-spec : {M : Type 1} → statement M
 write-remaining-length-spec =

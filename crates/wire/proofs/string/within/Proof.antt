@@ -6,7 +6,7 @@ use borrow.Author.Needs.{needs}
 use borrow.Author.Tests.{lt-leb}
 use lib.ListN.{length}
 use denote.Ref.{now}
-use Rattle.wire.proofs.Laws.Strings.{lies-behind}
+use Rattle.wire.proofs.Laws.{lies-behind}
 use Rattle.wire.proofs.string.within.Statement.{statement}
 use Rattle.wire.proofs.string.within.Tie as tie
 
