@@ -10,11 +10,11 @@ use Rattle.given.specs.declared.publish_by.GotPublishHead.{GotPublishHea
 use Rattle.given.specs.declared.puback_by.GotPubAckHead.{GotPubAckHead}
 
 -- of a Publish
-abbrev pub publishOf : GotPublishHead → (topic response correlation user lengths ids content payload : List ℕ) → Fit Handed
-publishOf (GotPublishHead.Value h) topic response correlation user lengths ids content payload = got (publish (handed h topic response correlation user lengths ids content payload))
-publishOf (GotPublishHead.Refused e) topic response correlation user lengths ids content payload = bad (toldError e)
+abbrev pub publishHanded : GotPublishHead → (topic response correlation user lengths ids content payload : List ℕ) → Fit Handed
+publishHanded (GotPublishHead.Value h) topic response correlation user lengths ids content payload = got (publish (handed h topic response correlation user lengths ids content payload))
+publishHanded (GotPublishHead.Refused e) topic response correlation user lengths ids content payload = bad (toldError e)
 
 -- of a PubAck
-abbrev pub ackOf : GotPubAckHead → (text user lengths : List ℕ) → Fit Handed
-ackOf (GotPubAckHead.Value h) text user lengths = got (ack 4 (puback.handed h text user lengths))
-ackOf (GotPubAckHead.Refused e) text user lengths = bad (toldError e)
+abbrev pub ackHanded : GotPubAckHead → (text user lengths : List ℕ) → Fit Handed
+ackHanded (GotPubAckHead.Value h) text user lengths = got (ack 4 (puback.handed h text user lengths))
+ackHanded (GotPubAckHead.Refused e) text user lengths = bad (toldError e)

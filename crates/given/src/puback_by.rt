@@ -8,7 +8,7 @@ ghost use mathlib.Core.Path.{_≡_};
 ghost use mathlib.Core.List.{List};
 ghost use Prim.Native.Nat.{ℕ};
 ghost use Rattle.given.specs.Given.{ackBy};
-ghost use Rattle.given.specs.Head.{ackOf};
+ghost use Rattle.given.specs.Head.{ackHanded};
 
 // Numbers and presence, or refusal 15.
 pub enum GotPubAckHead {
@@ -17,7 +17,7 @@ pub enum GotPubAckHead {
 }
 
 pub fn puback_head(pkid: u16, reason: u8, block: u8, reason_string_on: u8) -> GotPubAckHead
-    ensures { λ r. ⌜ ((text user lengths : List ℕ) → ackOf r text user lengths ≡ ackBy pkid reason block «reason_string_on» text user lengths) ⌝ }
+    ensures { λ r. ⌜ ((text user lengths : List ℕ) → ackHanded r text user lengths ≡ ackBy pkid reason block «reason_string_on» text user lengths) ⌝ }
 {
     match reason_of(reason) {
         GotReason::Refused(e) => GotPubAckHead::Refused(e),

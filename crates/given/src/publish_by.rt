@@ -11,7 +11,7 @@ ghost use mathlib.Core.Path.{_≡_};
 ghost use mathlib.Core.List.{List};
 ghost use Prim.Native.Nat.{ℕ};
 ghost use Rattle.given.specs.Given.{publishBy};
-ghost use Rattle.given.specs.Head.{publishOf};
+ghost use Rattle.given.specs.Head.{publishHanded};
 
 // Numbers and presence, or refusal 11.
 pub enum GotPublishHead {
@@ -35,7 +35,7 @@ pub fn publish_head(
     correlation_on: u8,
     content_on: u8,
 ) -> GotPublishHead
-    ensures { λ r. ⌜ ((topic response correlation user lengths ids content payload : List ℕ) → publishOf r topic response correlation user lengths ids content payload ≡ publishBy dup qos retain pkid topic block «format_on» format «expiry_on» expiry «alias_on» alias «response_on» response «correlation_on» correlation user lengths ids «content_on» content payload) ⌝ }
+    ensures { λ r. ⌜ ((topic response correlation user lengths ids content payload : List ℕ) → publishHanded r topic response correlation user lengths ids content payload ≡ publishBy dup qos retain pkid topic block «format_on» format «expiry_on» expiry «alias_on» alias «response_on» response «correlation_on» correlation user lengths ids «content_on» content payload) ⌝ }
 {
     match qos::qos(qos) {
         GotQos::Refused(e) => GotPublishHead::Refused(e),

@@ -5,7 +5,7 @@ use layout_answer::as_written;
 use records::answer::Written;
 ghost use mathlib.Core.Path.{_≡_};
 ghost use Rattle.records.specs.Answered.{toldWritten};
-ghost use Rattle.given.specs.Head.{publishOf, ackOf};
+ghost use Rattle.given.specs.Head.{publishHanded, ackHanded};
 ghost use Rattle.given.specs.Written.{sizedBehind};
 
 pub fn size_publish(
@@ -19,7 +19,7 @@ pub fn size_publish(
     content: &[u8],
     payload: &[u8],
 ) -> Written
-    ensures { λ r. ⌜ toldWritten r ≡ sizedBehind (publishOf head (now (topic .entry)) (now (response .entry)) (now (correlation .entry)) (now (user .entry)) (now («user_lengths» .entry)) (now (identifiers .entry)) (now (content .entry)) (now (payload .entry))) ⌝ }
+    ensures { λ r. ⌜ toldWritten r ≡ sizedBehind (publishHanded head (now (topic .entry)) (now (response .entry)) (now (correlation .entry)) (now (user .entry)) (now («user_lengths» .entry)) (now (identifiers .entry)) (now (content .entry)) (now (payload .entry))) ⌝ }
 {
     match head {
         GotPublishHead::Refused(e) => Written::Refused(e),
@@ -43,7 +43,7 @@ pub fn size_puback(
     user: &[u8],
     user_lengths: &[usize],
 ) -> Written
-    ensures { λ r. ⌜ toldWritten r ≡ sizedBehind (ackOf head (now («reason_string» .entry)) (now (user .entry)) (now («user_lengths» .entry))) ⌝ }
+    ensures { λ r. ⌜ toldWritten r ≡ sizedBehind (ackHanded head (now («reason_string» .entry)) (now (user .entry)) (now («user_lengths» .entry))) ⌝ }
 {
     match head {
         GotPubAckHead::Refused(e) => Written::Refused(e),

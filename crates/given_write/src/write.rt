@@ -6,7 +6,7 @@ use records::answer::Written;
 ghost use mathlib.Core.Path.{_≡_};
 ghost use Rattle.records.specs.Told.{limitOf};
 ghost use Rattle.records.specs.Answered.{toldWritten};
-ghost use Rattle.given.specs.Head.{publishOf, ackOf};
+ghost use Rattle.given.specs.Head.{publishHanded, ackHanded};
 ghost use Rattle.given.specs.Written.{WrittenBehind};
 
 pub fn write_publish(
@@ -22,7 +22,7 @@ pub fn write_publish(
     limit: Limit,
     out: &mut [u8],
 ) -> Written
-    ensures { λ r. ⌜ WrittenBehind (limitOf limit) (publishOf head (now (topic .entry)) (now (response .entry)) (now (correlation .entry)) (now (user .entry)) (now («user_lengths» .entry)) (now (identifiers .entry)) (now (content .entry)) (now (payload .entry))) (now (out .entry)) (now (out .exit)) (toldWritten r) ⌝ }
+    ensures { λ r. ⌜ WrittenBehind (limitOf limit) (publishHanded head (now (topic .entry)) (now (response .entry)) (now (correlation .entry)) (now (user .entry)) (now («user_lengths» .entry)) (now (identifiers .entry)) (now (content .entry)) (now (payload .entry))) (now (out .entry)) (now (out .exit)) (toldWritten r) ⌝ }
 {
     match head {
         GotPublishHead::Refused(e) => Written::Refused(e),
@@ -50,7 +50,7 @@ pub fn write_puback(
     limit: Limit,
     out: &mut [u8],
 ) -> Written
-    ensures { λ r. ⌜ WrittenBehind (limitOf limit) (ackOf head (now («reason_string» .entry)) (now (user .entry)) (now («user_lengths» .entry))) (now (out .entry)) (now (out .exit)) (toldWritten r) ⌝ }
+    ensures { λ r. ⌜ WrittenBehind (limitOf limit) (ackHanded head (now («reason_string» .entry)) (now (user .entry)) (now («user_lengths» .entry))) (now (out .entry)) (now (out .exit)) (toldWritten r) ⌝ }
 {
     match head {
         GotPubAckHead::Refused(e) => Written::Refused(e),

@@ -6,9 +6,9 @@ use Rattle.records.specs.Told.{rowOf, valuesOf}
 use Rattle.layout.specs.Layout.{numbersOf}
 use Rattle.layout.specs.Value.{valueAt}
 use Rattle.layout_properties.specs.Block.{noBlock}
-use Rattle.layout_read.specs.Record.{refusedHead, numberOf, encoded}
+use Rattle.layout_read.specs.Record.{refusedHead, readNumber, encoded}
 
-pub refused-number : (k : Refusal) (n : ℕ) → rowOf k ≡ numberOf (refusedAs k n)
+pub refused-number : (k : Refusal) (n : ℕ) → rowOf k ≡ readNumber (refusedAs k n)
 refused-number (nr k vs) n = refl
 
 pub refused-encoded : (k : Refusal) (n : ℕ) → numbersOf (refusedHead n (valueAt (valuesOf k) 0) (valueAt (valuesOf k) 1)) noBlock ≡ encoded (refusedAs k n)

@@ -78,9 +78,9 @@ unfoldable pub packetNumbers : ℕ → Placed → List ℕ
 packetNumbers n p = numbersOf (headOf n p) (blockOf p)
 
 -- the number that is returned
-abbrev pub numberOf : Answer Placed → ℕ
-numberOf (accepted p n) = 0
-numberOf (refused k vs n) = k
+abbrev pub readNumber : Answer Placed → ℕ
+readNumber (accepted p n) = 0
+readNumber (refused k vs n) = k
 
 -- the numbers that are stored
 unfoldable pub encoded : Answer Placed → List ℕ

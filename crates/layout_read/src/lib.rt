@@ -27,7 +27,7 @@ ghost use Rattle.reading.specs.Refusal.{refusedAs};
 ghost use Rattle.records.specs.Told.{toldError};
 ghost use Rattle.records.specs.Said.{toldPublish, toldSubscribe, toldPubAck, toldPacket};
 ghost use Rattle.records.specs.Answered.{told};
-ghost use Rattle.layout_read.specs.Record.{noSpan, refusedHead, plainHead, headOf, packetNumbers, numberOf, encoded};
+ghost use Rattle.layout_read.specs.Record.{noSpan, refusedHead, plainHead, headOf, packetNumbers, readNumber, encoded};
 
 // ---- all but the properties
 
@@ -178,7 +178,7 @@ fn read_numbers(read: Read) -> [u64; 38]
 }
 
 fn read_number(read: Read) -> u32
-    ensures { λ r. ⌜ r ≡ numberOf (told read) ⌝ }
+    ensures { λ r. ⌜ r ≡ readNumber (told read) ⌝ }
 {
     match read {
         Read::Packet(_, _) => 0,
@@ -188,7 +188,7 @@ fn read_number(read: Read) -> u32
 
 // 0, or the refusal's number; every number of the layout is stored.
 pub fn store_read(read: Read, into: &mut [u64]) -> u32
-    ensures number { λ r. ⌜ r ≡ numberOf (told read) ⌝ }
+    ensures number { λ r. ⌜ r ≡ readNumber (told read) ⌝ }
     ensures stored { λ r. ⌜ now (into .exit) ≡ sets (now (into .entry)) 0 (encoded (told read)) ⌝ }
 {
     let numbers = read_numbers(read);

@@ -15,7 +15,7 @@ use Rattle.subscribe_write.specs.declared.SubscribeHead.{SubscribeHead}
 use Rattle.subscribe_write.specs.Handed as subscribing
 use Rattle.given.specs.declared.publish_by.GotPublishHead.{GotPublishHead}
 use Rattle.given.specs.declared.puback_by.GotPubAckHead.{GotPubAckHead}
-use Rattle.given.specs.Head.{publishOf, ackOf}
+use Rattle.given.specs.Head.{publishHanded, ackHanded}
 use Rattle.one_result.specs.OneResult.{OneResult}
 use Rattle.one_result.proofs.Laws.{one-by}
 use Rattle.one_result.proofs.Writers.{backNumber, back-u8, back-u16, back-u32}
@@ -46,12 +46,12 @@ backPublishHead (ack k h) = GotPublishHead.Refused Error.NoItem
 backPublishHead (subscribe h) = GotPublishHead.Refused Error.NoItem
 backPublishHead (ping k) = GotPublishHead.Refused Error.NoItem
 
-back-publish-head : (r : GotPublishHead) → backFit backPublishHead GotPublishHead.Refused (publishOf r [] [] [] [] [] [] [] []) ≡ r
+back-publish-head : (r : GotPublishHead) → backFit backPublishHead GotPublishHead.Refused (publishHanded r [] [] [] [] [] [] [] []) ≡ r
 back-publish-head (GotPublishHead.Value m) = ap GotPublishHead.Value (back-publish m)
 back-publish-head (GotPublishHead.Refused e) = ap GotPublishHead.Refused (back-error e)
 
-pub publish-head-same : OneResult (λ (r : GotPublishHead). publishOf r [] [] [] [] [] [] [] [])
-publish-head-same = one-by (λ (r : GotPublishHead). publishOf r [] [] [] [] [] [] [] []) (backFit backPublishHead GotPublishHead.Refused) back-publish-head
+pub publish-head-same : OneResult (λ (r : GotPublishHead). publishHanded r [] [] [] [] [] [] [] [])
+publish-head-same = one-by (λ (r : GotPublishHead). publishHanded r [] [] [] [] [] [] [] []) (backFit backPublishHead GotPublishHead.Refused) back-publish-head
 
 -- ---- a PubAck
 
@@ -67,12 +67,12 @@ backPubAckHead (ack k h) = GotPubAckHead.Value (backPubAck h)
 backPubAckHead (subscribe h) = GotPubAckHead.Refused Error.NoItem
 backPubAckHead (ping k) = GotPubAckHead.Refused Error.NoItem
 
-back-puback-head : (r : GotPubAckHead) → backFit backPubAckHead GotPubAckHead.Refused (ackOf r [] [] []) ≡ r
+back-puback-head : (r : GotPubAckHead) → backFit backPubAckHead GotPubAckHead.Refused (ackHanded r [] [] []) ≡ r
 back-puback-head (GotPubAckHead.Value m) = ap GotPubAckHead.Value (back-puback m)
 back-puback-head (GotPubAckHead.Refused e) = ap GotPubAckHead.Refused (back-error e)
 
-pub puback-head-same : OneResult (λ (r : GotPubAckHead). ackOf r [] [] [])
-puback-head-same = one-by (λ (r : GotPubAckHead). ackOf r [] [] []) (backFit backPubAckHead GotPubAckHead.Refused) back-puback-head
+pub puback-head-same : OneResult (λ (r : GotPubAckHead). ackHanded r [] [] [])
+puback-head-same = one-by (λ (r : GotPubAckHead). ackHanded r [] [] []) (backFit backPubAckHead GotPubAckHead.Refused) back-puback-head
 
 -- ---- a Subscribe
 

@@ -51,7 +51,7 @@ use Rattle.promises.proofs.Items.{publish-items, puback-items, subscribe-items,
 use Rattle.packet_parts.specs.Parts.{Parts, foreign}
 use Rattle.packet_write.specs.Union.{own, unionOf, WrittenOfUnion}
 use Rattle.packet_parts.specs.declared.head.PacketHead.{PacketHead}
-use Rattle.promises_writing.specs.Writing.{Meets, Widths, Lent}
+use Rattle.promises_writing.specs.Writing.{Meets, Widths, LentOctets}
 use Rattle.promises_writing.proofs.Writing as writing
 
 -- the answer r says v: it is a record, its places say v, its items are those of v, and n bytes are taken
@@ -81,7 +81,7 @@ listed PubAckReason.PacketIdentifierInUse = refl
 listed PubAckReason.QuotaExceeded = refl
 listed PubAckReason.PayloadFormatInvalid = refl
 
-pub typed : (m : PacketHead) (p : Parts) → Widths m → Lent p → Typed (own m p)
+pub typed : (m : PacketHead) (p : Parts) → Widths m → LentOctets p → Typed (own m p)
 unfolding kinds
 typed (PacketHead.Publish m) p b l = record {
   dup = bit-below (m .dup);
@@ -237,7 +237,7 @@ subscribe-no-set h e = rw e
 
 -- ---- all of it, of `packet_write::write`
 
-pub packet-reads-back : (limit : Limit) (m : PacketHead) (p : Parts) (before after : List ℕ) (w : Written) → WrittenOfUnion (limitOf limit) (unionOf m p) before after (toldWritten w) → Widths m → Lent p
+pub packet-reads-back : (limit : Limit) (m : PacketHead) (p : Parts) (before after : List ℕ) (w : Written) → WrittenOfUnion (limitOf limit) (unionOf m p) before after (toldWritten w) → Widths m → LentOctets p
     → (n : ℕ) → w ≡ Written.Size n → Plain (own m p) → (r : Read) → reading.Meets Limit.Unlimited after r → Reads after r (meant (own m p)) n
 packet-reads-back limit m p before after w c b l n i q r j =
     let d = writing.of-packet limit m p before after w c in

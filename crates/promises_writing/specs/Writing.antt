@@ -56,7 +56,7 @@ Widths PacketHead.PingReq = Unit {0}
 Widths PacketHead.PingResp = Unit {0}
 
 -- of the lent parts
-pub record Lent (p : Parts) : Type 0 where
+pub record LentOctets (p : Parts) : Type 0 where
   pub topic : Octets (p .topic)
   pub response : Octets (p .response)
   pub correlation : Octets (p .correlation)

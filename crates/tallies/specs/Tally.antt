@@ -11,12 +11,12 @@ use Rattle.names.specs.Names.{codesOf}
 use Rattle.render.specs.Shown.{decimalOf}
 
 -- the counts of refusals stand at their numbers, 1 to 21 and room for more; those of the kinds from 58 on; that of all refusals at 63
-abbrev pub kindAt : Packet → ℕ
-kindAt (Packet.Publish m) = 58
-kindAt (Packet.Subscribe m) = 59
-kindAt (Packet.PubAck m) = 60
-kindAt Packet.PingReq = 61
-kindAt Packet.PingResp = 62
+abbrev pub kindIndex : Packet → ℕ
+kindIndex (Packet.Publish m) = 58
+kindIndex (Packet.Subscribe m) = 59
+kindIndex (Packet.PubAck m) = 60
+kindIndex Packet.PingReq = 61
+kindIndex Packet.PingResp = 62
 
 -- one more at k, counted in 64 bits; an index past the end holds no count
 abbrev pub oneMore : List ℕ → ℕ → List ℕ

@@ -10,7 +10,7 @@ ghost use Prim.Native.Nat.{_+_, _≤_};
 ghost use lib.ListN.{length, getD, replicate};
 ghost use Rattle.render.specs.Shown.{decimalOf};
 ghost use Rattle.lines.specs.Line.{PutAt};
-ghost use Rattle.tallies.specs.Tally.{kindAt, oneMore, refusedMore, kindsText, pingsText, refusalText, refusalsTo, endText, summaryLine};
+ghost use Rattle.tallies.specs.Tally.{kindIndex, oneMore, refusedMore, kindsText, pingsText, refusalText, refusalsTo, endText, summaryLine};
 
 // behind the numbers of refusals, those that are yet to come included
 const PUBLISH: usize = 58;
@@ -49,7 +49,7 @@ fn add(tally: &mut [u64], k: usize)
 }
 
 fn kind_at(p: Packet) -> usize
-    ensures { λ r. ⌜ r ≡ kindAt p ⌝ }
+    ensures { λ r. ⌜ r ≡ kindIndex p ⌝ }
 {
     match p {
         Packet::Publish(_) => PUBLISH,
@@ -62,7 +62,7 @@ fn kind_at(p: Packet) -> usize
 
 // A packet more.
 pub fn add_packet(tally: &mut [u64], p: Packet)
-    ensures { λ r. ⌜ now (tally .exit) ≡ oneMore (now (tally .entry)) (kindAt p) ⌝ }
+    ensures { λ r. ⌜ now (tally .exit) ≡ oneMore (now (tally .entry)) (kindIndex p) ⌝ }
 {
     add(&mut *tally, kind_at(p));
 }

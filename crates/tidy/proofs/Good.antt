@@ -21,7 +21,7 @@ use Rattle.writing.specs.Refuse.{Sound, Small, Countable, Unnamed, Unasked, Acc
 use Rattle.writing.specs.Meant.{publishSet, subscribeSet, ackSet, thePublish, theAck, meant, Below, Typed, Plain}
 use Rattle.writing.proofs.Each.{each-append, rows-of}
 use Rattle.writing.proofs.Values.{Suits, an-u8, an-u16, an-u32, a-number, a-text, a-bytes, low-qos, low-rule, low-filter}
-use Rattle.tidy.specs.Tidy.{optionsOf, publishFrom, ackFrom, subscribeFrom, noPublish, noAck, noSubscribe, withSet, handedOf}
+use Rattle.tidy.specs.Tidy.{optionsByte, publishFrom, ackFrom, subscribeFrom, noPublish, noAck, noSubscribe, withSet, handedOf}
 use Rattle.tidy.proofs.Has.{SuitsIn}
 use Rattle.tidy.proofs.Said.{PublishSaid, AckSaid, FilterSaid, filterSize, SubscribeSaid, Said}
 use Rattle.tidy.proofs.Rows.{Perhaps, last-suits, all-suits, num-back, str-back, numbers-back, run-back, run-octets, run-adds, users-octets, users-back, Row, row-one, row-lent, row-pairs, row-several}
@@ -271,20 +271,20 @@ bits-4 o = omega arith
 bits-6 : (o : ℕ) → o % 16 + 16 * (o / 16 % 4) ≡ o % 64
 bits-6 o = omega arith
 
-options-back : (s : List ℕ) (o : ℕ) → optionsOf (mkFilter (s, o)) ≡ o % 64
+options-back : (s : List ℕ) (o : ℕ) → optionsByte (mkFilter (s, o)) ≡ o % 64
 options-back s o = rw (bits-3 o, bits-4 o, bits-6 o)
 
-options-are : (f : Filter (List ℕ)) (w : FilterSaid f) → optionsOf f ≡ w .options % 64
-options-are f w = ap optionsOf (w .filter) ∙ options-back (f .path) (w .options)
+options-are : (f : Filter (List ℕ)) (w : FilterSaid f) → optionsByte f ≡ w .options % 64
+options-are f w = ap optionsByte (w .filter) ∙ options-back (f .path) (w .options)
 
-filter-back : (f : Filter (List ℕ)) → FilterSaid f → mkFilter (f .path, optionsOf f) ≡ f
+filter-back : (f : Filter (List ℕ)) → FilterSaid f → mkFilter (f .path, optionsByte f) ≡ f
 filter-back f w = ap (λ (n : ℕ). mkFilter (f .path, n)) (options-are f w) ∙ low-filter (w .options) (f .path) ∙ sym (w .filter)
 
-filter-sound : (f : Filter (List ℕ)) → FilterSaid f → Sound (filterField (f .path, optionsOf f))
+filter-sound : (f : Filter (List ℕ)) → FilterSaid f → Sound (filterField (f .path, optionsByte f))
 filter-sound f w =
     let e = options-are f w in
-    let r : ruleFine (optionsOf f) ≡ true = rw (e, low-rule (w .options)) (w .rule) in
-    let q : qosFine (optionsOf f) ≡ true = rw (e, low-qos (w .options)) (w .qos) in
+    let r : ruleFine (optionsByte f) ≡ true = rw (e, low-rule (w .options)) (w .rule) in
+    let q : qosFine (optionsByte f) ≡ true = rw (e, low-qos (w .options)) (w .qos) in
     (w .path, w .text, r, q)
 
 abbrev pathsOf : List (Filter (List ℕ)) → List (List ℕ)
@@ -292,10 +292,10 @@ pathsOf fs = map (λ f. f .path) fs
 
 -- the filters that are handed over
 record FiltersBack (fs : List (Filter (List ℕ))) : Type 0 where
-  sound : Each Sound (map filterField (beside (pathsOf fs) (map optionsOf fs)))
+  sound : Each Sound (map filterField (beside (pathsOf fs) (map optionsByte fs)))
   octets : Each Octets (pathsOf fs)
-  back : map mkFilter (beside (pathsOf fs) (map optionsOf fs)) ≡ fs
-  sum : length (flat (λ s. s) (pathsOf fs)) + 3 * length (map optionsOf fs) ≡ total filterSize fs
+  back : map mkFilter (beside (pathsOf fs) (map optionsByte fs)) ≡ fs
+  sum : length (flat (λ s. s) (pathsOf fs)) + 3 * length (map optionsByte fs) ≡ total filterSize fs
 
 filters-back : {fs : List (Filter (List ℕ))} → Each FilterSaid fs → FiltersBack fs
 filters-back nil = record { sound = nil; octets = nil; back = refl; sum = refl }
@@ -304,11 +304,11 @@ filters-back (_&_ {a = f} {l = fs} w ws) =
     record {
       sound = filter-sound f w & r .sound;
       octets = w .octets & r .octets;
-      back = ap (λ (x : Filter (List ℕ)). x ∷ map mkFilter (beside (pathsOf fs) (map optionsOf fs))) (filter-back f w) ∙ ap (λ (l : List (Filter (List ℕ))). f ∷ l) (r .back);
+      back = ap (λ (x : Filter (List ℕ)). x ∷ map mkFilter (beside (pathsOf fs) (map optionsByte fs))) (filter-back f w) ∙ ap (λ (l : List (Filter (List ℕ))). f ∷ l) (r .back);
       sum = rw (length-append (f .path) (flat (λ s. s) (pathsOf fs))) (omega (arith, r .sum));
     }
 
-some-filters : (fs : List (Filter (List ℕ))) → someOf fs ≡ true → beside (pathsOf fs) (map optionsOf fs) ≡ [] → ⊥
+some-filters : (fs : List (Filter (List ℕ))) → someOf fs ≡ true → beside (pathsOf fs) (map optionsByte fs) ≡ [] → ⊥
 some-filters [] t e = no-way t
 some-filters (f ∷ fs) t e = let z : _≡_ {A = ℕ} 0 1 = cc in omega arith
 
@@ -320,8 +320,8 @@ subscribe-good p w =
     let rows = subscribe-rows p ps (w .props .suits) in
     let l = rows-light (subscribeGiven h) ps rows subscribe-distinct (w .size) (w .props .light) (omega (arith, w .light)) in
     let b = filters-back (w .filters) in
-    let e : filters h ≡ beside (pathsOf (p .filters)) (map optionsOf (p .filters)) = ap (λ (ss : List (List ℕ)). beside ss (map optionsOf (p .filters))) (run-back (pathsOf (p .filters))) in
-    let c : length (map length (pathsOf (p .filters))) ≡ length (map optionsOf (p .filters)) = simp length-map in
+    let e : filters h ≡ beside (pathsOf (p .filters)) (map optionsByte (p .filters)) = ap (λ (ss : List (List ℕ)). beside ss (map optionsByte (p .filters))) (run-back (pathsOf (p .filters))) in
+    let c : length (map length (pathsOf (p .filters))) ≡ length (map optionsByte (p .filters)) = simp length-map in
     record {
       accepts = fitting (subscribe h) (record {
         belongs = (rows-belong (subscribeGiven h) ps rows, (run-adds (pathsOf (p .filters)), c));

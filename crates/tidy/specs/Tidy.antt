@@ -50,8 +50,8 @@ abbrev pub runOf : List (List ℕ) → Run
 runOf ss = record { bytes = flat (λ s. s) ss; lengths = map length ss }
 
 -- 01, grammar, Subscribe: "QoS bits 0-1, no-local 2, preserve-retain 3, forward rule 4-5"
-abbrev pub optionsOf : Filter (List ℕ) → ℕ
-optionsOf f = f .qos + 4 * f .noLocal + 8 * f .preserve + 16 * f .rule
+abbrev pub optionsByte : Filter (List ℕ) → ℕ
+optionsByte f = f .qos + 4 * f .noLocal + 8 * f .preserve + 16 * f .rule
 
 -- ---- packets; b says whether a set of properties is present, s is the set
 
@@ -87,7 +87,7 @@ subscribeFrom p b s = record {
   subscription = numIn (s .ident);
   user = runOf (stringsIn (s .user));
   filters = runOf (map (λ f. f .path) (p .filters));
-  options = map optionsOf (p .filters);
+  options = map optionsByte (p .filters);
 }
 
 -- a set with nothing in it

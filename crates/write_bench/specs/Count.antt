@@ -21,8 +21,8 @@ abbrev pub qosFor : ℕ → QoS
 qosFor pkid = cond (eqb pkid 0) QoS.AtMostOnce QoS.AtLeastOnce
 
 -- a Publish with user properties alone
-abbrev pub headOf : ℕ → PublishHead
-headOf i = record {
+abbrev pub benchHead : ℕ → PublishHead
+benchHead i = record {
   dup = false;
   qos = qosFor i;
   retain = false;
@@ -38,5 +38,5 @@ headOf i = record {
 
 -- the number r that is given, and the output before and after
 pub record Counted (pkid : ℕ) (p : Parts) (before after : List ℕ) (r : ℕ) : Type 0 where
-  pub number : r ≡ orZero (answerOfUnion none (length before) (unionOf (PacketHead.Publish (headOf pkid)) p))
-  pub output : after ≡ outOfUnion none before (unionOf (PacketHead.Publish (headOf pkid)) p)
+  pub number : r ≡ orZero (answerOfUnion none (length before) (unionOf (PacketHead.Publish (benchHead pkid)) p))
+  pub output : after ≡ outOfUnion none before (unionOf (PacketHead.Publish (benchHead pkid)) p)

@@ -11,7 +11,7 @@ use records::span::MaybeU32;
 ghost use mathlib.Core.Path.{_≡_};
 ghost use mathlib.Core.List.{[]};
 ghost use Rattle.packet_parts.specs.Parts.{parts};
-ghost use Rattle.write_bench.specs.Count.{qosFor, headOf, Counted};
+ghost use Rattle.write_bench.specs.Count.{qosFor, benchHead, Counted};
 
 fn qos(pkid: u16) -> QoS
     ensures { λ r. ⌜ r ≡ qosFor pkid ⌝ }
@@ -24,7 +24,7 @@ fn qos(pkid: u16) -> QoS
 
 // A Publish with user properties alone, of QoS 0 where its identifier is 0, else of QoS 1.
 fn head(pkid: u16) -> PublishHead
-    ensures { λ r. ⌜ r ≡ headOf pkid ⌝ }
+    ensures { λ r. ⌜ r ≡ benchHead pkid ⌝ }
 {
     PublishHead {
         dup: false,
