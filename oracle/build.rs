@@ -9,7 +9,7 @@ fn main() {
         Err(_) => Path::new(&env::var("CARGO_MANIFEST_DIR").unwrap()).join("../target/staticlib"),
     };
     println!("cargo:rustc-link-search=native={}", dir.display());
-    for lib in ["leaf_bench", "read_bench", "write_bench", "ecchjulmina"] {
+    for lib in ["speed_leaves", "speed_reading", "speed_writing", "ecchjulmina"] {
         println!("cargo:rerun-if-changed={}", dir.join(format!("lib{lib}.a")).display());
     }
 }

@@ -147,7 +147,7 @@ fn by_chunks(s: &[u8]) -> bool
 }
 
 // The same of a few bytes, which are mostly ASCII.
-fn is_short(s: &[u8]) -> bool
+fn is_short_utf8(s: &[u8]) -> bool
     ensures { λ r. ⌜ r ≡ isText (now (s .entry)) ⌝ }
 {
     if is_ascii(s, 0, s.len()) {
@@ -161,7 +161,7 @@ pub fn is_utf8(s: &[u8]) -> bool
     ensures { λ r. ⌜ r ≡ isText (now (s .entry)) ⌝ }
 {
     if s.len() < 8 {
-        return is_short(s);
+        return is_short_utf8(s);
     }
     by_chunks(s)
 }

@@ -6,23 +6,23 @@ use std::hint::black_box;
 
 /// The static library: a slice is lent as its pointer and its length.
 mod port {
-    #[link(name = "leaf_bench", kind = "static")]
+    #[link(name = "speed_leaves", kind = "static")]
     extern "C" {
-        fn leaf_bench_is_utf8(s: *const u8, len: usize) -> bool;
-        fn leaf_bench_length(s: *const u8, len: usize, at: usize, value: *mut u32) -> usize;
-        fn leaf_bench_sum(s: *const u8, len: usize) -> u64;
+        fn speed_leaves_is_utf8(s: *const u8, len: usize) -> bool;
+        fn speed_leaves_length(s: *const u8, len: usize, at: usize, value: *mut u32) -> usize;
+        fn speed_leaves_sum(s: *const u8, len: usize) -> u64;
     }
     #[inline(always)]
     pub fn is_utf8(s: &[u8]) -> bool {
-        unsafe { leaf_bench_is_utf8(s.as_ptr(), s.len()) }
+        unsafe { speed_leaves_is_utf8(s.as_ptr(), s.len()) }
     }
     #[inline(always)]
     pub fn length(s: &[u8], at: usize, value: &mut u32) -> usize {
-        unsafe { leaf_bench_length(s.as_ptr(), s.len(), at, value) }
+        unsafe { speed_leaves_length(s.as_ptr(), s.len(), at, value) }
     }
     #[inline(always)]
     pub fn sum(s: &[u8]) -> u64 {
-        unsafe { leaf_bench_sum(s.as_ptr(), s.len()) }
+        unsafe { speed_leaves_sum(s.as_ptr(), s.len()) }
     }
 }
 

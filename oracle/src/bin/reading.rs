@@ -1,21 +1,21 @@
 //! 02's P13: a stream of 100,000 Publish frames with 40-byte payloads and two user properties, read frame after frame by the port, the
 //! trimmed text of the crate (crate) and the hand-written reader, with std's text validator behind a test for ASCII (hand) and byte by byte
-//! (plain). Then the worst cases at n and 2n. Built without the feature `read_bench`, the port is left out.
+//! (plain). Then the worst cases at n and 2n. Built without the feature `speed_reading`, the port is left out.
 use bytes::BytesMut;
 use oracle::codec::Packet;
 use oracle::timing::{load, median, now, rounds};
 use oracle::{limit, streams, QoS};
 use std::hint::black_box;
 
-#[cfg(feature = "read_bench")]
+#[cfg(feature = "speed_reading")]
 mod port {
-    #[link(name = "read_bench", kind = "static")]
+    #[link(name = "speed_reading", kind = "static")]
     extern "C" {
-        fn read_bench_sum(stream: *const u8, len: usize) -> u64;
+        fn speed_reading_sum(stream: *const u8, len: usize) -> u64;
     }
     /// Of the frames up to the first refusal: the bytes taken, and the lengths of topic and payload of each Publish.
     pub fn read(stream: &[u8]) -> u64 {
-        unsafe { read_bench_sum(stream.as_ptr(), stream.len()) }
+        unsafe { speed_reading_sum(stream.as_ptr(), stream.len()) }
     }
 }
 
@@ -59,7 +59,7 @@ type Reader = (&'static str, fn(&[u8], &mut BytesMut) -> u64);
 
 fn readers() -> Vec<Reader> {
     vec![
-        #[cfg(feature = "read_bench")]
+        #[cfg(feature = "speed_reading")]
         ("port", |s, _| port::read(s)),
         ("hand", |s, _| hand::<true>(s)),
         ("plain", |s, _| hand::<false>(s)),
@@ -121,8 +121,8 @@ fn worst(what: &str, n: usize, make: fn(usize) -> Vec<u8>, apart: bool) {
 
 fn main() {
     println!("load {}; medians of {} rounds", load(), rounds().min(101));
-    if cfg!(not(feature = "read_bench")) {
-        println!("the port is not linked: its crate read_bench is not there");
+    if cfg!(not(feature = "speed_reading")) {
+        println!("the port is not linked: its crate speed_reading is not there");
     }
     let count = 100_000;
     stream("QoS 0", count, &streams::publishes(count, QoS::AtMostOnce));

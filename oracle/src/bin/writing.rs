@@ -1,19 +1,19 @@
 //! 02's P13, the other way round: 100,000 Publish records with 40-byte payloads and two user properties, written by the port (port) and by
 //! the trimmed text of the crate (crate), one call a record: one behind the other, then into a short output that is used again, then the
-//! first 1,000 a hundred times. Built without the feature `write_bench`, the port is left out.
+//! first 1,000 a hundred times. Built without the feature `speed_writing`, the port is left out.
 use bytes::BytesMut;
 use oracle::codec::Packet;
 use oracle::timing::{load, median, now, rounds};
 use oracle::{streams, QoS};
 use std::hint::black_box;
 
-#[cfg(feature = "write_bench")]
+#[cfg(feature = "speed_writing")]
 mod port {
     use super::Lent;
-    #[link(name = "write_bench", kind = "static")]
+    #[link(name = "speed_writing", kind = "static")]
     extern "C" {
         #[rustfmt::skip]
-        fn write_bench_publish(
+        fn speed_writing_publish(
             pkid: u16, topic: *const u8, topic_len: usize, user: *const u8, user_len: usize, lengths: *const usize, lengths_len: usize,
             payload: *const u8, payload_len: usize, out: *mut u8, out_len: usize,
         ) -> usize;
@@ -23,7 +23,7 @@ mod port {
     #[rustfmt::skip]
     pub fn write(m: &Lent, out: &mut [u8]) -> usize {
         unsafe {
-            write_bench_publish(
+            speed_writing_publish(
                 m.pkid, m.topic.as_ptr(), m.topic.len(), m.user.as_ptr(), m.user.len(), m.lengths.as_ptr(), m.lengths.len(),
                 m.payload.as_ptr(), m.payload.len(), out.as_mut_ptr(), out.len(),
             )
@@ -99,7 +99,7 @@ fn text(d: &mut Desk, again: bool) -> u64 {
     sum
 }
 
-#[cfg(feature = "write_bench")]
+#[cfg(feature = "speed_writing")]
 #[inline(never)]
 fn ported(d: &mut Desk, again: bool) -> u64 {
     let (mut at, mut sum) = (0, 0u64);
@@ -116,7 +116,7 @@ type Writer = (&'static str, fn(&mut Desk, bool) -> u64);
 
 fn writers() -> Vec<Writer> {
     vec![
-        #[cfg(feature = "write_bench")]
+        #[cfg(feature = "speed_writing")]
         ("port", ported),
         ("crate", text),
     ]
@@ -151,15 +151,15 @@ fn records(count: usize, times: usize, again: bool, qos: QoS) {
     for ((name, _), t) in writers().iter().zip(&ns) {
         println!("  {name:6} {:8.2} ns a record, {:6.2} of port", t / (count * times) as f64, t / ns[0]);
     }
-    if cfg!(feature = "write_bench") && !again {
+    if cfg!(feature = "speed_writing") && !again {
         assert!(d.out == frames[..].repeat(times), "the port's bytes are not the crate's");
     }
 }
 
 fn main() {
     println!("load {}; medians of {} rounds", load(), rounds().min(101));
-    if cfg!(not(feature = "write_bench")) {
-        println!("the port is not linked: its crate write_bench is not there");
+    if cfg!(not(feature = "speed_writing")) {
+        println!("the port is not linked: its crate speed_writing is not there");
     }
     for qos in [QoS::AtMostOnce, QoS::AtLeastOnce] {
         records(100_000, 1, false, qos);
