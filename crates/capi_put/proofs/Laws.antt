@@ -7,10 +7,9 @@ use lib.ListN.{length}
 use lib.Seq.{sets}
 use Rattle.reading.specs.Reader.{Fit}
 use Rattle.writing.specs.Handed.{Handed}
-use Rattle.writing.specs.Write.{Written, answerOf, outOf}
+use Rattle.writing.specs.Write.{Written, answerOf, outOf, answeredBehind, outBehind, WrittenBehind}
 use Rattle.layout.specs.Value.{fitNumber}
 use Rattle.layout_answer.specs.Answer.{answerNumbers}
-use Rattle.given.specs.Written.{answeredBehind, outBehind, WrittenBehind}
 
 -- what is returned, and the array before and after
 abbrev Stored : ℕ → List ℕ → List ℕ → Fit ℕ → Type 0

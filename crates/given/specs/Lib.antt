@@ -1,4 +1,3 @@
 pub mod Given
 pub mod Head
-pub mod Written
 pub mod Kind

@@ -6,7 +6,7 @@ use records::answer::Written;
 ghost use mathlib.Core.Path.{_≡_};
 ghost use Rattle.records.specs.Answered.{toldWritten};
 ghost use Rattle.given.specs.Head.{publishHanded, ackHanded};
-ghost use Rattle.given.specs.Written.{sizedBehind};
+ghost use Rattle.writing.specs.Write.{sizedBehind};
 
 pub fn size_publish(
     head: GotPublishHead,

@@ -7,7 +7,7 @@ ghost use mathlib.Core.Path.{_≡_};
 ghost use Rattle.records.specs.Told.{limitOf};
 ghost use Rattle.records.specs.Answered.{toldWritten};
 ghost use Rattle.given.specs.Head.{publishHanded, ackHanded};
-ghost use Rattle.given.specs.Written.{WrittenBehind};
+ghost use Rattle.writing.specs.Write.{WrittenBehind};
 
 pub fn write_publish(
     head: GotPublishHead,

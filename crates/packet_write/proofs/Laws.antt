@@ -8,10 +8,10 @@ use Rattle.grammar.specs.Choice.{isEmpty}
 use Rattle.reading.specs.Refusal.{nr}
 use Rattle.reading.specs.Reader.{Fit, got, bad}
 use Rattle.writing.specs.Lists.{all}
-use Rattle.writing.specs.Write.{sizeOf, outOf, Written}
+use Rattle.writing.specs.Write.{sizeOf, outOf, Written, sizedBehind, answeredBehind, outBehind, WrittenBehind}
 use Rattle.packet_parts.specs.Parts.{Parts, foreign}
 use Rattle.packet_parts.specs.declared.head.PacketHead.{PacketHead}
-use Rattle.packet_write.specs.Union.{own, unionOf, sizeOfUnion, answerOfUnion, outOfUnion, WrittenOfUnion}
+use Rattle.packet_write.specs.Union.{own, unionOf}
 
 module _ (m : PacketHead) (p : Parts) where
   module _ (e : all isEmpty (foreign m p) ≡ true) where
@@ -19,12 +19,12 @@ module _ (m : PacketHead) (p : Parts) where
     unfolding unionOf
     alone = rw e
 
-    pub sized-alone : {told : Fit ℕ} → told ≡ sizeOf (own m p) → told ≡ sizeOfUnion (unionOf m p)
-    unfolding sizeOfUnion
+    pub sized-alone : {told : Fit ℕ} → told ≡ sizeOf (own m p) → told ≡ sizedBehind (unionOf m p)
+    unfolding sizedBehind
     sized-alone s = s ∙ sym (rw alone)
 
-    pub written-alone : (limit : Option ℕ) (before after : List ℕ) (told : Fit ℕ) → Written limit (own m p) before after told → WrittenOfUnion limit (unionOf m p) before after told
-    unfolding answerOfUnion outOfUnion outOf
+    pub written-alone : (limit : Option ℕ) (before after : List ℕ) (told : Fit ℕ) → Written limit (own m p) before after told → WrittenBehind limit (unionOf m p) before after told
+    unfolding answeredBehind outBehind outOf
     written-alone limit before after told w = rw alone (record { answer = w .answer; output = w .output })
 
   module _ (e : all isEmpty (foreign m p) ≡ false) where
@@ -32,10 +32,10 @@ module _ (m : PacketHead) (p : Parts) where
     unfolding unionOf
     mixed = rw e
 
-    pub sized-mixed : bad (nr 20 []) ≡ sizeOfUnion (unionOf m p)
-    unfolding sizeOfUnion
+    pub sized-mixed : bad (nr 20 []) ≡ sizedBehind (unionOf m p)
+    unfolding sizedBehind
     sized-mixed = sym (rw mixed)
 
-    pub written-mixed : (limit : Option ℕ) (out : List ℕ) → WrittenOfUnion limit (unionOf m p) out out (bad (nr 20 []))
-    unfolding answerOfUnion outOfUnion
+    pub written-mixed : (limit : Option ℕ) (out : List ℕ) → WrittenBehind limit (unionOf m p) out out (bad (nr 20 []))
+    unfolding answeredBehind outBehind
     written-mixed limit out = rw mixed (record { answer = refl; output = refl })

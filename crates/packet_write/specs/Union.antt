@@ -1,15 +1,10 @@
 -- A packet handed over in the lent parts of every kind: what belongs to its kind, if nothing else is handed over. Assumes nothing.
-use mathlib.Core.Path.{_≡_}
-use mathlib.Core.Option.{Option}
-use mathlib.Core.List.{List, []}
-use Prim.Native.Nat.{ℕ}
-use lib.ListN.{length}
+use mathlib.Core.List.{[]}
 use Rattle.grammar.specs.Choice.{isEmpty}
 use Rattle.reading.specs.Refusal.{nr}
-use Rattle.reading.specs.Reader.{Fit, got, _>>=_, _>>_, guard}
+use Rattle.reading.specs.Reader.{Fit, got, _>>_, guard}
 use Rattle.writing.specs.Lists.{all}
 use Rattle.writing.specs.Handed.{Handed, publish, ack, subscribe, ping}
-use Rattle.writing.specs.Write.{sizeOf, writeOf, answerOf, leaves}
 use Rattle.puback_write.specs.Handed as puback
 use Rattle.subscribe_write.specs.Handed as subscribe-of
 use Rattle.publish_plan.specs.Handed as publish-of
@@ -31,22 +26,3 @@ unfoldable pub unionOf : PacketHead → Parts → Fit Handed
 unionOf m p = do
   guard (all isEmpty (foreign m p)) (nr 20 [])
   got (own m p)
-
--- ---- the answers
-
--- 01: "Asked alone, size refuses only with 20, then 17 for R"
-unfoldable pub sizeOfUnion : Fit Handed → Fit ℕ
-sizeOfUnion f = f >>= sizeOf
-
--- 01, writing order: what a write gives, into an output of `room` bytes
-unfoldable pub answerOfUnion : Option ℕ → ℕ → Fit Handed → Fit ℕ
-answerOfUnion limit room f = f >>= answerOf limit room
-
--- 01: "A refused write leaves the output as it stood": the output afterwards
-unfoldable pub outOfUnion : Option ℕ → List ℕ → Fit Handed → List ℕ
-outOfUnion limit out f = leaves out (f >>= writeOf limit (length out))
-
--- what the contract of the writer says: what its answer tells, and the output before and after
-pub record WrittenOfUnion (limit : Option ℕ) (f : Fit Handed) (before after : List ℕ) (told : Fit ℕ) : Type 0 where
-  pub answer : told ≡ answerOfUnion limit (length before) f
-  pub output : after ≡ outOfUnion limit before f

@@ -9,7 +9,8 @@ ghost use mathlib.Core.Path.{_≡_};
 ghost use Rattle.records.specs.Told.{limitOf};
 ghost use Rattle.records.specs.Answered.{toldSized, toldWritten};
 ghost use Rattle.packet_parts.specs.Parts.{parts};
-ghost use Rattle.packet_write.specs.Union.{unionOf, sizeOfUnion, WrittenOfUnion};
+ghost use Rattle.writing.specs.Write.{sizedBehind, WrittenBehind};
+ghost use Rattle.packet_write.specs.Union.{unionOf};
 
 // How many bytes the frame is: refused with 20, for what does not belong to the record too, then 17 for R.
 pub fn size(
@@ -27,7 +28,7 @@ pub fn size(
     filter_lengths: &[usize],
     options: &[u8],
 ) -> Sized
-    ensures { λ r. ⌜ toldSized r ≡ sizeOfUnion (unionOf head (parts (now (topic .entry)) (now («response_topic» .entry)) (now («correlation_data» .entry)) (now (user .entry)) (now («user_lengths» .entry)) (now («subscription_identifiers» .entry)) (now («content_type» .entry)) (now (payload .entry)) (now («reason_string» .entry)) (now (filters .entry)) (now («filter_lengths» .entry)) (now (options .entry)))) ⌝ }
+    ensures { λ r. ⌜ toldSized r ≡ sizedBehind (unionOf head (parts (now (topic .entry)) (now («response_topic» .entry)) (now («correlation_data» .entry)) (now (user .entry)) (now («user_lengths» .entry)) (now («subscription_identifiers» .entry)) (now («content_type» .entry)) (now (payload .entry)) (now («reason_string» .entry)) (now (filters .entry)) (now («filter_lengths» .entry)) (now (options .entry)))) ⌝ }
 {
     let alone = nothing_else(
         head,
@@ -91,7 +92,7 @@ pub fn write(
     limit: Limit,
     out: &mut [u8],
 ) -> Written
-    ensures { λ r. ⌜ WrittenOfUnion (limitOf limit) (unionOf head (parts (now (topic .entry)) (now («response_topic» .entry)) (now («correlation_data» .entry)) (now (user .entry)) (now («user_lengths» .entry)) (now («subscription_identifiers» .entry)) (now («content_type» .entry)) (now (payload .entry)) (now («reason_string» .entry)) (now (filters .entry)) (now («filter_lengths» .entry)) (now (options .entry)))) (now (out .entry)) (now (out .exit)) (toldWritten r) ⌝ }
+    ensures { λ r. ⌜ WrittenBehind (limitOf limit) (unionOf head (parts (now (topic .entry)) (now («response_topic» .entry)) (now («correlation_data» .entry)) (now (user .entry)) (now («user_lengths» .entry)) (now («subscription_identifiers» .entry)) (now («content_type» .entry)) (now (payload .entry)) (now («reason_string» .entry)) (now (filters .entry)) (now («filter_lengths» .entry)) (now (options .entry)))) (now (out .entry)) (now (out .exit)) (toldWritten r) ⌝ }
 {
     let alone = nothing_else(
         head,

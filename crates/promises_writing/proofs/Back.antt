@@ -20,7 +20,7 @@ use Rattle.reading.proofs.Reading.{got-inj}
 use Rattle.reading.proofs.Items.{say-items}
 use Rattle.writing.specs.Lists.{all}
 use Rattle.writing.specs.Handed.{Handed, PublishHanded, SubscribeHanded, AckHanded, publish, ack, subscribe, strings, duos, filters}
-use Rattle.writing.specs.Write.{frameBytes}
+use Rattle.writing.specs.Write.{frameBytes, WrittenBehind}
 use Rattle.writing.specs.Meant.{meant, said, publishSet, subscribeSet, ackSet, thePublish, theAck, theSubscribe, nonePublish, noneSubscribe, noneAck, Typed, Plain}
 use Rattle.writing.proofs.Demand.{said-meant}
 use Rattle.records.specs.Told.{toldBool, toldQoS, toldReason, limitOf}
@@ -49,7 +49,7 @@ use Rattle.promises.proofs.Reading as promises
 use Rattle.promises.proofs.Parts.{publish-parts, puback-parts}
 use Rattle.promises.proofs.Items.{publish-items, puback-items, subscribe-items, filter-items}
 use Rattle.packet_parts.specs.Parts.{Parts, foreign}
-use Rattle.packet_write.specs.Union.{own, unionOf, WrittenOfUnion}
+use Rattle.packet_write.specs.Union.{own, unionOf}
 use Rattle.packet_parts.specs.declared.head.PacketHead.{PacketHead}
 use Rattle.promises_writing.specs.Writing.{Meets, Widths, LentOctets}
 use Rattle.promises_writing.proofs.Writing as writing
@@ -237,7 +237,7 @@ subscribe-no-set h e = rw e
 
 -- ---- all of it, of `packet_write::write`
 
-pub packet-reads-back : (limit : Limit) (m : PacketHead) (p : Parts) (before after : List ℕ) (w : Written) → WrittenOfUnion (limitOf limit) (unionOf m p) before after (toldWritten w) → Widths m → LentOctets p
+pub packet-reads-back : (limit : Limit) (m : PacketHead) (p : Parts) (before after : List ℕ) (w : Written) → WrittenBehind (limitOf limit) (unionOf m p) before after (toldWritten w) → Widths m → LentOctets p
     → (n : ℕ) → w ≡ Written.Size n → Plain (own m p) → (r : Read) → reading.Meets Limit.Unlimited after r → Reads after r (meant (own m p)) n
 packet-reads-back limit m p before after w c b l n i q r j =
     let d = writing.of-packet limit m p before after w c in

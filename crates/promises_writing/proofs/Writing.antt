@@ -18,7 +18,7 @@ use Rattle.writing.specs.Lists.{all}
 use Rattle.writing.specs.Handed.{Handed}
 use Rattle.writing.specs.Order.{Field}
 use Rattle.writing.specs.Size.{sizeIs}
-use Rattle.writing.specs.Write.{frameBytes, sizeOf, writeOf, outOf}
+use Rattle.writing.specs.Write.{frameBytes, sizeOf, writeOf, outOf, sizedBehind, answeredBehind, outBehind, WrittenBehind}
 use Rattle.writing.specs.Write as writing
 use Rattle.writing.specs.Refuse.{Faulty, long-raw, long-word, long-filter, bad-word, bad-filter, bad-rule, bad-qos, FirstFault, Refuses, Unsized, mismatch, field, too-long, too-large, no-name, number, none-asked, no-room, Accepts}
 use Rattle.writing.specs.Refuse as refuse
@@ -33,7 +33,7 @@ use Rattle.records.specs.declared.answer.Sized.{Sized}
 use Rattle.records.specs.declared.answer.Written.{Written}
 use Rattle.records.specs.declared.error.Error.{Error}
 use Rattle.packet_parts.specs.Parts.{Parts, foreign}
-use Rattle.packet_write.specs.Union.{own, unionOf, sizeOfUnion, answerOfUnion, outOfUnion, WrittenOfUnion}
+use Rattle.packet_write.specs.Union.{own, unionOf}
 use Rattle.packet_parts.specs.declared.head.PacketHead.{PacketHead}
 use Rattle.promises_writing.specs.Writing.{Meets, Counts, Refusing, writerRows}
 use Rattle.promises_writing.specs.Writing as refusing
@@ -42,13 +42,13 @@ use Rattle.promises_writing.specs.Writing as refusing
 
 -- of `packet_write::write`
 pub of-packet : (limit : Limit) (m : PacketHead) (p : Parts) (before after : List ℕ) (w : Written)
-    → WrittenOfUnion (limitOf limit) (unionOf m p) before after (toldWritten w) → Meets limit (all isEmpty (foreign m p)) (own m p) before after w
+    → WrittenBehind (limitOf limit) (unionOf m p) before after (toldWritten w) → Meets limit (all isEmpty (foreign m p)) (own m p) before after w
 unfolding unionOf
 of-packet limit m p before after w c = c
 
 -- of a kind's own `write`
 pub of-kind : (limit : Limit) (h : Handed) (before after : List ℕ) (w : Written) → writing.Written (limitOf limit) h before after (toldWritten w) → Meets limit true h before after w
-unfolding answerOfUnion outOfUnion outOf
+unfolding answeredBehind outBehind outOf
 of-kind limit h before after w c = record { answer = c .answer; output = c .output }
 
 -- ---- every refusal is one of a writer's
@@ -96,7 +96,7 @@ is-foreign {P} {k} e = let i : nr 20 [] ≡ k = cc in subst (Refusing P false) i
 module _ (limit : Limit) (h : Handed) (before after : List ℕ) (w : Written) where
   -- each refusal is given exactly when its row says, in 01's writing order
   pub refused : (alone : Bool) → Meets limit alone h before after w → (e : Error) → (w ≡ Written.Refused e) ↔ Refusing (Refuses (limitOf limit) (length before) h) alone (toldError e)
-  unfolding answerOfUnion
+  unfolding answeredBehind
   refused true m e =
       let u = unanswered-when (limitOf limit) (length before) h (toldError e) in
       (λ i. refusing.own (u .0 (sym (m .answer) ∙ ap toldWritten i)), λ r. written-injective (m .answer ∙ u .1 (as-own r)))
@@ -104,7 +104,7 @@ module _ (limit : Limit) (h : Handed) (before after : List ℕ) (w : Written) wh
 
   -- and the size exactly when no row applies
   pub accepted : (alone : Bool) → Meets limit alone h before after w → (n : ℕ) → (w ≡ Written.Size n) ↔ ((alone ≡ true) × Accepts (limitOf limit) (length before) h × (sizeIs h ≡ n))
-  unfolding answerOfUnion
+  unfolding answeredBehind
   accepted true m n =
       let u = answered-when (limitOf limit) (length before) h n in
       (λ i. let (a, l) = u .0 (sym (m .answer) ∙ ap toldWritten i) in (refl, a, l), λ (t, a, l). written-injective (m .answer ∙ u .1 (a, l)))
@@ -117,14 +117,14 @@ module _ (limit : Limit) (h : Handed) (before after : List ℕ) (w : Written) wh
 
   -- demand 1: "A refused write leaves the output as it stood"
   pub refused-keeps : (alone : Bool) → Meets limit alone h before after w → (e : Error) → w ≡ Written.Refused e → after ≡ before
-  unfolding outOfUnion outOf
+  unfolding outBehind outOf
   refused-keeps true m e i =
       m .output ∙ out-refused (limitOf limit) before h (toldError e) (refused-when (limitOf limit) (length before) h (toldError e) .1 (as-own (refused true m e .0 i)))
   refused-keeps false m e i = m .output
 
   -- no byte is added or lost
   pub same-length : (alone : Bool) → Meets limit alone h before after w → length after ≡ length before
-  unfolding outOfUnion outOf
+  unfolding outBehind outOf
   same-length true m = ap length (m .output) ∙ out-length (limitOf limit) before h
   same-length false m = ap length (m .output)
 
@@ -145,13 +145,13 @@ module _ (limit : Limit) (alone : Bool) (h : Handed) (before after : List ℕ) (
 
   -- demand 2: "sets the first size bytes, gives that size, and keeps the rest"
   pub frame-out : after ≡ frameBytes h ++ drop n before
-  unfolding outOfUnion outOf
+  unfolding outBehind outOf
   frame-out =
       m .output ∙ rw (is-alone) (out-written (limitOf limit) before h (frameBytes h) frame-written ∙ rw frame-size)
 
   -- the size, asked alone, is the same
   pub same-size : (z : Sized) → Counts alone h z → z ≡ Sized.Size n
-  unfolding sizeOfUnion
+  unfolding sizedBehind
   same-size z e =
       let (t, a, l) = accepted limit h before after w alone m n .0 i in
       sized-injective (rw t at e ∙ sized-when h n .1 ((a .countable .belongs, a .countable .rest), l))
@@ -166,19 +166,19 @@ module _ (limit : Limit) (alone : Bool) (h : Handed) (before after : List ℕ) (
 -- ---- the size, asked alone
 
 -- of `packet_write::size`
-pub counts-packet : (m : PacketHead) (p : Parts) (z : Sized) → toldSized z ≡ sizeOfUnion (unionOf m p) → Counts (all isEmpty (foreign m p)) (own m p) z
+pub counts-packet : (m : PacketHead) (p : Parts) (z : Sized) → toldSized z ≡ sizedBehind (unionOf m p) → Counts (all isEmpty (foreign m p)) (own m p) z
 unfolding unionOf
 counts-packet m p z c = c
 
 -- of a kind's own `size`
 pub counts-kind : (h : Handed) (z : Sized) → toldSized z ≡ sizeOf h → Counts true h z
-unfolding sizeOfUnion
+unfolding sizedBehind
 counts-kind h z c = c
 
 module _ (h : Handed) (z : Sized) where
   -- 01: "Asked alone, size refuses only with 20, then 17 for R"
   pub uncounted : (alone : Bool) → Counts alone h z → (e : Error) → (z ≡ Sized.Refused e) ↔ Refusing (Unsized h) alone (toldError e)
-  unfolding sizeOfUnion
+  unfolding sizedBehind
   uncounted true c e =
       let u = unsized-when h (toldError e) in
       (λ i. refusing.own (u .0 (sym c ∙ ap toldSized i)), λ r. sized-injective (c ∙ u .1 (as-own r)))
@@ -187,7 +187,7 @@ module _ (h : Handed) (z : Sized) where
   -- 01: "size leaves out a Publish identifier that is 0, and counts four bytes for a subscription identifier too large to write": the size is
   -- given, and is this number, exactly when nothing else is lent, what is handed over belongs together and R can be written
   pub counted : (alone : Bool) → Counts alone h z → (n : ℕ) → (z ≡ Sized.Size n) ↔ ((alone ≡ true) × refuse.Sized h × (sizeIs h ≡ n))
-  unfolding sizeOfUnion
+  unfolding sizedBehind
   counted true c n =
       let u = sized-when h n in
       (λ i. let (a, l) = u .0 (sym c ∙ ap toldSized i) in (refl, a, l), λ (t, a, l). sized-injective (c ∙ u .1 (a, l)))

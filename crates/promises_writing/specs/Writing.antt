@@ -16,18 +16,18 @@ use Rattle.records.specs.declared.answer.Written.{Written}
 use Rattle.rows.specs.Given.{numberU8, numberU16, numberU32}
 use Rattle.publish_plan.specs.declared.head.PublishHead.{PublishHead}
 use Rattle.packet_parts.specs.Parts.{Parts}
-use Rattle.packet_write.specs.Union.{sizeOfUnion, WrittenOfUnion}
+use Rattle.writing.specs.Write.{sizedBehind, WrittenBehind}
 use Rattle.packet_parts.specs.declared.head.PacketHead.{PacketHead}
 
 -- ---- the contract
 
 -- of the answer w and the output before and after, where h is handed over; `alone` says whether nothing is lent that does not belong to it
 abbrev pub Meets : Limit → Bool → Handed → List ℕ → List ℕ → Written → Type 0
-Meets limit alone h before after w = WrittenOfUnion (limitOf limit) (guard alone (nr 20 []) >> got h) before after (toldWritten w)
+Meets limit alone h before after w = WrittenBehind (limitOf limit) (guard alone (nr 20 []) >> got h) before after (toldWritten w)
 
 -- the same of the answer z of a `size`
 abbrev pub Counts : Bool → Handed → Sized → Type 0
-Counts alone h z = toldSized z ≡ sizeOfUnion (guard alone (nr 20 []) >> got h)
+Counts alone h z = toldSized z ≡ sizedBehind (guard alone (nr 20 []) >> got h)
 
 -- 01, writing order: 20 for what does not belong to the record, else what P says
 pub data Refusing (P : Refusal → Type 0) : Bool → Refusal → Type 0 where

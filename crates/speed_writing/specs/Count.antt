@@ -13,7 +13,8 @@ use Rattle.records.specs.declared.span.MaybeU16.{MaybeU16}
 use Rattle.records.specs.declared.span.MaybeU32.{MaybeU32}
 use Rattle.publish_plan.specs.declared.head.PublishHead.{PublishHead}
 use Rattle.packet_parts.specs.Parts.{Parts}
-use Rattle.packet_write.specs.Union.{unionOf, answerOfUnion, outOfUnion}
+use Rattle.writing.specs.Write.{answeredBehind, outBehind}
+use Rattle.packet_write.specs.Union.{unionOf}
 use Rattle.packet_parts.specs.declared.head.PacketHead.{PacketHead}
 
 -- QoS 0 for the identifier 0, else QoS 1
@@ -38,5 +39,5 @@ benchHead i = record {
 
 -- the number r that is given, and the output before and after
 pub record Counted (pkid : ℕ) (p : Parts) (before after : List ℕ) (r : ℕ) : Type 0 where
-  pub number : r ≡ orZero (answerOfUnion none (length before) (unionOf (PacketHead.Publish (benchHead pkid)) p))
-  pub output : after ≡ outOfUnion none before (unionOf (PacketHead.Publish (benchHead pkid)) p)
+  pub number : r ≡ orZero (answeredBehind (unionOf (PacketHead.Publish (benchHead pkid)) p) none before)
+  pub output : after ≡ outBehind (unionOf (PacketHead.Publish (benchHead pkid)) p) none before

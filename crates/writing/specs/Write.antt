@@ -9,7 +9,7 @@ use lib.ListN.{length, drop}
 use Rattle.grammar.specs.Choice.{lookup}
 use Rattle.grammar.specs.Tables.{publishPlace, subscribePlace, ackPlace}
 use Rattle.reading.specs.Refusal.{nr}
-use Rattle.reading.specs.Reader.{Fit, got, bad, _>>_, guard}
+use Rattle.reading.specs.Reader.{Fit, got, bad, _>>_, _>>=_, guard}
 use Rattle.writing.specs.Lists.{flat}
 use Rattle.writing.specs.Handed.{Handed, publish, ack, subscribe, ping, publishGiven, subscribeGiven, ackGiven, filters, belongs}
 use Rattle.writing.specs.Spell.{wide, string, counted, block, filterBytes}
@@ -89,3 +89,22 @@ outOf limit out h = leaves out (writeOf limit (length out) h)
 pub record Written (limit : Option ℕ) (h : Handed) (before after : List ℕ) (told : Fit ℕ) : Type 0 where
   pub answer : told ≡ answerOf limit (length before) h
   pub output : after ≡ outOf limit before h
+
+-- ---- where something may be refused before all else: parts of another kind (01, row 20), and in the header numbers that are none of the record's
+
+-- 01: "Asked alone, size refuses only with 20, then 17 for R"
+unfoldable pub sizedBehind : Fit Handed → Fit ℕ
+sizedBehind f = f >>= sizeOf
+
+-- 01, writing order: the refusal, or the answer of the write
+unfoldable pub answeredBehind : Fit Handed → Option ℕ → List ℕ → Fit ℕ
+answeredBehind f limit before = f >>= answerOf limit (length before)
+
+-- 01: "A refused write leaves the output as it stood": the output afterwards
+unfoldable pub outBehind : Fit Handed → Option ℕ → List ℕ → List ℕ
+outBehind f limit before = leaves before (f >>= writeOf limit (length before))
+
+-- what the contract of such a writer says: what its answer tells, and the output before and after
+pub record WrittenBehind (limit : Option ℕ) (f : Fit Handed) (before after : List ℕ) (told : Fit ℕ) : Type 0 where
+  pub answer : told ≡ answeredBehind f limit before
+  pub output : after ≡ outBehind f limit before

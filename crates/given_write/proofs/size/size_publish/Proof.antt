@@ -1,6 +1,7 @@
 -- `given_write::size::size_publish` is right since the head and the lists are what is handed over. Assumes nothing.
 use mathlib.Core.Path.{_∙_}
 use borrow.Author.Needs.{needs}
+use Rattle.given_write.proofs.Laws.{sized-refused, sized-got}
 use Rattle.given_write.proofs.size.size_publish.Statement.{statement}
 use Rattle.given_write.proofs.size.size_publish.Tie as tie
 
@@ -17,10 +18,10 @@ as-written-requires : tie.Need-as-written-requires
 as-written-requires c κs = search needs
 
 returns : tie.Need-returns
-returns c = rw (c .before .head .given .1)
+returns c = rw (c .before .head .given .1) sized-refused
 
 returns-2 : tie.Need-returns-2
-returns-2 c = rw (c .before .before .before .head2 .given .1) (c .as-written .ensures ∙ c .before .size .ensures)
+returns-2 c = rw (c .before .before .before .head2 .given .1) (sized-got (c .as-written .ensures ∙ c .before .size .ensures))
 
 pub size-publish-spec : {M : Type 1} → statement M
 size-publish-spec =
