@@ -24,7 +24,7 @@ abbrev pub maybe : ℕ → ℕ → Option ℕ
 maybe on n = cond (isOn on) (some n) none
 
 -- the same of bytes
-abbrev lentBy : ℕ → List ℕ → Lent
+abbrev pub lentBy : ℕ → List ℕ → Lent
 lentBy on b = record { on = isOn on; bytes = b }
 
 -- ecch_publish_size, ecch_publish_write; header: refusal 11 before all else

@@ -19,7 +19,7 @@ unfoldable pub blocks : List (ℕ × Place)
 blocks = (3, publishPlace) ∷ (4, ackPlace) ∷ (8, subscribePlace) ∷ []
 
 -- of the kind's row, if it has one
-abbrev userIn : Option Place → List ℕ → Span → ℕ → Fit (Val Span)
+abbrev pub userIn : Option Place → List ℕ → Span → ℕ → Fit (Val Span)
 userIn none s p n = bad noItem
 userIn (some place) s p n = userAt asPlaces s p place n
 
@@ -28,7 +28,7 @@ abbrev pub userOf : ℕ → List ℕ → Span → ℕ → Fit (Val Span)
 userOf kind = userIn (lookup blocks kind)
 
 -- the property at index `at` of s in a kind's row, if it has one
-abbrev propertyIn : Option Place → List ℕ → ℕ → Fit (PropOf Span × ℕ)
+abbrev pub propertyIn : Option Place → List ℕ → ℕ → Fit (PropOf Span × ℕ)
 propertyIn none s at = bad noItem
 propertyIn (some row) s at = fromAt (propertyOf asPlaces row (length s)) s at
 

@@ -41,7 +41,7 @@ writerRows = 9 ∷ 11 ∷ 12 ∷ 13 ∷ 14 ∷ 16 ∷ 17 ∷ 18 ∷ 19 ∷ 20 �
 -- ---- what the types of the arguments ensure: u8, u16 and u32 are below their bounds; nothing of a usize
 
 -- of a Publish by value
-record PublishWidths (m : PublishHead) : Type 0 where
+pub record PublishWidths (m : PublishHead) : Type 0 where
   pub pkid : m .pkid < 65536
   pub format : Below 256 (numberU8 (m .«payload_format_indicator»))
   pub expiry : Below 4294967296 (numberU32 (m .«message_expiry_interval»))
