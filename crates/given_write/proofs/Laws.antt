@@ -12,9 +12,9 @@ pub sized-refused : {k : Refusal} → bad k ≡ sizedBehind (bad k)
 unfolding sizedBehind
 sized-refused = refl
 
-pub sized-got : {h : Handed} {told : Fit ℕ} → told ≡ sizeOf h → told ≡ sizedBehind (got h)
+pub sized-got : (h : Handed) {told : Fit ℕ} → told ≡ sizeOf h → told ≡ sizedBehind (got h)
 unfolding sizedBehind
-sized-got e = e
+sized-got h e = e
 
 pub behind-refused : {limit : Option ℕ} {before : List ℕ} {k : Refusal} → WrittenBehind limit (bad k) before before (bad k)
 unfolding answeredBehind outBehind
