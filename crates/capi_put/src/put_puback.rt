@@ -1,6 +1,6 @@
 // A PubAck: its size, and written.
 use given::number::bound;
-use given::puback_by::puback_head;
+use given_heads::puback_by::puback_head;
 use given_write::size::size_puback;
 use given_write::write::write_puback;
 use layout_answer;
@@ -8,7 +8,8 @@ ghost use mathlib.Core.Path.{_≡_};
 ghost use lib.Seq.{sets};
 ghost use Rattle.layout.specs.Value.{fitNumber};
 ghost use Rattle.layout_answer.specs.Answer.{answerNumbers};
-ghost use Rattle.given.specs.Given.{limitGiven, ackBy};
+ghost use Rattle.given.specs.Given.{limitGiven};
+ghost use Rattle.given_heads.specs.By.{ackBy};
 ghost use Rattle.writing.specs.Write.{sizedBehind, answeredBehind, outBehind};
 
 #[no_mangle]

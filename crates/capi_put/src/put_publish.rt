@@ -1,6 +1,6 @@
 // A Publish: its size, and written.
 use given::number::bound;
-use given::publish_by::publish_head;
+use given_heads::publish_by::publish_head;
 use given_write::size::size_publish;
 use given_write::write::write_publish;
 use layout_answer;
@@ -8,7 +8,8 @@ ghost use mathlib.Core.Path.{_≡_};
 ghost use lib.Seq.{sets};
 ghost use Rattle.layout.specs.Value.{fitNumber};
 ghost use Rattle.layout_answer.specs.Answer.{answerNumbers};
-ghost use Rattle.given.specs.Given.{limitGiven, publishBy};
+ghost use Rattle.given.specs.Given.{limitGiven};
+ghost use Rattle.given_heads.specs.By.{publishBy};
 ghost use Rattle.writing.specs.Write.{sizedBehind, answeredBehind, outBehind};
 
 #[no_mangle]

@@ -1,6 +1,6 @@
 // A Subscribe: its size, and written.
 use given::number::bound;
-use given::subscribe_by::subscribe_head;
+use given_heads::subscribe_by::subscribe_head;
 use layout_answer;
 ghost use mathlib.Core.Path.{_≡_};
 ghost use lib.ListN.{length};
@@ -9,7 +9,8 @@ ghost use Rattle.writing.specs.Handed.{subscribe};
 ghost use Rattle.writing.specs.Write.{sizeOf, answerOf, outOf};
 ghost use Rattle.layout.specs.Value.{fitNumber};
 ghost use Rattle.layout_answer.specs.Answer.{answerNumbers};
-ghost use Rattle.given.specs.Given.{limitGiven, subscribeBy};
+ghost use Rattle.given.specs.Given.{limitGiven};
+ghost use Rattle.given_heads.specs.By.{subscribeBy};
 
 #[no_mangle]
 pub extern "C" fn ecch_subscribe_size(

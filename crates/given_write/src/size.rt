@@ -1,11 +1,11 @@
 // The size of what a head and the lists beside it hand over; the head's own refusal comes before all else.
-use given::puback_by::GotPubAckHead;
-use given::publish_by::GotPublishHead;
+use given_heads::puback_by::GotPubAckHead;
+use given_heads::publish_by::GotPublishHead;
 use layout_answer::as_written;
 use records::answer::Written;
 ghost use mathlib.Core.Path.{_≡_};
 ghost use Rattle.records.specs.Answered.{toldWritten};
-ghost use Rattle.given.specs.Head.{publishHanded, ackHanded};
+ghost use Rattle.given_heads.specs.Head.{publishHanded, ackHanded};
 ghost use Rattle.writing.specs.Write.{sizedBehind};
 
 pub fn size_publish(

@@ -1,12 +1,12 @@
 // What a head and the lists beside it hand over, written; the head's own refusal comes before all else, and touches nothing.
-use given::puback_by::GotPubAckHead;
-use given::publish_by::GotPublishHead;
+use given_heads::puback_by::GotPubAckHead;
+use given_heads::publish_by::GotPublishHead;
 use records::answer::Limit;
 use records::answer::Written;
 ghost use mathlib.Core.Path.{_≡_};
 ghost use Rattle.records.specs.Told.{limitOf};
 ghost use Rattle.records.specs.Answered.{toldWritten};
-ghost use Rattle.given.specs.Head.{publishHanded, ackHanded};
+ghost use Rattle.given_heads.specs.Head.{publishHanded, ackHanded};
 ghost use Rattle.writing.specs.Write.{WrittenBehind};
 
 pub fn write_publish(

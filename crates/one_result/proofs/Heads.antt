@@ -1,4 +1,4 @@
--- The heads of a packet to write, as `given` makes them: what one hands over with empty lists leaves no choice of it. Assumes nothing.
+-- The heads of a packet to write, as `given_heads` makes them: what one hands over with empty lists leaves no choice of it. Assumes nothing.
 use mathlib.Core.Path.{_≡_, ap}
 use mathlib.Core.List.{[]}
 use Rattle.writing.specs.Handed.{Handed, PublishHanded, SubscribeHanded, AckHanded, publish, ack, subscribe, ping}
@@ -13,9 +13,9 @@ use Rattle.puback_write.specs.declared.PubAckHead.{PubAckHead}
 use Rattle.puback_write.specs.Handed as answering
 use Rattle.subscribe_write.specs.declared.SubscribeHead.{SubscribeHead}
 use Rattle.subscribe_write.specs.Handed as subscribing
-use Rattle.given.specs.declared.publish_by.GotPublishHead.{GotPublishHead}
-use Rattle.given.specs.declared.puback_by.GotPubAckHead.{GotPubAckHead}
-use Rattle.given.specs.Head.{publishHanded, ackHanded}
+use Rattle.given_heads.specs.declared.publish_by.GotPublishHead.{GotPublishHead}
+use Rattle.given_heads.specs.declared.puback_by.GotPubAckHead.{GotPubAckHead}
+use Rattle.given_heads.specs.Head.{publishHanded, ackHanded}
 use Rattle.one_result.specs.OneResult.{OneResult}
 use Rattle.one_result.proofs.Laws.{one-by}
 use Rattle.one_result.proofs.Writers.{backNumber, back-u8, back-u16, back-u32}

@@ -1,14 +1,14 @@
 // A PubAck that C hands over: its numbers and presence.
-use crate::number::is_on;
 use codes::reason as reason_of;
+use given::number::is_on;
 use puback_write::PubAckHead;
 use records::error::Error;
 use records::puback_record::GotReason;
 ghost use mathlib.Core.Path.{_≡_};
 ghost use mathlib.Core.List.{List};
 ghost use Prim.Native.Nat.{ℕ};
-ghost use Rattle.given.specs.Given.{ackBy};
-ghost use Rattle.given.specs.Head.{ackHanded};
+ghost use Rattle.given_heads.specs.By.{ackBy};
+ghost use Rattle.given_heads.specs.Head.{ackHanded};
 
 // Numbers and presence, or refusal 15.
 pub enum GotPubAckHead {

@@ -1,8 +1,8 @@
--- `given::publish_by::publish_head` is right since each name has what the definition has, and a number that is refused is refused before all else. Assumes nothing.
+-- `given_heads::publish_by::publish_head` is right since each name has what the definition has, and a number that is refused is refused before all else. Assumes nothing.
 use mathlib.Core.Path.{sym}
 use borrow.Author.Needs.{needs}
-use Rattle.given.proofs.publish_by.publish_head.Statement.{statement}
-use Rattle.given.proofs.publish_by.publish_head.Tie as tie
+use Rattle.given_heads.proofs.publish_by.publish_head.Statement.{statement}
+use Rattle.given_heads.proofs.publish_by.publish_head.Tie as tie
 
 qos-requires : tie.Need-qos-requires
 qos-requires c κs = search needs

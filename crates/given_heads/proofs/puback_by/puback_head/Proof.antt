@@ -1,8 +1,8 @@
--- `given::puback_by::puback_head` is right since each name has what the definition has, and a number that is refused is refused before all else. Assumes nothing.
+-- `given_heads::puback_by::puback_head` is right since each name has what the definition has, and a number that is refused is refused before all else. Assumes nothing.
 use mathlib.Core.Path.{sym}
 use borrow.Author.Needs.{needs}
-use Rattle.given.proofs.puback_by.puback_head.Statement.{statement}
-use Rattle.given.proofs.puback_by.puback_head.Tie as tie
+use Rattle.given_heads.proofs.puback_by.puback_head.Statement.{statement}
+use Rattle.given_heads.proofs.puback_by.puback_head.Tie as tie
 
 reason-requires : tie.Need-reason-requires
 reason-requires c κs = search needs

@@ -6,8 +6,8 @@ use Rattle.writing.specs.Handed.{Handed, publish, ack}
 use Rattle.records.specs.Told.{toldError}
 use Rattle.publish_plan.specs.Handed.{handed}
 use Rattle.puback_write.specs.Handed as puback
-use Rattle.given.specs.declared.publish_by.GotPublishHead.{GotPublishHead}
-use Rattle.given.specs.declared.puback_by.GotPubAckHead.{GotPubAckHead}
+use Rattle.given_heads.specs.declared.publish_by.GotPublishHead.{GotPublishHead}
+use Rattle.given_heads.specs.declared.puback_by.GotPubAckHead.{GotPubAckHead}
 
 -- of a Publish
 abbrev pub publishHanded : GotPublishHead → (topic response correlation user lengths ids content payload : List ℕ) → Fit Handed

@@ -1,7 +1,7 @@
--- `given::subscribe_by::subscribe_head` is right since each name has what the definition has. Assumes nothing.
+-- `given_heads::subscribe_by::subscribe_head` is right since each name has what the definition has. Assumes nothing.
 use borrow.Author.Needs.{needs}
-use Rattle.given.proofs.subscribe_by.subscribe_head.Statement.{statement}
-use Rattle.given.proofs.subscribe_by.subscribe_head.Tie as tie
+use Rattle.given_heads.proofs.subscribe_by.subscribe_head.Statement.{statement}
+use Rattle.given_heads.proofs.subscribe_by.subscribe_head.Tie as tie
 
 maybe-u32-requires : tie.Need-maybe-u32-requires
 maybe-u32-requires c κs = search needs

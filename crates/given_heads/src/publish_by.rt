@@ -1,8 +1,8 @@
 // A Publish that C hands over: its numbers and presence.
-use crate::number::is_on;
-use crate::number::maybe_u8;
-use crate::number::maybe_u16;
-use crate::number::maybe_u32;
+use given::number::is_on;
+use given::number::maybe_u8;
+use given::number::maybe_u16;
+use given::number::maybe_u32;
 use publish_plan::head::PublishHead;
 use records::error::Error;
 use tables::qos;
@@ -10,8 +10,8 @@ use tables::qos::GotQos;
 ghost use mathlib.Core.Path.{_≡_};
 ghost use mathlib.Core.List.{List};
 ghost use Prim.Native.Nat.{ℕ};
-ghost use Rattle.given.specs.Given.{publishBy};
-ghost use Rattle.given.specs.Head.{publishHanded};
+ghost use Rattle.given_heads.specs.By.{publishBy};
+ghost use Rattle.given_heads.specs.Head.{publishHanded};
 
 // Numbers and presence, or refusal 11.
 pub enum GotPublishHead {
