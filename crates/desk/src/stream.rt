@@ -79,7 +79,7 @@ fn refused(out: &mut [u8], tally: &mut [u64], mut d: Desk, e: Error, taken: usiz
         return d;
     }
     let put = output::refused(&mut *out, d.put, d.offset, e, taken);
-    tallies::add_refused(&mut *tally, e);
+    counts::add_refused(&mut *tally, e);
     passed(d, put, taken)
 }
 
@@ -184,7 +184,7 @@ fn unread(
 
 fn accepted(s: &[u8], out: &mut [u8], tally: &mut [u64], d: Desk, p: Packet, taken: usize) -> Desk {
     let put = line::packet(&mut *out, d.put, d.offset, s, p, taken);
-    tallies::add_packet(&mut *tally, p);
+    counts::add_packet(&mut *tally, p);
     passed(d, put, taken)
 }
 
@@ -241,7 +241,7 @@ fn finish(out: &mut [u8], tally: &[u64], d: Desk) -> u8 {
 pub fn read(fd: i32, name: &[u8], limit: Limit) -> u8 {
     let mut buf = buffer();
     let mut out = io::large_buffer();
-    let mut tally = tallies::none();
+    let mut tally = counts::none();
     let d = read_all(fd, limit, &mut buf, &mut out, &mut tally);
     if d.state == UNREADABLE {
         output::fail(name);

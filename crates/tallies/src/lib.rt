@@ -1,35 +1,19 @@
-// What was read: a count for each refusal at its number, for each kind and for all refusals; and the line that tells them.
+// The line that tells what was read: the counts of `counts`.
 use byte_puts::put_bytes;
+use counts::ALL;
+use counts::PINGREQ;
+use counts::PINGRESP;
+use counts::PUBACK;
+use counts::PUBLISH;
+use counts::SUBSCRIBE;
 use lines::put_number;
-use records::error::Error;
-use records::packet_record::Packet;
-use refusals::number as number_of;
 ghost use mathlib.Core.Path.{_≡_};
 ghost use mathlib.Core.List.{_++_};
 ghost use Prim.Native.Nat.{_+_, _≤_};
-ghost use lib.ListN.{length, getD, replicate};
+ghost use lib.ListN.{length, getD};
 ghost use Rattle.render.specs.Shown.{decimalOf};
 ghost use Rattle.lines.specs.Line.{PutAt};
-ghost use Rattle.tallies.specs.Tally.{kindIndex, oneMore, refusedMore, kindsText, pingsText, refusalText, refusalsTo, endText, summaryLine};
-
-// behind the numbers of refusals, those that are yet to come included
-const PUBLISH: usize = 58;
-
-const SUBSCRIBE: usize = 59;
-
-const PUBACK: usize = 60;
-
-const PINGREQ: usize = 61;
-
-const PINGRESP: usize = 62;
-
-const ALL: usize = 63;
-
-pub fn none() -> [u64; 64]
-    ensures { λ r. ⌜ r ≡ replicate 64 0 ⌝ }
-{
-    [0; 64]
-}
+ghost use Rattle.tallies.specs.Tally.{kindsText, pingsText, refusalText, refusalsTo, endText, summaryLine};
 
 fn count(tally: &[u64], k: usize) -> u64
     ensures { λ r. ⌜ r ≡ getD (now (tally .entry)) k 0 ⌝ }
@@ -38,41 +22,6 @@ fn count(tally: &[u64], k: usize) -> u64
         return tally[k];
     }
     0
-}
-
-fn add(tally: &mut [u64], k: usize)
-    ensures { λ r. ⌜ now (tally .exit) ≡ oneMore (now (tally .entry)) k ⌝ }
-{
-    if k < tally.len() {
-        tally[k] = std::num::wrapping_add_u64(tally[k], 1);
-    }
-}
-
-fn kind_at(p: Packet) -> usize
-    ensures { λ r. ⌜ r ≡ kindIndex p ⌝ }
-{
-    match p {
-        Packet::Publish(_) => PUBLISH,
-        Packet::Subscribe(_) => SUBSCRIBE,
-        Packet::PubAck(_) => PUBACK,
-        Packet::PingReq => PINGREQ,
-        Packet::PingResp => PINGRESP,
-    }
-}
-
-// A packet more.
-pub fn add_packet(tally: &mut [u64], p: Packet)
-    ensures { λ r. ⌜ now (tally .exit) ≡ oneMore (now (tally .entry)) (kindIndex p) ⌝ }
-{
-    add(&mut *tally, kind_at(p));
-}
-
-// A refusal more.
-pub fn add_refused(tally: &mut [u64], e: Error)
-    ensures { λ r. ⌜ now (tally .exit) ≡ refusedMore (now (tally .entry)) e ⌝ }
-{
-    add(&mut *tally, number_of(e) as usize);
-    add(&mut *tally, ALL);
 }
 
 // A number behind the words before it.

@@ -1,10 +1,10 @@
--- `tallies::add` is right since a store past the end changes nothing. Assumes nothing.
+-- `counts::add` is right since a store past the end changes nothing. Assumes nothing.
 use mathlib.Core.Path.{sym}
 use borrow.Author.Needs.{needs}
 use lib.Seq.{set-out}
 use denote.Ref.{now}
-use Rattle.tallies.proofs.add.Statement.{statement}
-use Rattle.tallies.proofs.add.Tie as tie
+use Rattle.counts.proofs.add.Statement.{statement}
+use Rattle.counts.proofs.add.Tie as tie
 use Rattle.std.proofs.num.wrapping_add_u64.Reads as wrapping-add-u64-reads
 
 mul-wrapping-add-u64 : tie.Need-mul-wrapping-add-u64

@@ -1,8 +1,8 @@
--- `tallies::add_packet` is right since it counts at the place of the kind. Assumes nothing.
+-- `counts::add_packet` is right since it counts at the place of the kind. Assumes nothing.
 use mathlib.Core.Path.{_∙_}
 use borrow.Author.Needs.{needs}
-use Rattle.tallies.proofs.add_packet.Statement.{statement}
-use Rattle.tallies.proofs.add_packet.Tie as tie
+use Rattle.counts.proofs.add_packet.Statement.{statement}
+use Rattle.counts.proofs.add_packet.Tie as tie
 
 kind-at-requires : tie.Need-kind-at-requires
 kind-at-requires c κs = search needs

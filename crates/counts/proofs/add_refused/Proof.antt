@@ -1,8 +1,8 @@
--- `tallies::add_refused` is right since it counts at both places. Assumes nothing.
+-- `counts::add_refused` is right since it counts at both places. Assumes nothing.
 use mathlib.Core.Path.{_∙_}
 use borrow.Author.Needs.{needs}
-use Rattle.tallies.proofs.add_refused.Statement.{statement}
-use Rattle.tallies.proofs.add_refused.Tie as tie
+use Rattle.counts.proofs.add_refused.Statement.{statement}
+use Rattle.counts.proofs.add_refused.Tie as tie
 
 number-requires : tie.Need-number-requires
 number-requires c κs = search needs
