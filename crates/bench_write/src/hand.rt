@@ -1,7 +1,7 @@
 // A row of the tables in main: what is handed over, field by field in the order below, a bar between two; fields left out are empty.
 use crate::show;
 use crate::text;
-use number_puts::length::write_remaining_length;
+use length_puts::write_remaining_length;
 use packet_parts::head::PacketHead;
 use packet_write::size;
 use packet_write::write;

@@ -1,4 +1,3 @@
-// Numbers as they are written, after the helpers of v5/mod.rs: of a fixed width and of variable length, put at an index of an output. A put
-// has no refusal, for callers that have tested; `write_remaining_length` tests for itself.
+// Numbers of a fixed width as they are written, after the helpers of v5/mod.rs, put at an index of an output. A put has no refusal, for
+// callers that have tested. `specs` says what a leaf writes that tests for itself, a length or a string.
 pub mod fixed;
-pub mod length;

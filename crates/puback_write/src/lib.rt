@@ -1,8 +1,8 @@
 // A PubAck, written, after `write` and `size` of puback.rs: first every refusal and the size, touching nothing, then the bytes. A plain
 // success is four bytes.
 use codes::reason_code;
+use length_puts::put_length;
 use number_puts::fixed;
-use number_puts::length::put_length;
 use records::answer::Limit;
 use records::answer::Sized;
 use records::answer::Written;

@@ -2,8 +2,8 @@
 // What would lie past the end is not stored.
 use byte_puts::put_bytes;
 use codes::qos_number;
+use length_puts::put_length;
 use number_puts::fixed;
-use number_puts::length::put_length;
 use publish_plan::head::PublishHead;
 use publish_sizes::no_pkid;
 use rows::run::after;

@@ -1,7 +1,7 @@
 // The bytes of a row, after `write` of the properties in publish.rs, subscribe.rs and puback.rs: each function puts them at an index of
 // an output and gives how many they are. What would lie past the end is not stored. The rows that are lists are put by `list_puts`.
+use length_puts::put_length;
 use number_puts::fixed;
-use number_puts::length::put_length;
 use records::span::MaybeU8;
 use records::span::MaybeU16;
 use records::span::MaybeU32;

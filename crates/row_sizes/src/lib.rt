@@ -1,7 +1,7 @@
 // The bytes that a row takes, after `len` of the properties in publish.rs, subscribe.rs and puback.rs. A sum is cut off one above the
 // largest R, which is as much of it as refusal 17 needs: no sum can wrap.
-use number_puts::length::MOST;
-use number_puts::length::len_len;
+use length_puts::MOST;
+use length_puts::len_len;
 use records::span::MaybeU8;
 use records::span::MaybeU16;
 use records::span::MaybeU32;

@@ -1,6 +1,6 @@
 // The tests of fields as they are written (01, writing order): 18, and 9 for text; 17 for an identifier. Those of lists are in
 // `list_tests`, those of filters in `filters_write`. The crate makes none of them before it writes.
-use number_puts::length::MOST;
+use length_puts::MOST;
 use records::error::Error;
 use records::span::MaybeU32;
 use string_puts::GotStringLength;

@@ -1,9 +1,9 @@
 // How every kind is written (01, writing order): the refusals in their order from what a kind has found, its size, and the first bytes
 // of its frame. The crate's `write` of each kind repeats these lines, and tests the limit first (D7).
+use length_puts::MOST;
+use length_puts::len_len;
+use length_puts::put_length;
 use number_puts::fixed;
-use number_puts::length::MOST;
-use number_puts::length::len_len;
-use number_puts::length::put_length;
 use records::answer::Limit;
 use records::answer::Sized;
 use records::answer::Written;

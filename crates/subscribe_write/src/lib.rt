@@ -1,7 +1,7 @@
 // A Subscribe, written, after `write` and `size` of subscribe.rs: first every refusal and the size, touching nothing, then the bytes. An
 // empty filter list is refused (D6).
+use length_puts::put_length;
 use number_puts::fixed;
-use number_puts::length::put_length;
 use records::answer::Limit;
 use records::answer::Sized;
 use records::answer::Written;

@@ -1,12 +1,12 @@
--- `number_puts::length::put_length` is right since past the end nothing is stored, and `len_len` counts all the same. Assumes nothing.
+-- `length_puts::put_length` is right since past the end nothing is stored, and `len_len` counts all the same. Assumes nothing.
 use mathlib.Core.Path.{sym, _∙_}
 use native.Mathlib.Omega.{arith}
 use borrow.Author.Needs.{needs}
 use Rattle.writing.specs.Spell.{short}
 use Rattle.writing.proofs.Sizes.{length-short}
 use Rattle.byte_puts.proofs.Laws.{sets-out}
-use Rattle.number_puts.proofs.length.put_length.Statement.{statement}
-use Rattle.number_puts.proofs.length.put_length.Tie as tie
+use Rattle.length_puts.proofs.put_length.Statement.{statement}
+use Rattle.length_puts.proofs.put_length.Tie as tie
 
 put-groups-requires : tie.Need-put-groups-requires
 put-groups-requires c κs = search needs

@@ -1,4 +1,4 @@
--- `number_puts::length::write_remaining_length` is right since it tests first the number, then the room, and puts the spelling at the front.
+-- `length_puts::write_remaining_length` is right since it tests first the number, then the room, and puts the spelling at the front.
 -- Assumes nothing.
 use mathlib.Core.Path.{sym, _∙_}
 use native.Mathlib.Omega.{arith}
@@ -9,9 +9,9 @@ use Rattle.writing.specs.Size.{most}
 use Rattle.writing.specs.Spell.{short}
 use Rattle.writing.specs.Order.{small}
 use Rattle.writing.proofs.Sizes.{length-short}
 use Rattle.number_puts.proofs.Laws.Leaf.{leaf-refused, leaf-no-room, leaf-written}
-use Rattle.number_puts.proofs.length.write_remaining_length.Statement.{statement}
-use Rattle.number_puts.proofs.length.write_remaining_length.Tie as tie
+use Rattle.length_puts.proofs.write_remaining_length.Statement.{statement}
+use Rattle.length_puts.proofs.write_remaining_length.Tie as tie
 
 returns : tie.Need-returns
 returns c =

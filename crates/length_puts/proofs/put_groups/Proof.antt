@@ -1,10 +1,10 @@
--- `number_puts::length::put_groups` is right since after each turn what is left to put is the spelling of `rest`. Assumes nothing.
+-- `length_puts::put_groups` is right since after each turn what is left to put is the spelling of `rest`. Assumes nothing.
 use Prim.Native.Nat.{_-_}
 use native.Mathlib.Omega.{arith}
 use borrow.Author.Needs.{needs}
-use Rattle.number_puts.proofs.Laws.Length.{Spelt, none-spelt, spelt-same, spelt-last, spelt-next, spelt-full}
-use Rattle.number_puts.proofs.length.put_groups.Statement.{statement}
-use Rattle.number_puts.proofs.length.put_groups.Tie as tie
+use Rattle.length_puts.proofs.Laws.{Spelt, none-spelt, spelt-same, spelt-last, spelt-next, spelt-full}
+use Rattle.length_puts.proofs.put_groups.Statement.{statement}
+use Rattle.length_puts.proofs.put_groups.Tie as tie
 
 abbrev Inv-loop : tie.InvT-loop
 Inv-loop out₀ at n rest₀ i₀ out rest i = Spelt out₀ at n out rest i

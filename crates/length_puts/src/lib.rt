@@ -1,5 +1,6 @@
-// The variable length number, after `len_len` and `write_remaining_length` of v5/mod.rs: the shortest spelling, low group first.
-use crate::fixed;
+// The variable length number as it is written, after `len_len` and `write_remaining_length` of v5/mod.rs: the shortest spelling, low group
+// first. The put has no refusal, for callers that have tested; `write_remaining_length` tests for itself.
+use number_puts::fixed;
 use records::answer::Written;
 use records::error::Error;
 ghost use mathlib.Core.Path.{_≡_};

@@ -1,9 +1,9 @@
--- `number_puts::length::len_len` is right since it makes the definition's own tests. Assumes nothing.
+-- `length_puts::len_len` is right since it makes the definition's own tests. Assumes nothing.
 use Prim.Native.Nat.{ℕ}
 use native.Mathlib.Omega.{arith}
 use borrow.Author.Tests.{lt-ltb, le-ltb}
-use Rattle.number_puts.proofs.length.len_len.Statement.{statement}
-use Rattle.number_puts.proofs.length.len_len.Tie as tie
+use Rattle.length_puts.proofs.len_len.Statement.{statement}
+use Rattle.length_puts.proofs.len_len.Tie as tie
 
 returns : tie.Need-returns
 returns c = rw (lt-ltb _ 128 (c .if1 .taken))
