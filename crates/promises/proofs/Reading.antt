@@ -13,7 +13,7 @@ use Rattle.reading.specs.Refusal.{Refusal, nr, Answer, accepted, refused, refus
 use Rattle.reading.specs.Reader.{Fit, got, bad}
 use Rattle.reading.specs.Read.{readOf}
 use Rattle.reading.specs.Place.{asPlaces, Placed, onGot, say, sayAnswer, Items}
-use Rattle.reading.specs.Rows.{Above, insufficient, malformed, exceeded, invalid, required, notCarried, Given, Breaks, lacks}
+use Rattle.reading.specs.Rows.{Above, insufficient, malformed, exceeded, invalid, required, notCarried, FramingGiven, Breaks, lacks}
 use Rattle.reading.specs.Demand.{Begins, Taken}
 use Rattle.reading.proofs.Reading.{bad-got, got-inj}
 use Rattle.reading.proofs.Demand.{no-accept}
@@ -77,28 +77,28 @@ module _ (limit : Limit) (s : List ℕ) (r : Read) (m : Meets limit s r) where
       (λ i. p .0 (sym m ∙ ap told i ∙ row-of k t), λ i. read-injective (m ∙ p .1 i ∙ sym (row-of k t)))
 
   -- 1
-  pub insufficient-bytes : (n t : ℕ) → (r ≡ Read.Refused (Error.InsufficientBytes n) t) ↔ Given (limitOf limit) insufficient s (n ∷ []) t
+  pub insufficient-bytes : (n t : ℕ) → (r ≡ Read.Refused (Error.InsufficientBytes n) t) ↔ FramingGiven (limitOf limit) insufficient s (n ∷ []) t
   insufficient-bytes n t = both (refused-as (Error.InsufficientBytes n) t) (row-1 (limitOf limit) s (n ∷ []) t)
 
   -- 2, of the frame's own length, and inside a frame
-  pub malformed-length : (r ≡ Read.Refused Error.MalformedRemainingLength 0) ↔ Given (limitOf limit) malformed s [] 0
+  pub malformed-length : (r ≡ Read.Refused Error.MalformedRemainingLength 0) ↔ FramingGiven (limitOf limit) malformed s [] 0
   malformed-length = both (refused-as Error.MalformedRemainingLength 0) (row-2 (limitOf limit) s [])
 
   pub malformed-inside : (t : ℕ) → (t ≡ 0 → ⊥) → (r ≡ Read.Refused Error.MalformedRemainingLength t) ↔ Breaks (limitOf limit) s (nr 2 []) t
   malformed-inside t h = both (refused-as Error.MalformedRemainingLength t) (row-2-inside (limitOf limit) s [] t h)
 
   -- 3
-  pub limit-exceeded : (R n t : ℕ) → (r ≡ Read.Refused (Error.PayloadSizeLimitExceeded R n) t) ↔ Given (limitOf limit) exceeded s (R ∷ n ∷ []) t
+  pub limit-exceeded : (R n t : ℕ) → (r ≡ Read.Refused (Error.PayloadSizeLimitExceeded R n) t) ↔ FramingGiven (limitOf limit) exceeded s (R ∷ n ∷ []) t
   limit-exceeded R n t = both (refused-as (Error.PayloadSizeLimitExceeded R n) t) (row-3 (limitOf limit) s (R ∷ n ∷ []) t)
 
   -- 4, 5 and 6
-  pub invalid-type : (k t : ℕ) → (r ≡ Read.Refused (Error.InvalidPacketType k) t) ↔ Given (limitOf limit) invalid s (k ∷ []) t
+  pub invalid-type : (k t : ℕ) → (r ≡ Read.Refused (Error.InvalidPacketType k) t) ↔ FramingGiven (limitOf limit) invalid s (k ∷ []) t
   invalid-type k t = both (refused-as (Error.InvalidPacketType k) t) (row-4 (limitOf limit) s (k ∷ []) t)
 
-  pub payload-required : (t : ℕ) → (r ≡ Read.Refused Error.PayloadRequired t) ↔ Given (limitOf limit) required s [] t
+  pub payload-required : (t : ℕ) → (r ≡ Read.Refused Error.PayloadRequired t) ↔ FramingGiven (limitOf limit) required s [] t
   payload-required t = both (refused-as Error.PayloadRequired t) (row-5 (limitOf limit) s [] t)
 
-  pub kind-not-carried : (k t : ℕ) → (r ≡ Read.Refused (Error.KindNotCarried k) t) ↔ Given (limitOf limit) notCarried s (k ∷ []) t
+  pub kind-not-carried : (k t : ℕ) → (r ≡ Read.Refused (Error.KindNotCarried k) t) ↔ FramingGiven (limitOf limit) notCarried s (k ∷ []) t
   kind-not-carried k t = both (refused-as (Error.KindNotCarried k) t) (row-6 (limitOf limit) s (k ∷ []) t)
 
   -- 7 to 15: the fields break with it, first from the left

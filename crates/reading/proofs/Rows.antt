@@ -16,7 +16,7 @@ use Rattle.grammar.specs.Sentence.{Packet}
 use Rattle.reading.specs.Refusal.{Refusal, nr, Answer, accepted, refused, refusedAs, lacking, within, over}
 use Rattle.reading.specs.Fault.{Sound, OnlyFault, under, fails, first, second, SizedFault, sizes, crosses, fills, ByteFault, noByte, noTops, NumFault, endless, long, BodyFault, kind, noBytes, foreign, content, FrameFault, Passing, Verdict, says, breaks, noFrame}
 use Rattle.reading.specs.Read.{readOf}
-use Rattle.reading.specs.Rows.{Incomplete, underTwo, noEnd, partly, Overlong, overlong, Above, above, Holds, holds, Framing, insufficient, malformed, exceeded, invalid, required, notCarried, rowNumber, Given, Breaks}
+use Rattle.reading.specs.Rows.{Incomplete, underTwo, noEnd, partly, Overlong, overlong, Above, above, Holds, holds, Framing, insufficient, malformed, exceeded, invalid, required, notCarried, rowNumber, FramingGiven, Breaks}
 use Rattle.reading.specs.Demand.{ofFields, Taken, nothing-yet, own-length, whole-frame}
 use Rattle.reading.proofs.Lists.{no-way, leb-no, leb-false}
 use Rattle.reading.proofs.Faults.{answered}
@@ -25,7 +25,7 @@ use Rattle.reading.proofs.Numbers.{field-numbers}
 -- ---- rows 1 to 3, from the fault of a frame
 
 abbrev Some : Option ℕ → List ℕ → ℕ → List ℕ → ℕ → Type 0
-Some limit s k vs t = (r : Framing) × (rowNumber r ≡ k) × Given limit r s vs t
+Some limit s k vs t = (r : Framing) × (rowNumber r ≡ k) × FramingGiven limit r s vs t
 
 -- of a refusal
 abbrev Shown : Option ℕ → List ℕ → Refusal → ℕ → Type 0
@@ -123,7 +123,7 @@ module _ (limit : Option ℕ) where
       let (w, o) = above-limit limit l m e h in
       subst (λ (k : Refusal). Verdict limit (x ∷ (b ++ r)) (refusedAs k 0)) o (fault-verdict (x ∷ (b ++ r)) (over limit l) (second byte (sizes (fails r g w))))
 
-  given-verdict : (r : Framing) (s vs : List ℕ) (t : ℕ) → Given limit r s vs t → Verdict limit s (refused (rowNumber r) vs t)
+  given-verdict : (r : Framing) (s vs : List ℕ) (t : ℕ) → FramingGiven limit r s vs t → Verdict limit s (refused (rowNumber r) vs t)
   given-verdict insufficient s vs t (n, i, e, e′) = rw (e, e′) (incomplete-verdict s n i)
   given-verdict malformed s vs t (o, e, e′) = rw (e, e′) (overlong-verdict s o)
   given-verdict exceeded s vs t (l, m, i, a, e, e′) = rw (e, e′) (above-verdict s l m i a)
@@ -177,38 +177,38 @@ module _ (limit : Option ℕ) (s vs : List ℕ) where
       back (inr w) = breaks-verdict limit s vs k t w
 
   -- a row that the fields do not give too
-  framing-row : (r : Framing) (t : ℕ) → (Breaks limit s (nr (rowNumber r) vs) t → ⊥) → (readOf limit s ≡ refused (rowNumber r) vs t) ↔ Given limit r s vs t
+  framing-row : (r : Framing) (t : ℕ) → (Breaks limit s (nr (rowNumber r) vs) t → ⊥) → (readOf limit s ≡ refused (rowNumber r) vs t) ↔ FramingGiven limit r s vs t
   framing-row r t h = (λ e. go (refused-rows (rowNumber r) t .0 e), λ g. refused-rows (rowNumber r) t .1 (inl (r, refl, g)))
     where
-      go : Some limit s (rowNumber r) vs t ⊎ Breaks limit s (nr (rowNumber r) vs) t → Given limit r s vs t
-      go (inl (q, e, g)) = subst (λ (q′ : Framing). Given limit q′ s vs t) (named q r e) g
+      go : Some limit s (rowNumber r) vs t ⊎ Breaks limit s (nr (rowNumber r) vs) t → FramingGiven limit r s vs t
+      go (inl (q, e, g)) = subst (λ (q′ : Framing). FramingGiven limit q′ s vs t) (named q r e) g
       go (inr w) = absurd (h w)
 
   not-field : (k t : ℕ) → isIn k ofFields ≡ false → Breaks limit s (nr k vs) t → ⊥
   not-field k t h w = no-way (sym h ∙ field-numbers limit s k t vs w)
 
   -- 01, row 1: given exactly when the frame is incomplete, with n
-  pub row-1 : (t : ℕ) → (readOf limit s ≡ refused 1 vs t) ↔ Given limit insufficient s vs t
+  pub row-1 : (t : ℕ) → (readOf limit s ≡ refused 1 vs t) ↔ FramingGiven limit insufficient s vs t
   row-1 t = framing-row insufficient t (not-field 1 t refl)
 
   -- 01, row 2, with nothing taken: given exactly when the fourth byte of the frame's own length has its top bit set
-  pub row-2 : (readOf limit s ≡ refused 2 vs 0) ↔ Given limit malformed s vs 0
+  pub row-2 : (readOf limit s ≡ refused 2 vs 0) ↔ FramingGiven limit malformed s vs 0
   row-2 = framing-row malformed 0 (λ (x, l, b, f, e, h, g). holds-some limit s x b 0 f refl)
 
   -- 01, row 3: given exactly when R is above the limit
-  pub row-3 : (t : ℕ) → (readOf limit s ≡ refused 3 vs t) ↔ Given limit exceeded s vs t
+  pub row-3 : (t : ℕ) → (readOf limit s ≡ refused 3 vs t) ↔ FramingGiven limit exceeded s vs t
   row-3 t = framing-row exceeded t (not-field 3 t refl)
 
   -- 01, row 4: given exactly when the frame is whole and its kind is 0 or 15
-  pub row-4 : (t : ℕ) → (readOf limit s ≡ refused 4 vs t) ↔ Given limit invalid s vs t
+  pub row-4 : (t : ℕ) → (readOf limit s ≡ refused 4 vs t) ↔ FramingGiven limit invalid s vs t
   row-4 t = framing-row invalid t (not-field 4 t refl)
 
   -- 01, row 5: given exactly when the frame is whole, R is 0, and the kind is no ping, nor 0 or 15
-  pub row-5 : (t : ℕ) → (readOf limit s ≡ refused 5 vs t) ↔ Given limit required s vs t
+  pub row-5 : (t : ℕ) → (readOf limit s ≡ refused 5 vs t) ↔ FramingGiven limit required s vs t
   row-5 t = framing-row required t (not-field 5 t refl)
 
   -- 01, row 6: given exactly when the frame is whole, R is not 0, and the kind is not carried, nor 0 or 15
-  pub row-6 : (t : ℕ) → (readOf limit s ≡ refused 6 vs t) ↔ Given limit notCarried s vs t
+  pub row-6 : (t : ℕ) → (readOf limit s ≡ refused 6 vs t) ↔ FramingGiven limit notCarried s vs t
   row-6 t = framing-row notCarried t (not-field 6 t refl)
 
   -- 01, rows 7 to 15: given exactly when the frame is whole, its kind is carried, and its fields break so, first from the left
@@ -223,7 +223,7 @@ module _ (limit : Option ℕ) (s vs : List ℕ) where
   pub row-2-inside : (t : ℕ) → (t ≡ 0 → ⊥) → (readOf limit s ≡ refused 2 vs t) ↔ Breaks limit s (nr 2 vs) t
   row-2-inside t h = (λ e. go (refused-rows 2 t .0 e), λ w. refused-rows 2 t .1 (inr w))
     where
-      none-taken : (r : Framing) → rowNumber r ≡ 2 → Given limit r s vs t → t ≡ 0
+      none-taken : (r : Framing) → rowNumber r ≡ 2 → FramingGiven limit r s vs t → t ≡ 0
       none-taken insufficient e g = absurd (omega arith)
       none-taken malformed e g = g .2
       none-taken exceeded e g = absurd (omega arith)
@@ -235,7 +235,7 @@ module _ (limit : Option ℕ) (s vs : List ℕ) where
       go (inl (r, e, g)) = absurd (h (none-taken r e g))
       go (inr w) = w
 
-  given-taken : (r : Framing) (t : ℕ) → Given limit r s vs t → Taken limit s (rowNumber r) t
+  given-taken : (r : Framing) (t : ℕ) → FramingGiven limit r s vs t → Taken limit s (rowNumber r) t
   given-taken insufficient t (n, i, e, e′) = rw e′ (nothing-yet refl)
   given-taken malformed t (o, e, e′) = rw e′ (own-length o)
   given-taken exceeded t (R, m, i, a, e, e′) = rw e′ (nothing-yet refl)

@@ -53,19 +53,19 @@ rowNumber required = 5
 rowNumber notCarried = 6
 
 -- 01, rows 1 to 6: the stream s, the values of the refusal, and the bytes taken
-abbrev pub Given : Option ℕ → Framing → List ℕ → List ℕ → ℕ → Type 0
+abbrev pub FramingGiven : Option ℕ → Framing → List ℕ → List ℕ → ℕ → Type 0
 -- 1: InsufficientBytes(n)
-Given limit insufficient s vs t = (n : ℕ) × Incomplete limit s n × (vs ≡ n ∷ []) × (t ≡ 0)
+FramingGiven limit insufficient s vs t = (n : ℕ) × Incomplete limit s n × (vs ≡ n ∷ []) × (t ≡ 0)
 -- 2: MalformedRemainingLength, of the frame's own length
-Given limit malformed s vs t = Overlong s × (vs ≡ []) × (t ≡ 0)
+FramingGiven limit malformed s vs t = Overlong s × (vs ≡ []) × (t ≡ 0)
 -- 3: PayloadSizeLimitExceeded(R, limit)
-Given limit exceeded s vs t = (R : ℕ) × (m : ℕ) × (limit ≡ some m) × Above s R m × (vs ≡ R ∷ m ∷ []) × (t ≡ 0)
+FramingGiven limit exceeded s vs t = (R : ℕ) × (m : ℕ) × (limit ≡ some m) × Above s R m × (vs ≡ R ∷ m ∷ []) × (t ≡ 0)
 -- 4: InvalidPacketType(k), "k is 0 or 15"
-Given limit invalid s vs t = (x : ℕ) × (b : List ℕ) × Holds limit s x b t × (isIn (kindOf x) reserved ≡ true) × (vs ≡ kindOf x ∷ [])
+FramingGiven limit invalid s vs t = (x : ℕ) × (b : List ℕ) × Holds limit s x b t × (isIn (kindOf x) reserved ≡ true) × (vs ≡ kindOf x ∷ [])
 -- 5: PayloadRequired, "R = 0, kind not a ping"
-Given limit required s vs t = (x : ℕ) × Holds limit s x [] t × (isIn (kindOf x) reserved ≡ false) × (isPing (lookup kinds (kindOf x)) ≡ false) × (vs ≡ [])
+FramingGiven limit required s vs t = (x : ℕ) × Holds limit s x [] t × (isIn (kindOf x) reserved ≡ false) × (isPing (lookup kinds (kindOf x)) ≡ false) × (vs ≡ [])
 -- 6: KindNotCarried(k)
-Given limit notCarried s vs t = (x : ℕ) × (y : ℕ) × (b : List ℕ) × Holds limit s x (y ∷ b) t × (isIn (kindOf x) reserved ≡ false) × (lookup kinds (kindOf x) ≡ none) × (vs ≡ kindOf x ∷ [])
+FramingGiven limit notCarried s vs t = (x : ℕ) × (y : ℕ) × (b : List ℕ) × Holds limit s x (y ∷ b) t × (isIn (kindOf x) reserved ≡ false) × (lookup kinds (kindOf x) ≡ none) × (vs ≡ kindOf x ∷ [])
 
 -- 01, rows 7 to 15, and 2 inside a frame: the frame is of a kind that is carried, and its fields break, first from the left, with k
 abbrev pub Breaks : Option ℕ → List ℕ → Refusal → ℕ → Type 0
