@@ -1,4 +1,4 @@
-//! The loops of `numbers::length` and `utf8::is_utf8` in Rust, line by line but for texts of less than 8 bytes, so that the two compilers can be compared.
+//! The loops of `var_length::length` and `utf8::is_utf8` in Rust, line by line but for texts of less than 8 bytes, so that the two compilers can be compared.
 
 /// The index after the variable length number at `at`, whose value is stored; 0 if there is none.
 #[inline(always)]

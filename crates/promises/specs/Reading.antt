@@ -49,6 +49,6 @@ UserItems s place b vs = (k : ℕ) (u : UserItem) → NthUser place s b k u → 
 abbrev pub IdentifierItems : List ℕ → Span → List Value → Type 0
 IdentifierItems s b vs = (k : ℕ) (u : IdentifierItem) → NthIdentifier s b k u → onGot (sayVal s) (toldIdentifier u) ≡ nthOf k vs
 
--- and of `filters::filter`, of the run at b
+-- and of `filter_runs::filter`, of the run at b
 abbrev pub FilterItems : List ℕ → Span → List (record-of.Filter (List ℕ)) → Type 0
 FilterItems s b fs = (k : ℕ) (u : FilterItem) → NthFilter s b k u → onGot (sayFilter s) (toldFilterItem u) ≡ nthOf k fs
