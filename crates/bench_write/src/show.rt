@@ -2,7 +2,7 @@
 use records::answer::Sized;
 use records::answer::Written;
 use records::error::Error;
-use records::shown::Values;
+use records::values::Values;
 use refusals;
 
 fn wide(b: u8) -> usize {

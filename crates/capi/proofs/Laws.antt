@@ -7,7 +7,7 @@ use lib.ListN.{length, replicate, length-append}
 use lib.Seq.{sets, take-append-seam}
 use Rattle.reading.specs.Place.{heldOf}
 use Rattle.names.specs.Names.{padded}
-use Rattle.names.specs.declared.shown.Name.{Name}
+use Rattle.names.specs.declared.text.Name.{Name}
 use Rattle.wire.proofs.Laws.{held-within}
 
 -- the front of a list, as it is looked up by its place

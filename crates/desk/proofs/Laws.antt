@@ -9,7 +9,7 @@ use lib.Seq.{sets, length-sets, paste, paste-suc, getD-drop, drop-at, length-tak
 use Rattle.reading.specs.Place.{Span}
 use Rattle.wire.proofs.Laws.{held-within}
 use Rattle.desk.specs.Held.{fronted, Kept}
-use Rattle.desk.specs.Put.{Put}
+use Rattle.desk.specs.Put.{StandsBefore}
 
 module _ (s : List ℕ) (start : ℕ) where
   pub front-none : s ≡ fronted s start 0
@@ -68,12 +68,12 @@ kept-moved s o p f h =
 
 -- ---- what was put
 
-pub put-whole : (l w : List ℕ) (from : ℕ) {o : List ℕ} {next : ℕ} → o ≡ sets l from w → (next ≤ length o → next ≡ from + length w) → Put l w o next
+pub put-whole : (l w : List ℕ) (from : ℕ) {o : List ℕ} {next : ℕ} → o ≡ sets l from w → (next ≤ length o → next ≡ from + length w) → StandsBefore l w o next
 put-whole l w from {o} {next} e f h =
     let n : next ≡ from + length w = f (rw (e, length-sets l from w) h) in
     let m : from ≡ next - length w = omega arith in
     (omega arith, e ∙ ap (λ (k : ℕ). sets l k w) m)
 
 -- the same of a number of bytes that is told
-pub put-counted : (l w : List ℕ) (from k : ℕ) {o : List ℕ} {next : ℕ} → o ≡ sets l from w → k ≡ length w → (next ≤ length o → next ≡ from + k) → Put l w o next
+pub put-counted : (l w : List ℕ) (from k : ℕ) {o : List ℕ} {next : ℕ} → o ≡ sets l from w → k ≡ length w → (next ≤ length o → next ≡ from + k) → StandsBefore l w o next
 put-counted l w from k e c f = put-whole l w from e (λ h. f h ∙ ap (λ (m : ℕ). from + m) c)

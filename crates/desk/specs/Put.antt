@@ -6,5 +6,5 @@ use lib.ListN.{length}
 use lib.Seq.{sets}
 
 -- where the next place lies within the output, w stands whole before it, and no other byte was changed
-abbrev pub Put : List ℕ → List ℕ → List ℕ → ℕ → Type 0
-Put before w after next = next ≤ length before → (length w ≤ next) × (after ≡ sets before (next - length w) w)
+abbrev pub StandsBefore : List ℕ → List ℕ → List ℕ → ℕ → Type 0
+StandsBefore before w after next = next ≤ length before → (length w ≤ next) × (after ≡ sets before (next - length w) w)

@@ -8,7 +8,7 @@ ghost use mathlib.Core.Path.{_≡_};
 ghost use Prim.Native.Nat.{_+_, _≤_};
 ghost use lib.ListN.{length};
 ghost use Rattle.render.specs.Shown.{decimalOf, hexOf};
-ghost use Rattle.desk.specs.Put.{Put};
+ghost use Rattle.desk.specs.Put.{StandsBefore};
 
 // The index that no output has.
 const LOST: usize = 18446744073709551615;
@@ -56,7 +56,7 @@ fn after(out: &[u8], at: usize, n: usize) -> usize
 }
 
 pub fn word(out: &mut [u8], at: usize, w: &[u8]) -> usize
-    ensures { λ r. ⌜ Put (now (out .entry)) (now (w .entry)) (now (out .exit)) r ⌝ }
+    ensures { λ r. ⌜ StandsBefore (now (out .entry)) (now (w .entry)) (now (out .exit)) r ⌝ }
 {
     let from = room(&*out, at, w.len());
     put_bytes(&mut *out, from, w);
@@ -64,7 +64,7 @@ pub fn word(out: &mut [u8], at: usize, w: &[u8]) -> usize
 }
 
 pub fn decimal(out: &mut [u8], at: usize, n: u64) -> usize
-    ensures { λ r. ⌜ Put (now (out .entry)) (decimalOf n) (now (out .exit)) r ⌝ }
+    ensures { λ r. ⌜ StandsBefore (now (out .entry)) (decimalOf n) (now (out .exit)) r ⌝ }
 {
     let from = room(&*out, at, 20);
     let k = render::put_decimal(&mut *out, from, n);
@@ -73,7 +73,7 @@ pub fn decimal(out: &mut [u8], at: usize, n: u64) -> usize
 
 // Two hexadecimal digits.
 pub fn hex(out: &mut [u8], at: usize, b: u8) -> usize
-    ensures { λ r. ⌜ Put (now (out .entry)) (hexOf b) (now (out .exit)) r ⌝ }
+    ensures { λ r. ⌜ StandsBefore (now (out .entry)) (hexOf b) (now (out .exit)) r ⌝ }
 {
     let from = room(&*out, at, 2);
     render::put_hex(&mut *out, from, b);

@@ -11,7 +11,7 @@ use Rattle.reading.specs.Reader.{Fit, bad}
 use Rattle.reading.specs.Read.{propertyOf}
 use Rattle.reading.specs.Place.{Span, asPlaces, noItem, userAt}
 use Rattle.positions.specs.Position.{fromAt}
-use Rattle.property_value.specs.Told.{toldProperty, Typed}
+use Rattle.property_value.specs.Told.{toldProperty, OfForm}
 use Rattle.property_value.specs.declared.GotProperty.{GotProperty}
 
 -- 01, table of properties: the kinds that have a block with user properties
@@ -44,4 +44,4 @@ formIn (some row) k = lookup row k
 -- the contract of `property_at`: as `PropertyRead`, in the row of the kind
 pub record PropertyGiven (kind : ℕ) (s : List ℕ) (at : ℕ) (r : GotProperty) : Type 0 where
   pub says : toldProperty r ≡ propertyAt kind s at
-  pub typed : Typed (formIn (lookup blocks kind)) r
+  pub typed : OfForm (formIn (lookup blocks kind)) r

@@ -16,15 +16,15 @@ abbrev pub inRange : Range → ℕ → Bool
 inRange r x = cond (leb (r .0) x) (leb x (r .1)) false
 
 -- Unicode, table 3-7: a row, the first byte and the bytes after it
-abbrev pub Row : Type 0
-Row = Range × List Range
+abbrev pub TextRow : Type 0
+TextRow = Range × List Range
 
 -- Unicode, table 3-7: the cell 80..BF, which most rows end with
 abbrev tail : Range
 tail = (0x80, 0xBF)
 
 -- 01, grammar: "Unicode table of well-formed sequences" (Unicode, table 3-7), row by row
-unfoldable pub rows : List Row
+unfoldable pub rows : List TextRow
 rows =
     ((0x00, 0x7F), [])
     ∷ ((0xC2, 0xDF), tail ∷ [])
@@ -38,7 +38,7 @@ rows =
     ∷ []
 
 -- Unicode, table 3-7: what the row of a first byte asks for after it
-abbrev pub rowAt : List Row → ℕ → Option (List Range)
+abbrev pub rowAt : List TextRow → ℕ → Option (List Range)
 rowAt [] x = none
 rowAt (r ∷ rs) x = cond (inRange (r .0) x) (some (r .1)) (rowAt rs x)
 

@@ -5,8 +5,8 @@ use Rattle.layout.specs.declared.place.Head.{Head}
 use Rattle.layout.specs.declared.place.Block.{Block}
 
 -- the header's order, from 0 (ECCH_TAKEN) to 37 (ECCH_SUBSCRIPTION_VALUE)
-abbrev pub numbersOf : Head → Block → List ℕ
-numbersOf h b =
+abbrev pub laidOut : Head → Block → List ℕ
+laidOut h b =
     h .taken
     ∷ h .first
     ∷ h .second

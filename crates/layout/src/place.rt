@@ -1,7 +1,7 @@
 // The numbers of a record by name, and their indices in the array that C is handed.
 use records::span::Span;
 ghost use mathlib.Core.Path.{_≡_};
-ghost use Rattle.layout.specs.Layout.{numbersOf};
+ghost use Rattle.layout.specs.Layout.{laidOut};
 
 // A number that may be absent: 0 and 0, or 1 and the number.
 pub struct Number {
@@ -47,7 +47,7 @@ pub struct Block {
 
 // Each number at its index in the header.
 pub fn numbers(h: Head, b: Block) -> [u64; 38]
-    ensures { λ r. ⌜ r ≡ numbersOf h b ⌝ }
+    ensures { λ r. ⌜ r ≡ laidOut h b ⌝ }
 {
     [
         h.taken,

@@ -1,8 +1,8 @@
 // Single values as numbers.
-use records::shown::Values;
+use records::values::Values;
 ghost use mathlib.Core.Path.{_≡_};
 ghost use Rattle.records.specs.Told.{toldBool, toldValues};
-ghost use Rattle.layout.specs.Value.{valueAt};
+ghost use Rattle.layout.specs.Value.{valueOrZero};
 
 // 1 if true, else 0.
 pub fn flag(b: bool) -> u64
@@ -13,7 +13,7 @@ pub fn flag(b: bool) -> u64
 
 // The first value of a refusal, 0 if it has none.
 pub fn first_value(v: Values) -> u64
-    ensures { λ r. ⌜ r ≡ valueAt (toldValues v) 0 ⌝ }
+    ensures { λ r. ⌜ r ≡ valueOrZero (toldValues v) 0 ⌝ }
 {
     match v {
         Values::None => 0,
@@ -24,7 +24,7 @@ pub fn first_value(v: Values) -> u64
 
 // The second value of a refusal, 0 if it has none.
 pub fn second_value(v: Values) -> u64
-    ensures { λ r. ⌜ r ≡ valueAt (toldValues v) 1 ⌝ }
+    ensures { λ r. ⌜ r ≡ valueOrZero (toldValues v) 1 ⌝ }
 {
     match v {
         Values::None => 0,

@@ -4,8 +4,8 @@ use mathlib.Core.List.{[], _∷_}
 use Rattle.reading.specs.Refusal.{Refusal, nr}
 use Rattle.reading.specs.Reader.{bad}
 use Rattle.records.specs.Told.{valuesOf}
-use Rattle.layout.specs.Value.{valueAt}
+use Rattle.layout.specs.Value.{valueOrZero}
 use Rattle.layout_answer.specs.Answer.{answerNumbers}
 
-pub bad-numbers : (k : Refusal) → 0 ∷ valueAt (valuesOf k) 0 ∷ valueAt (valuesOf k) 1 ∷ [] ≡ answerNumbers (bad k)
+pub bad-numbers : (k : Refusal) → 0 ∷ valueOrZero (valuesOf k) 0 ∷ valueOrZero (valuesOf k) 1 ∷ [] ≡ answerNumbers (bad k)
 bad-numbers (nr k vs) = refl

@@ -3,9 +3,9 @@ use mathlib.Core.List.{List, [], _∷_}
 use Prim.Native.Nat.{ℕ}
 use Rattle.reading.specs.Refusal.{nr}
 use Rattle.reading.specs.Reader.{Fit, got, bad}
-use Rattle.layout.specs.Value.{valueAt}
+use Rattle.layout.specs.Value.{valueOrZero}
 
 -- the size and zeros, or 0 and the refusal's values
 abbrev pub answerNumbers : Fit ℕ → List ℕ
 answerNumbers (got n) = n ∷ 0 ∷ 0 ∷ []
-answerNumbers (bad (nr k vs)) = 0 ∷ valueAt vs 0 ∷ valueAt vs 1 ∷ []
+answerNumbers (bad (nr k vs)) = 0 ∷ valueOrZero vs 0 ∷ valueOrZero vs 1 ∷ []

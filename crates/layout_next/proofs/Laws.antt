@@ -3,8 +3,8 @@ use mathlib.Core.Path.{_≡_, refl}
 use mathlib.Core.List.{[], _∷_}
 use Rattle.reading.specs.Refusal.{Refusal, nr}
 use Rattle.records.specs.Told.{valuesOf}
-use Rattle.layout.specs.Value.{valueAt}
+use Rattle.layout.specs.Value.{valueOrZero}
 use Rattle.layout_next.specs.Next.{badNumbers}
 
-pub bad-next : (k : Refusal) → valueAt (valuesOf k) 0 ∷ 0 ∷ 0 ∷ 0 ∷ 0 ∷ 0 ∷ 0 ∷ [] ≡ badNumbers k
+pub bad-next : (k : Refusal) → valueOrZero (valuesOf k) 0 ∷ 0 ∷ 0 ∷ 0 ∷ 0 ∷ 0 ∷ 0 ∷ [] ≡ badNumbers k
 bad-next (nr k vs) = refl

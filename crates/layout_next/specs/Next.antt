@@ -6,11 +6,11 @@ use Rattle.grammar.specs.Record.{Val, num, str, duo, PropOf, Filter}
 use Rattle.reading.specs.Refusal.{Refusal, nr}
 use Rattle.reading.specs.Reader.{Fit, got, bad}
 use Rattle.reading.specs.Place.{Span}
-use Rattle.layout.specs.Value.{valueAt}
+use Rattle.layout.specs.Value.{valueOrZero}
 
 -- header: "or the refusal's value"; of both enums
 abbrev pub badNumbers : Refusal → List ℕ
-badNumbers (nr k vs) = valueAt vs 0 ∷ 0 ∷ 0 ∷ 0 ∷ 0 ∷ 0 ∷ 0 ∷ []
+badNumbers (nr k vs) = valueOrZero vs 0 ∷ 0 ∷ 0 ∷ 0 ∷ 0 ∷ 0 ∷ 0 ∷ []
 
 -- ecch_property_layout: the index after it, the identifier, and the value
 abbrev pub propertyRow : ℕ → ℕ → Val Span → List ℕ

@@ -80,8 +80,8 @@ ackBlock none = noBlock
 ackBlock (some p) = plainBlock (texted (p .user)) (lettered (p .reason)) noNumber
 
 -- of a packet; a ping has none
-abbrev pub blockOf : Placed → Block
-blockOf (publish m) = publishBlock (m .props)
-blockOf (ack k m) = ackBlock (m .props)
-blockOf (subscribe m) = subscribeBlock (m .props)
-blockOf (ping k) = noBlock
+abbrev pub packetBlock : Placed → Block
+packetBlock (publish m) = publishBlock (m .props)
+packetBlock (ack k m) = ackBlock (m .props)
+packetBlock (subscribe m) = subscribeBlock (m .props)
+packetBlock (ping k) = noBlock

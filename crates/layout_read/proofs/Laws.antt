@@ -3,14 +3,14 @@ use mathlib.Core.Path.{_≡_, refl}
 use Prim.Native.Nat.{ℕ}
 use Rattle.reading.specs.Refusal.{Refusal, nr, refusedAs}
 use Rattle.records.specs.Told.{rowOf, valuesOf}
-use Rattle.layout.specs.Layout.{numbersOf}
-use Rattle.layout.specs.Value.{valueAt}
+use Rattle.layout.specs.Layout.{laidOut}
+use Rattle.layout.specs.Value.{valueOrZero}
 use Rattle.layout_properties.specs.Block.{noBlock}
 use Rattle.layout_read.specs.Record.{refusedHead, readNumber, encoded}
 
 pub refused-number : (k : Refusal) (n : ℕ) → rowOf k ≡ readNumber (refusedAs k n)
 refused-number (nr k vs) n = refl
 
-pub refused-encoded : (k : Refusal) (n : ℕ) → numbersOf (refusedHead n (valueAt (valuesOf k) 0) (valueAt (valuesOf k) 1)) noBlock ≡ encoded (refusedAs k n)
+pub refused-encoded : (k : Refusal) (n : ℕ) → laidOut (refusedHead n (valueOrZero (valuesOf k) 0) (valueOrZero (valuesOf k) 1)) noBlock ≡ encoded (refusedAs k n)
 unfolding encoded
 refused-encoded (nr k vs) n = refl

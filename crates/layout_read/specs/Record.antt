@@ -7,9 +7,9 @@ use Rattle.reading.specs.Place.{Placed}
 use Rattle.records.specs.Told.{backSpan}
 use Rattle.records.specs.declared.span.Span.{Span}
 use Rattle.layout.specs.declared.place.Head.{Head}
-use Rattle.layout.specs.Layout.{numbersOf}
-use Rattle.layout.specs.Value.{valueAt}
-use Rattle.layout_properties.specs.Block.{noBlock, blockOf}
+use Rattle.layout.specs.Layout.{laidOut}
+use Rattle.layout.specs.Value.{valueOrZero}
+use Rattle.layout_properties.specs.Block.{noBlock, packetBlock}
 
 -- ---- all but the properties
 
@@ -75,7 +75,7 @@ headOf n (ping k) = plainHead n k 0 0 noSpan
 
 -- the numbers of a packet that takes n bytes
 unfoldable pub packetNumbers : ℕ → Placed → List ℕ
-packetNumbers n p = numbersOf (headOf n p) (blockOf p)
+packetNumbers n p = laidOut (headOf n p) (packetBlock p)
 
 -- the number that is returned
 abbrev pub readNumber : Answer Placed → ℕ
@@ -85,4 +85,4 @@ readNumber (refused k vs n) = k
 -- the numbers that are stored
 unfoldable pub encoded : Answer Placed → List ℕ
 encoded (accepted p n) = packetNumbers n p
-encoded (refused k vs n) = numbersOf (refusedHead n (valueAt vs 0) (valueAt vs 1)) noBlock
+encoded (refused k vs n) = laidOut (refusedHead n (valueOrZero vs 0) (valueOrZero vs 1)) noBlock

@@ -21,8 +21,8 @@ valuesText (m ∷ []) = (codesOf "(" ++ decimalOf m) ++ codesOf ")"
 valuesText (m ∷ n ∷ vs) = ((codesOf "(" ++ decimalOf m) ++ (codesOf "," ++ decimalOf n)) ++ codesOf ")"
 
 -- docs/DESK.md: "OFFSET refused NUMBER "
-abbrev pub refusedHead : ℕ → Error → List ℕ
-refusedHead offset e = (decimalOf offset ++ (codesOf " refused " ++ decimalOf (rowOf (toldError e)))) ++ codesOf " "
+abbrev pub refusedStart : ℕ → Error → List ℕ
+refusedStart offset e = (decimalOf offset ++ (codesOf " refused " ++ decimalOf (rowOf (toldError e)))) ++ codesOf " "
 
 -- docs/DESK.md: " taken=N" and the end of the line
 abbrev pub takenText : ℕ → List ℕ
@@ -30,7 +30,7 @@ takenText n = (codesOf " taken=" ++ decimalOf n) ++ (10 ∷ [])
 
 -- docs/DESK.md: "OFFSET refused NUMBER NAME(VALUES) taken=N"
 abbrev pub refusedLine : ℕ → Error → ℕ → List ℕ
-refusedLine offset e taken = ((refusedHead offset e ++ nameOf e) ++ valuesText (valuesOf (toldError e))) ++ takenText taken
+refusedLine offset e taken = ((refusedStart offset e ++ nameOf e) ++ valuesText (valuesOf (toldError e))) ++ takenText taken
 
 -- docs/DESK.md: "A frame longer than the buffer .. is said so there with its offset and size"
 abbrev pub tooLongAt : ℕ → ℕ → List ℕ

@@ -2,8 +2,8 @@
 // long here, that of what was read in `tallies`. docs/DESK.md has the format. What would lie past the end of the output is not stored.
 use byte_puts::put_bytes;
 use records::error::Error;
-use records::shown::Values;
 use records::span::Span;
+use records::values::Values;
 use refusals;
 use wire::string;
 ghost use mathlib.Core.List.{_++_};
@@ -12,7 +12,7 @@ ghost use lib.ListN.{length};
 ghost use Rattle.records.specs.Told.{toldValues};
 ghost use Rattle.names.specs.Names.{codesOf, nameOf};
 ghost use Rattle.render.specs.Shown.{decimalOf};
-ghost use Rattle.lines.specs.Line.{PutAt, valuesText, refusedHead, takenText, refusedLine, tooLongAt, tooLongLine};
+ghost use Rattle.lines.specs.Line.{PutAt, valuesText, refusedStart, takenText, refusedLine, tooLongAt, tooLongLine};
 
 fn word(out: &mut [u8], at: usize, w: &[u8]) -> usize
     requires { ⌜ at ≤ 65536 ⌝ }
@@ -81,7 +81,7 @@ fn values(out: &mut [u8], at: usize, v: Values) -> usize
 }
 
 fn refused_head(out: &mut [u8], offset: u64, e: Error) -> usize
-    ensures placed { λ r. ⌜ PutAt (now (out .entry)) 0 (refusedHead offset e) (now (out .exit)) r ⌝ }
+    ensures placed { λ r. ⌜ PutAt (now (out .entry)) 0 (refusedStart offset e) (now (out .exit)) r ⌝ }
     ensures short { λ r. ⌜ r ≤ 64 ⌝ }
 {
     let a = decimal(&mut *out, 0, offset);

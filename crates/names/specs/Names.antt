@@ -6,7 +6,7 @@ use Prim.Native.String.{String, [] as empty, _∷_ as _then_}
 use lib.ListN.{length, getD, replicate}
 use Rattle.records.specs.Told.{toldError, rowOf}
 use Rattle.records.specs.declared.error.Error.{Error}
-use Rattle.names.specs.declared.shown.Name.{Name}
+use Rattle.names.specs.declared.text.Name.{Name}
 
 -- 01, "When the desk says no": the column Refusal, in the order of the column No., which begins at 1
 unfoldable pub names : List String

@@ -1,7 +1,7 @@
 // The name of each refusal, as a program prints it.
-pub mod shown;
+pub mod text;
 
-use crate::shown::Name;
+use crate::text::Name;
 use records::error::Error;
 use refusals::number;
 ghost use mathlib.Core.Path.{_≡_};

@@ -34,7 +34,7 @@ use Rattle.framing.specs.Told.{toldKind, toldHeader, toldChecked, frameAt}
 use Rattle.framing.proofs.Laws as frame
 use Rattle.framing.specs.declared.check.Checked.{Checked}
 use Rattle.framing.specs.declared.header.Kind.{Kind}
-use Rattle.property_value.specs.Told.{toldValue, formOf, toldProperty, Typed, PropertyRead}
+use Rattle.property_value.specs.Told.{toldValue, formOf, toldProperty, OfForm, PropertyRead}
 use Rattle.property_value.specs.declared.Value.{Value}
 use Rattle.property_value.specs.declared.GotProperty.{GotProperty}
 use Rattle.given.specs.Kind.{blocks, propertyAt, formIn, PropertyGiven}
@@ -225,7 +225,7 @@ value-same : (v v′ : Value) → formOf v ≡ formOf v′ → toldValue v ≡ t
 value-same v v′ f t = sym (back-value v) ∙ ap (λ g. backValue g (toldValue v)) f ∙ ap (backValue (formOf v′)) t ∙ back-value v′
 
 -- what is told may be a u8 or a u16; the forms f of the row say which
-typed-same : (f : ℕ → Option Form) (d : Fit (PropOf place.Span × ℕ)) (a b : GotProperty) → toldProperty a ≡ d → toldProperty b ≡ d → Typed f a → Typed f b → a ≡ b
+typed-same : (f : ℕ → Option Form) (d : Fit (PropOf place.Span × ℕ)) (a b : GotProperty) → toldProperty a ≡ d → toldProperty b ≡ d → OfForm f a → OfForm f b → a ≡ b
 typed-same f d (GotProperty.Found k v n) (GotProperty.Found k′ v′ n′) r r′ o o′ =
     let e = got-inj (r ∙ sym r′) in
     let i : k ≡ k′ = ap (λ z. z .0 .0) e in

@@ -186,7 +186,7 @@ module _ (h : Handed) (z : Sized) where
 
   -- 01: "size leaves out a Publish identifier that is 0, and counts four bytes for a subscription identifier too large to write": the size is
   -- given, and is this number, exactly when nothing else is lent, what is handed over belongs together and R can be written
-  pub counted : (alone : Bool) → Counts alone h z → (n : ℕ) → (z ≡ Sized.Size n) ↔ ((alone ≡ true) × refuse.Sized h × (sizeIs h ≡ n))
+  pub counted : (alone : Bool) → Counts alone h z → (n : ℕ) → (z ≡ Sized.Size n) ↔ ((alone ≡ true) × refuse.HasSize h × (sizeIs h ≡ n))
   unfolding sizedBehind
   counted true c n =
       let u = sized-when h n in

@@ -18,8 +18,8 @@ use Rattle.properties.specs.declared.subscribe_block.GotSubscribeBlock.{
 -- ---- where a block stands
 
 -- 01, grammar: "a variable length number L and L bytes", whatever the bytes; where the L bytes stand
-unfoldable pub roomOf : ℕ → Reader Span
-roomOf = sizedOf (numOf cut 4) crossed (stringFit asPlaces anyBytes cut)
+unfoldable pub extentOf : ℕ → Reader Span
+extentOf = sizedOf (numOf cut 4) crossed (stringFit asPlaces anyBytes cut)
 
 -- ---- the record, property by property
 

@@ -9,11 +9,11 @@ ghost use mathlib.Core.Path.{_≡_};
 ghost use lib.ListN as list;
 ghost use Rattle.positions.specs.Position.{fromAt};
 ghost use Rattle.wire.specs.Told.{toldPart};
-ghost use Rattle.properties.specs.Block.{roomOf};
+ghost use Rattle.properties.specs.Block.{extentOf};
 
 // The L bytes after a length L, and the index after them. An L above what is left is refused before any property is looked at (D2).
 pub fn read_room(s: &[u8], at: usize) -> GotSpan
-    ensures { λ r. ⌜ toldPart r ≡ fromAt (roomOf (list.length (now (s .entry)))) (now (s .entry)) at ⌝ }
+    ensures { λ r. ⌜ toldPart r ≡ fromAt (extentOf (list.length (now (s .entry)))) (now (s .entry)) at ⌝ }
 {
     match var_length::read_length(s, at) {
         GotU32::Refused(e) => GotSpan::Refused(e),

@@ -23,7 +23,7 @@ use Rattle.positions.proofs.Fill.{then-bad, map-bad, then-got, map-got}
 use Rattle.records.specs.Told.{toldError, toldSpan}
 use Rattle.records.specs.declared.error.Error.{Error}
 use Rattle.records.specs.declared.span.Span as records
-use Rattle.property_value.specs.Told.{toldValue, formOf, toldProperty, Typed, ValueRead, PropertyRead, nextOr, ValuePassed, PropertyPassed}
+use Rattle.property_value.specs.Told.{toldValue, formOf, toldProperty, OfForm, ValueRead, PropertyRead, nextOr, ValuePassed, PropertyPassed}
 use Rattle.property_value.specs.declared.Value.{Value}
 use Rattle.property_value.specs.declared.Value.the-variants.{Pair}
 use Rattle.property_value.specs.declared.GotProperty.{GotProperty}
@@ -180,7 +180,7 @@ module _ (row : Place) (s : List ℕ) (at : ℕ) where
     unfolding fromAt propertyOf
     property-next = rw (byte-cons (drop at s) k (drop m s) (got-left (byteOf cut) s at (trails-byte cut) k m (sym e)))
 
-    retyped : (r : GotProperty) → toldProperty r ≡ fromAt (valueAt asPlaces (lookup row k) k (length s)) s m → Typed (λ _. lookup row k) r → Typed (lookup row) r
+    retyped : (r : GotProperty) → toldProperty r ≡ fromAt (valueAt asPlaces (lookup row k) k (length s)) s m → OfForm (λ _. lookup row k) r → OfForm (lookup row) r
     retyped (Found j v n) h t = rw (value-id (lookup row k) k (length s) s m ((j, toldValue v), n) (sym h)) t
     retyped (Refused c) h t = tt
 

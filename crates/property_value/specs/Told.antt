@@ -44,19 +44,19 @@ toldProperty (Found k v n) = got ((k, toldValue v), n)
 toldProperty (Refused e) = bad (toldError e)
 
 -- where a value v is found with identifier k, it has the form that f gives k: so two forms that tell the same, as u8 and u16, are told apart
-abbrev pub Typed : (ℕ → Option tables.Form) → GotProperty → Type 0
-Typed f (Found k v n) = f k ≡ some (formOf v)
-Typed f (Refused e) = Unit {0}
+abbrev pub OfForm : (ℕ → Option tables.Form) → GotProperty → Type 0
+OfForm f (Found k v n) = f k ≡ some (formOf v)
+OfForm f (Refused e) = Unit {0}
 
 -- the value of property k from index `at` of s, of the form o if the row has the identifier
 pub record ValueRead (o : Option tables.Form) (k : ℕ) (s : List ℕ) (at : ℕ) (r : GotProperty) : Type 0 where
   pub says : toldProperty r ≡ fromAt (valueAt asPlaces o k (length s)) s at
-  pub typed : Typed (λ _. o) r
+  pub typed : OfForm (λ _. o) r
 
 -- the property at index `at` of s, in the row of a kind of packet
 pub record PropertyRead (row : tables.Place) (s : List ℕ) (at : ℕ) (r : GotProperty) : Type 0 where
   pub says : toldProperty r ≡ fromAt (propertyOf asPlaces row (length s)) s at
-  pub typed : Typed (lookup row) r
+  pub typed : OfForm (lookup row) r
 
 -- 01, grammar: "38, and 11 in Publish, are lists kept in order": their entries in row Publish
 abbrev pub publishLists : tables.Place

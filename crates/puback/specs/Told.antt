@@ -30,8 +30,8 @@ abbrev pub acked : ℕ → ℕ × Option (AckProps place.Span (λ A. place.Span)
 acked i v = got (ack 4 (record { ident = i; reason = v .0; props = v .1 }))
 
 -- 01, grammar, PubAck: what follows the identifier, in bytes that end at index `end`
-abbrev pub restOf : ℕ → ℕ → List ℕ → Fit Placed
-restOf i end b = ackRestFit asPlaces reasons end b >>= acked i
+abbrev pub afterIdent : ℕ → ℕ → List ℕ → Fit Placed
+afterIdent i end b = ackRestFit asPlaces reasons end b >>= acked i
 
 -- ---- the reason string
 

@@ -18,7 +18,7 @@ ghost use Rattle.grammar.specs.Record.{kindOf};
 ghost use Rattle.reading.specs.Read.{ackBlockFit, fieldsFit};
 ghost use Rattle.reading.specs.Place.{asPlaces};
 ghost use Rattle.records.specs.Told.{toldString};
-ghost use Rattle.puback.specs.Told.{toldGotPubAck, toldLastBlock, restOf, reason, reasonIn};
+ghost use Rattle.puback.specs.Told.{toldGotPubAck, toldLastBlock, afterIdent, reason, reasonIn};
 
 pub enum GotPubAck {
     Value(PubAck),
@@ -51,7 +51,7 @@ fn read_last_block(s: &[u8], at: usize) -> GotLastBlock
 
 // What follows the identifier: nothing at R = 2, else a reason, which is tested before what follows it.
 fn read_rest(s: &[u8], at: usize, pkid: u16) -> GotPubAck
-    ensures { λ r. ⌜ toldGotPubAck r ≡ restOf pkid (length (now (s .entry))) (drop at (now (s .entry))) ⌝ }
+    ensures { λ r. ⌜ toldGotPubAck r ≡ afterIdent pkid (length (now (s .entry))) (drop at (now (s .entry))) ⌝ }
 {
     if s.len() <= at {
         return GotPubAck::Value(PubAck {

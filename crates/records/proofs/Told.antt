@@ -15,7 +15,7 @@ use Rattle.records.specs.declared.answer.Limit.{Limit}
 use Rattle.records.specs.declared.error.Error.{Error}
 use Rattle.records.specs.declared.puback_record.PubAckReason.{PubAckReason}
 use Rattle.records.specs.declared.qos.QoS.{QoS}
-use Rattle.records.specs.declared.shown.Values.{Values}
+use Rattle.records.specs.declared.values.Values.{Values}
 use Rattle.records.specs.declared.span.Span.{Span}
 use Rattle.records.specs.declared.span.MaybeU8.{MaybeU8}
 use Rattle.records.specs.declared.span.MaybeU16.{MaybeU16}

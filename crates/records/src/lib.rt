@@ -6,6 +6,6 @@ pub mod packet_record;
 pub mod puback_record;
 pub mod publish_record;
 pub mod qos;
-pub mod shown;
 pub mod span;
 pub mod subscribe_record;
+pub mod values;

@@ -1,6 +1,6 @@
 // The numbers and values of the refusals (01, "When the desk says no").
 use records::error::Error;
-use records::shown::Values;
+use records::values::Values;
 ghost use mathlib.Core.Path.{_≡_};
 ghost use Rattle.records.specs.Told.{toldError, rowOf, valuesOf, toldValues};
 

@@ -12,7 +12,7 @@ use lib.Seq.{sets, length-sets, drop-cons}
 use borrow.Author.Tests.{lt-ltb, le-ltb, le-leb, lt-leb, ne-eqb}
 use Rattle.io.specs.Digits.{digits, Fewest}
 use Rattle.byte_puts.proofs.Laws.{sets-append}
-use Rattle.render.specs.Shown.{decimalIn, decimalOf, hexDigit, hexOf, isMarked, isPlain, shownOf, shownSize, shown, fitting, Shows}
+use Rattle.render.specs.Shown.{decimalIn, decimalOf, hexDigit, hexOf, isMarked, isPrintable, shownOf, shownSize, shown, fitting, Shows}
 
 -- ---- digits
 
@@ -131,19 +131,19 @@ module _ (b : ℕ) where
 
   pub size-some : 1 ≤ shownSize b
   unfolding shownSize shownOf choice
-  size-some = some (isMarked b) (isPlain b)
+  size-some = some (isMarked b) (isPrintable b)
 
   pub form-plain : 1 ≡ shownSize b → shownOf b ≡ b ∷ []
   unfolding shownSize shownOf choice
-  form-plain e = one (isMarked b) (isPlain b) e
+  form-plain e = one (isMarked b) (isPrintable b) e
 
   pub form-marked : 2 ≡ shownSize b → shownOf b ≡ 92 ∷ b ∷ []
   unfolding shownSize shownOf choice
-  form-marked e = two (isMarked b) (isPlain b) e
+  form-marked e = two (isMarked b) (isPrintable b) e
 
   pub form-hex : (1 ≡ shownSize b → ⊥) → (2 ≡ shownSize b → ⊥) → shownOf b ≡ 92 ∷ 120 ∷ hexOf b
   unfolding shownSize shownOf choice
-  form-hex f g = four (isMarked b) (isPlain b) f g
+  form-hex f g = four (isMarked b) (isPrintable b) f g
 
 -- ---- its stores
 

@@ -29,12 +29,12 @@ abbrev pub isMarked : ℕ → Bool
 isMarked b = eqb b 34 || eqb b 92
 
 -- 0x20 to 0x7E stand as they are
-abbrev pub isPlain : ℕ → Bool
-isPlain b = cond (leb 32 b) (leb b 126) (leb 32 b)
+abbrev pub isPrintable : ℕ → Bool
+isPrintable b = cond (leb 32 b) (leb b 126) (leb 32 b)
 
 -- a byte between the quotes; every other byte is `\xHH`
 unfoldable pub shownOf : ℕ → List ℕ
-shownOf b = cond (isMarked b) (92 ∷ b ∷ []) (cond (isPlain b) (b ∷ []) (92 ∷ 120 ∷ hexOf b))
+shownOf b = cond (isMarked b) (92 ∷ b ∷ []) (cond (isPrintable b) (b ∷ []) (92 ∷ 120 ∷ hexOf b))
 
 -- how many bytes a byte is shown in
 unfoldable pub shownSize : ℕ → ℕ

@@ -22,7 +22,7 @@ use Rattle.writing.proofs.Tests.{le-or}
 use Rattle.writing.proofs.ForCode.{writes-all, writes-none}
 use Rattle.writing.proofs.Belong.{belongs-when}
 use Rattle.writing.proofs.Verdict.{answered-when}
-use Rattle.settle.specs.Found.{earlyOf, lateOf, roomOf, settledOf, sizedOf, Found}
+use Rattle.settle.specs.Found.{earlyOf, lateOf, withinRoom, settledOf, sizeAlone, Found}
 
 -- ---- the order
 
@@ -49,11 +49,11 @@ rest-large n m e h = go (leb n most) refl
     go false i = leb-false n most i
 
 -- what is found decides the size
-pub sized-found : (h : Handed) (t : Bool) (m : ℕ) → t ≡ belongs h → m ≡ cap (restIs h) → sizedOf t m ≡ sizeOf h
+pub sized-found : (h : Handed) (t : Bool) (m : ℕ) → t ≡ belongs h → m ≡ cap (restIs h) → sizeAlone t m ≡ sizeOf h
 unfolding sizeOf sizeIs
 sized-found h t m e r = go (le-or m most)
   where
-    go : (m ≤ most) ⊎ (most < m) → sizedOf t m ≡ (guard (belongs h) (nr 20 []) >> (guard (leb (restIs h) most) (nr 17 []) >> got (1 + withLength (restIs h))))
+    go : (m ≤ most) ⊎ (most < m) → sizeAlone t m ≡ (guard (belongs h) (nr 20 []) >> (guard (leb (restIs h) most) (nr 17 []) >> got (1 + withLength (restIs h))))
     go (inl l) = let i : m ≡ restIs h = rest-small (restIs h) m r l in rw (e, i)
     go (inr l) = rw (e, leb-no m most l, leb-no (restIs h) most (rest-large (restIs h) m r l))
 
@@ -67,7 +67,7 @@ early-fields h b e f = rw (← e, f)
 
 -- what is left once R is known to be small
 abbrev ending : Option ℕ → ℕ → ℕ → Fit (Unit {0}) → Fit ℕ
-ending limit room n late = judge (limitTests limit n) >> (late >> roomOf n room)
+ending limit room n late = judge (limitTests limit n) >> (late >> withinRoom n room)
 
 module _ (limit : Option ℕ) (room : ℕ) (early late : Fit (Unit {0})) (m : ℕ) where
   pub early-bad : (k : Refusal) → early ≡ bad k → bad k ≡ settledOf early m limit late room
@@ -88,7 +88,7 @@ module _ (limit : Option ℕ) (room : ℕ) (early late : Fit (Unit {0})) (m : �
         pub late-bad : (k : Refusal) → late ≡ bad k → bad k ≡ settledOf early m limit late room
         late-bad k b = sym (then-ending ∙ rw (← j, b))
 
-        pub late-fine : late ≡ got tt → roomOf n room ≡ settledOf early m limit late room
+        pub late-fine : late ≡ got tt → withinRoom n room ≡ settledOf early m limit late room
         late-fine b = sym (then-ending ∙ rw (← j, b))
 
 module _ (limit : Option ℕ) (room : ℕ) (h : Handed) where

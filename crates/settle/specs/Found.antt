@@ -21,16 +21,16 @@ abbrev pub lateOf : Handed → Fit (Unit {0})
 lateOf h = guard (named h) (nr 12 []) >> (judge (map small (numbersOf h)) >> guard (asked h) (nr 13 []))
 
 -- 01, writing order: "19", and else the size
-abbrev pub roomOf : ℕ → ℕ → Fit ℕ
-roomOf n room = guard (leb n room) (nr 19 (n ∷ [])) >> got n
+abbrev pub withinRoom : ℕ → ℕ → Fit ℕ
+withinRoom n room = guard (leb n room) (nr 19 (n ∷ [])) >> got n
 
 -- 01, writing order: "..; 17 for R; 16; ..; 19": what is told early, R, what is told late, and the size that R gives
 abbrev pub settledOf : Fit (Unit {0}) → ℕ → Option ℕ → Fit (Unit {0}) → ℕ → Fit ℕ
-settledOf early n limit late room = early >> (guard (leb n most) (nr 17 []) >> (judge (limitTests limit (1 + withLength n)) >> (late >> roomOf (1 + withLength n) room)))
+settledOf early n limit late room = early >> (guard (leb n most) (nr 17 []) >> (judge (limitTests limit (1 + withLength n)) >> (late >> withinRoom (1 + withLength n) room)))
 
 -- 01: "Asked alone, size refuses only with 20, then 17 for R"
-abbrev pub sizedOf : Bool → ℕ → Fit ℕ
-sizedOf t n = guard t (nr 20 []) >> (guard (leb n most) (nr 17 []) >> got (1 + withLength n))
+abbrev pub sizeAlone : Bool → ℕ → Fit ℕ
+sizeAlone t n = guard t (nr 20 []) >> (guard (leb n most) (nr 17 []) >> got (1 + withLength n))
 
 -- what is told before R is counted, R, cut off where it is too large, and what is told after the limit
 pub record Found (h : Handed) (first : Fit (Unit {0})) (n : ℕ) (last : Fit (Unit {0})) : Type 0 where

@@ -20,7 +20,7 @@ ghost use Rattle.records.specs.Told.{limitOf};
 ghost use Rattle.records.specs.Answered.{toldSized, toldWritten};
 ghost use Rattle.row_tests.specs.Tested.{toldTested};
 ghost use Rattle.row_puts.specs.Put.{Put};
-ghost use Rattle.settle.specs.Found.{roomOf, settledOf, sizedOf};
+ghost use Rattle.settle.specs.Found.{withinRoom, settledOf, sizeAlone};
 
 // One byte, R, and R bytes.
 fn frame_size(rest: usize) -> usize
@@ -32,7 +32,7 @@ fn frame_size(rest: usize) -> usize
 
 // The size, from whether what is handed over belongs together (20), and R, cut off where it is too large (17).
 pub fn size(belongs: bool, rest: usize) -> Sized
-    ensures { λ r. ⌜ toldSized r ≡ sizedOf belongs rest ⌝ }
+    ensures { λ r. ⌜ toldSized r ≡ sizeAlone belongs rest ⌝ }
 {
     if !belongs {
         return Sized::Refused(Error::ListMismatch);
@@ -60,7 +60,7 @@ fn within(limit: Limit, size: usize) -> Tested
 
 // 19 if the output is shorter than the size, else the size.
 fn fit(size: usize, room: usize) -> Written
-    ensures { λ r. ⌜ toldWritten r ≡ roomOf size room ⌝ }
+    ensures { λ r. ⌜ toldWritten r ≡ withinRoom size room ⌝ }
 {
     if room < size {
         return Written::Refused(Error::NoRoom(size));

@@ -16,14 +16,14 @@ use Rattle.writing.specs.Lists.{flat, all, total}
 use Rattle.writing.specs.Handed.{Givens, items, tag, entries}
 use Rattle.writing.specs.Size.{most, withLength, propsSize}
 use Rattle.writing.specs.Order.{propsFields}
-use Rattle.writing.specs.Refuse.{InBlock, Sound}
+use Rattle.writing.specs.Refuse.{InBlock, Writable}
 use Rattle.writing.specs.Meant.{Filled}
 use Rattle.writing.proofs.Each.{each-imp, each-both, flat-each}
 use Rattle.writing.proofs.Tests.{and-left, and-right, nil-when, eq-when, eq-not}
 use Rattle.writing.proofs.Sizes.{weigh}
 use Rattle.tidy.specs.Tidy.{withSet}
 use Rattle.tidy.proofs.Has.{withLength-mono, SuitsIn, propSize}
-use Rattle.tidy.proofs.Rows.{Row}
+use Rattle.tidy.proofs.Rows.{RowGiven}
 
 -- ---- the bytes of all rows are no more than those of all properties
 
@@ -104,7 +104,7 @@ total-le : {A : Type 0} (u w : A → ℕ) {l : List A} → Each (λ a. u a ≤ w
 total-le u w nil = omega arith
 total-le u w (p & ps) = omega (arith, total-le u w ps)
 
-module _ {place : Place} (g : Givens) (ps : List Prop) (rows : Each (λ r. Row (r .0) (r .1) ps (g (r .0))) place) where
+module _ {place : Place} (g : Givens) (ps : List Prop) (rows : Each (λ r. RowGiven (r .0) (r .1) ps (g (r .0))) place) where
   -- nothing is handed over for a block that is absent
   pub rows-belong : Each (InBlock (not (isEmpty ps)) g) place
   rows-belong = each-imp (λ r w. (w .sorted, λ e. w .empty (go ps e))) rows
@@ -113,7 +113,7 @@ module _ {place : Place} (g : Givens) (ps : List Prop) (rows : Each (λ r. Row (
       go [] e = refl
       go (p ∷ ps) e = absurd (no-way (sym e))
 
-  pub rows-sound : Each Sound (propsFields place g)
+  pub rows-sound : Each Writable (propsFields place g)
   unfolding propsFields
   rows-sound = flat-each _ (each-imp (λ r w. w .sound) rows)
 

@@ -17,14 +17,14 @@ use Rattle.writing.specs.Lists.{flat, total, beside}
 use Rattle.writing.specs.Handed.{PublishHanded, SubscribeHanded, AckHanded, Handed, publish, ack, subscribe, ping, publishGiven, subscribeGiven, ackGiven, filters}
 use Rattle.writing.specs.Size.{most, withLength, propsSize, isPlain, restIs, sizeIs}
 use Rattle.writing.specs.Order.{stringField, filterField, fieldsOf, orNone, numbersOf}
-use Rattle.writing.specs.Refuse.{Sound, Small, Countable, Unnamed, Unasked, Accepts}
+use Rattle.writing.specs.Refuse.{Writable, Small, Countable, Unnamed, Unasked, Accepts}
 use Rattle.writing.specs.Meant.{publishSet, subscribeSet, ackSet, thePublish, theAck, meant, Below, Typed, Plain}
 use Rattle.writing.proofs.Each.{each-append, rows-of}
 use Rattle.writing.proofs.Values.{Suits, an-u8, an-u16, an-u32, a-number, a-text, a-bytes, low-qos, low-rule, low-filter}
 use Rattle.tidy.specs.Tidy.{optionsByte, publishFrom, ackFrom, subscribeFrom, noPublish, noAck, noSubscribe, withSet, handedOf}
 use Rattle.tidy.proofs.Has.{SuitsIn}
 use Rattle.tidy.proofs.Said.{PublishSaid, AckSaid, FilterSaid, filterSize, SubscribeSaid, Said}
-use Rattle.tidy.proofs.Rows.{Perhaps, last-suits, all-suits, num-back, str-back, numbers-back, run-back, run-octets, run-adds, users-octets, users-back, Row, row-one, row-lent, row-pairs, row-several}
+use Rattle.tidy.proofs.Rows.{Perhaps, last-suits, all-suits, num-back, str-back, numbers-back, run-back, run-octets, run-adds, users-octets, users-back, RowGiven, row-one, row-lent, row-pairs, row-several}
 use Rattle.tidy.proofs.Blocks.{Distinct, rows-belong, rows-sound, rows-light, rows-filled, with-list, set-list}
 
 -- ---- values of a form
@@ -45,7 +45,7 @@ number-num : (v : Value) → Suits number v → (n : ℕ) × (v ≡ num n) × Sm
 number-num _ (a-number {n} h) = (n, refl, h)
 
 abbrev Str : Form → Value → Type 0
-Str f v = (s : List ℕ) × (v ≡ str s) × Octets s × Sound (stringField f s)
+Str f v = (s : List ℕ) × (v ≡ str s) × Octets s × Writable (stringField f s)
 
 text-str : (v : Value) → Suits text v → Str text v
 text-str _ (a-text {s} o h) = (s, refl, o, h)
@@ -99,9 +99,9 @@ module _ (p : Publish (List ℕ) List) (ps : List Prop) (ss : Each (SuitsIn publ
     content = last-suits publishPlace 3 text refl ss;
   }
 
-  publish-rows : PublishSet → Each (λ r. Row (r .0) (r .1) ps (publishGiven publishIt (r .0))) publishPlace
+  publish-rows : PublishSet → Each (λ r. RowGiven (r .0) (r .1) ps (publishGiven publishIt (r .0))) publishPlace
   unfolding publishPlace publishGiven publishProps
-  publish-rows w = rows-of (λ r. Row (r .0) (r .1) ps (publishGiven publishIt (r .0))) publishPlace
+  publish-rows w = rows-of (λ r. RowGiven (r .0) (r .1) ps (publishGiven publishIt (r .0))) publishPlace
       (row-one 1 u8 ps (num-back _ u8-num (w .format) .1)
       & (row-one 2 u32 ps (num-back _ u32-num (w .expiry) .1)
       & (row-one 35 u16 ps (num-back _ u16-num (w .alias) .1)
@@ -180,9 +180,9 @@ module _ (p : Ack (List ℕ) List) (ps : List Prop) (ss : Each (SuitsIn ackPlace
   unfolding ackPlace
   ack-user = all-suits ackPlace 38 pair refl ss
 
-  ack-rows : Each (λ r. Row (r .0) (r .1) ps (ackGiven ackIt (r .0))) ackPlace
+  ack-rows : Each (λ r. RowGiven (r .0) (r .1) ps (ackGiven ackIt (r .0))) ackPlace
   unfolding ackPlace ackGiven ackProps
-  ack-rows = rows-of (λ r. Row (r .0) (r .1) ps (ackGiven ackIt (r .0))) ackPlace
+  ack-rows = rows-of (λ r. RowGiven (r .0) (r .1) ps (ackGiven ackIt (r .0))) ackPlace
       (row-lent 31 text ps (str-back text-str ack-text .1) (str-back text-str ack-text .2)
       & (row-pairs 38 ps ack-user
       & nil))
@@ -242,9 +242,9 @@ module _ (p : Subscribe (List ℕ) List) (ps : List Prop) (ss : Each (SuitsIn su
   unfolding subscribePlace
   subscribe-user = all-suits subscribePlace 38 pair refl ss
 
-  subscribe-rows : Each (λ r. Row (r .0) (r .1) ps (subscribeGiven subscribeIt (r .0))) subscribePlace
+  subscribe-rows : Each (λ r. RowGiven (r .0) (r .1) ps (subscribeGiven subscribeIt (r .0))) subscribePlace
   unfolding subscribePlace subscribeGiven subscribeProps
-  subscribe-rows = rows-of (λ r. Row (r .0) (r .1) ps (subscribeGiven subscribeIt (r .0))) subscribePlace
+  subscribe-rows = rows-of (λ r. RowGiven (r .0) (r .1) ps (subscribeGiven subscribeIt (r .0))) subscribePlace
       (row-one 11 number ps (num-back Small number-num subscribe-ident .1)
       & (row-pairs 38 ps subscribe-user
       & nil))
@@ -280,7 +280,7 @@ options-are f w = ap optionsByte (w .filter) ∙ options-back (f .path) (w .opti
 filter-back : (f : Filter (List ℕ)) → FilterSaid f → mkFilter (f .path, optionsByte f) ≡ f
 filter-back f w = ap (λ (n : ℕ). mkFilter (f .path, n)) (options-are f w) ∙ low-filter (w .options) (f .path) ∙ sym (w .filter)
 
-filter-sound : (f : Filter (List ℕ)) → FilterSaid f → Sound (filterField (f .path, optionsByte f))
+filter-sound : (f : Filter (List ℕ)) → FilterSaid f → Writable (filterField (f .path, optionsByte f))
 filter-sound f w =
     let e = options-are f w in
     let r : ruleFine (optionsByte f) ≡ true = rw (e, low-rule (w .options)) (w .rule) in
@@ -292,7 +292,7 @@ pathsOf fs = map (λ f. f .path) fs
 
 -- the filters that are handed over
 record FiltersBack (fs : List (Filter (List ℕ))) : Type 0 where
-  sound : Each Sound (map filterField (beside (pathsOf fs) (map optionsByte fs)))
+  sound : Each Writable (map filterField (beside (pathsOf fs) (map optionsByte fs)))
   octets : Each Octets (pathsOf fs)
   back : map mkFilter (beside (pathsOf fs) (map optionsByte fs)) ≡ fs
   sum : length (flat (λ s. s) (pathsOf fs)) + 3 * length (map optionsByte fs) ≡ total filterSize fs

@@ -19,7 +19,7 @@ use Rattle.writing.specs.Lists.{flat}
 use Rattle.writing.specs.Handed.{Given, one, lent, pairs, several, strings, duos, items}
 use Rattle.writing.specs.Size.{givenSize}
 use Rattle.writing.specs.Order.{word, stringField, givenFields, orNone}
-use Rattle.writing.specs.Refuse.{AddsUp, Sorted, Nothing, Sound, Small}
+use Rattle.writing.specs.Refuse.{AddsUp, Sorted, NothingGiven, Writable, Small}
 use Rattle.writing.specs.Meant.{numeralOf, stringOf}
 use Rattle.writing.proofs.Each.{flat-each}
 use Rattle.writing.proofs.Values.{Suits, a-number, a-pair}
@@ -68,8 +68,8 @@ pub num-back : {f : Form} (P : ℕ → Type 0) → ((v : Value) → Suits f v �
 num-back P s absent = (nil, refl)
 num-back P s (present {a = v} w) = let (n, e, h) = s v w in rw e (h & nil, refl)
 
-pub str-back : {f : Form} → ((v : Value) → Suits f v → (s : List ℕ) × (v ≡ str s) × Octets s × Sound (stringField f s)) → {o : Option Value} → Perhaps (Suits f) o
-    → Octets (lentIn o .bytes) × Each Sound (givenFields f (lent (lentIn o))) × (stringOf (lentIn o) ≡ o)
+pub str-back : {f : Form} → ((v : Value) → Suits f v → (s : List ℕ) × (v ≡ str s) × Octets s × Writable (stringField f s)) → {o : Option Value} → Perhaps (Suits f) o
+    → Octets (lentIn o .bytes) × Each Writable (givenFields f (lent (lentIn o))) × (stringOf (lentIn o) ≡ o)
 str-back s absent = (nil, nil, refl)
 str-back s (present {a = v} w) = let (b, e, o, h) = s v w in rw e (o, h & nil, refl)
 
@@ -83,7 +83,7 @@ numbers-back (_&_ {l = vs} s ss) = go s (numbers-back ss)
 -- keys and values of pairs, one after the other, are the pairs again
 record PairsBack (vs : List Value) : Type 0 where
   octets : Each Octets (stringsIn vs)
-  sound : Each Sound (map word (stringsIn vs))
+  sound : Each Writable (map word (stringsIn vs))
   even : length (map length (stringsIn vs)) % 2 ≡ 0
   back : duos (stringsIn vs) ≡ vs
 
@@ -138,12 +138,12 @@ last-none i (p ∷ ps) o e = go (eqb (p .0) i) (last-none i ps (cond (eqb (p .0)
 
 -- ---- a row handed over
 
-pub record Row (i : ℕ) (f : Form) (ps : List Prop) (g : Given) : Type 0 where
+pub record RowGiven (i : ℕ) (f : Form) (ps : List Prop) (g : Given) : Type 0 where
   pub sorted : Sorted g
-  pub sound : Each Sound (givenFields f g)
+  pub sound : Each Writable (givenFields f g)
   pub light : givenSize f g ≤ weigh f (allOf i ps)
   pub whole : items g ≡ [] → allOf i ps ≡ []
-  pub empty : ps ≡ [] → Nothing g
+  pub empty : ps ≡ [] → NothingGiven g
 
 -- a row whose items are the last value
 module _ (i : ℕ) (f : Form) (ps : List Prop) (g : Given) (s : Sorted g) (q : items g ≡ optional (lastOf i ps)) where
@@ -163,7 +163,7 @@ one-items : (m : Option ℕ) → items (one m) ≡ optional (numeralOf m)
 one-items none = refl
 one-items (some n) = refl
 
-pub row-one : (i : ℕ) (f : Form) (ps : List Prop) → numeralOf (numIn (lastOf i ps)) ≡ lastOf i ps → Row i f ps (one (numIn (lastOf i ps)))
+pub row-one : (i : ℕ) (f : Form) (ps : List Prop) → numeralOf (numIn (lastOf i ps)) ≡ lastOf i ps → RowGiven i f ps (one (numIn (lastOf i ps)))
 unfolding lastOf
 row-one i f ps e =
     let g : Given = one (numIn (lastOf i ps)) in
@@ -182,7 +182,7 @@ lent-items (some (num n)) e = cc
 lent-items (some (str s)) e = refl
 lent-items (some (duo a b)) e = cc
 
-pub row-lent : (i : ℕ) (f : Form) (ps : List Prop) → Each Sound (givenFields f (lent (lentIn (lastOf i ps)))) → stringOf (lentIn (lastOf i ps)) ≡ lastOf i ps → Row i f ps (lent (lentIn (lastOf i ps)))
+pub row-lent : (i : ℕ) (f : Form) (ps : List Prop) → Each Writable (givenFields f (lent (lentIn (lastOf i ps)))) → stringOf (lentIn (lastOf i ps)) ≡ lastOf i ps → RowGiven i f ps (lent (lentIn (lastOf i ps)))
 unfolding lastOf
 row-lent i f ps w e =
     let g : Given = lent (lentIn (lastOf i ps)) in
@@ -190,7 +190,7 @@ row-lent i f ps w e =
     let q = lent-items (lastOf i ps) e in
     record { sorted = s; sound = w; light = last-lighter i f ps g s q; whole = last-whole i f ps g s q; empty = λ z. rw z (refl, refl) }
 
-pub row-pairs : (i : ℕ) (ps : List Prop) → Each (Suits pair) (allOf i ps) → Row i pair ps (pairs (runOf (stringsIn (allOf i ps))))
+pub row-pairs : (i : ℕ) (ps : List Prop) → Each (Suits pair) (allOf i ps) → RowGiven i pair ps (pairs (runOf (stringsIn (allOf i ps))))
 unfolding allOf
 row-pairs i ps w =
     let g : Given = pairs (runOf (stringsIn (allOf i ps))) in
@@ -205,7 +205,7 @@ row-pairs i ps w =
       empty = λ z. rw z (refl, refl);
     }
 
-pub row-several : (i : ℕ) (ps : List Prop) → Each (Suits number) (allOf i ps) → Row i number ps (several (numsIn (allOf i ps)))
+pub row-several : (i : ℕ) (ps : List Prop) → Each (Suits number) (allOf i ps) → RowGiven i number ps (several (numsIn (allOf i ps)))
 unfolding allOf
 row-several i ps w =
     let g : Given = several (numsIn (allOf i ps)) in

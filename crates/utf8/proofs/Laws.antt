@@ -13,7 +13,7 @@ use lib.ListN.{length, take, drop, getD, replicate, length-drop, length-replicat
 use lib.Seq.{drop-cons, drop-drop, take-all, take-add}
 use borrow.Author.Tests.{leb-true, leb-false, le-leb, lt-leb}
 use Rattle.grammar.specs.Gram.{forget}
-use Rattle.grammar.specs.Text.{Range, inRange, Row, rows, rowAt, cons}
+use Rattle.grammar.specs.Text.{Range, inRange, TextRow, rows, rowAt, cons}
 use Rattle.reading.specs.Refusal.{nr}
 use Rattle.reading.specs.Reader.{Fit, got, bad, _>>=_, noneOf, neverOf, mapOf, onlyOf, thenOf, thenFit, manyFit, isGot}
 use Rattle.reading.specs.Read.{byteOf, followOf, restOf, charOf, isText}
@@ -25,23 +25,23 @@ use Rattle.utf8.specs.Text.{dueOf, textAfter, Followed, Passed, allAscii
 -- ---- a row of the table
 
 -- b is above the first bytes of n rows
-abbrev pub Above : ℕ → List Row → ℕ → Type 0
+abbrev pub Above : ℕ → List TextRow → ℕ → Type 0
 Above zero rs b = Unit {0}
 Above (suc n) [] b = Unit {0}
 Above (suc n) (r ∷ rs) b = (r .0 .1 < b) × Above n rs b
 
 -- b is below the first bytes of all rows
-abbrev pub Below : List Row → ℕ → Type 0
+abbrev pub Below : List TextRow → ℕ → Type 0
 Below [] b = Unit {0}
 Below (r ∷ rs) b = (b < r .0 .0) × Below rs b
 
 -- b is a first byte of the first row
-abbrev pub Here : List Row → ℕ → Type 0
+abbrev pub Here : List TextRow → ℕ → Type 0
 Here [] b = ⊥
 Here (r ∷ rs) b = (r .0 .0 ≤ b) × (b ≤ r .0 .1)
 
 -- what is to follow in the first row
-abbrev pub rowRest : List Row → Option (List Range)
+abbrev pub rowRest : List TextRow → Option (List Range)
 rowRest [] = none
 rowRest (r ∷ rs) = some (r .1)
 
@@ -52,16 +52,16 @@ not-in r b h = rw (lt-leb b (r .1) h) (go (leb (r .0) b))
     go true = refl
     go false = refl
 
-above : (n : ℕ) (rs : List Row) (b : ℕ) → Above n rs b → rowAt rs b ≡ rowAt (drop n rs) b
+above : (n : ℕ) (rs : List TextRow) (b : ℕ) → Above n rs b → rowAt rs b ≡ rowAt (drop n rs) b
 above zero rs b h = refl
 above (suc n) [] b h = refl
 above (suc n) (r ∷ rs) b h = rw (not-in (r .0) b (h .0)) (above n rs b (h .1))
 
-below : (rs : List Row) (b : ℕ) → Below rs b → rowAt rs b ≡ none
+below : (rs : List TextRow) (b : ℕ) → Below rs b → rowAt rs b ≡ none
 below [] b h = refl
 below (r ∷ rs) b h = rw (lt-leb (r .0 .0) b (h .0)) (below rs b (h .1))
 
-here : (rs : List Row) (b : ℕ) → Here rs b → rowAt rs b ≡ rowRest rs
+here : (rs : List TextRow) (b : ℕ) → Here rs b → rowAt rs b ≡ rowRest rs
 here [] b h = absurd h
 here (r ∷ rs) b h = rw (le-leb (r .0 .0) b (h .0), le-leb b (r .0 .1) (h .1))
 

@@ -15,7 +15,7 @@ use Rattle.writing.specs.Lists.{flat, sum}
 use Rattle.writing.specs.Handed.{AckHanded, Handed, publish, ack, subscribe, ping, Given, one, lent, pairs, several, Givens, publishGiven, subscribeGiven, ackGiven, items, tag, entries, filters, addsUp, sorted, nothing, blockBelongs, filtersBelong, belongs}
 use Rattle.writing.specs.Size.{isPlain}
 use Rattle.writing.specs.Order.{named, asked}
-use Rattle.writing.specs.Refuse.{Sorted, Nothing, InBlock, Belongs, Unnamed, Unasked}
+use Rattle.writing.specs.Refuse.{Sorted, NothingGiven, InBlock, Belongs, Unnamed, Unasked}
 use Rattle.writing.proofs.Tests.{and-when, or-when, not-when, nil-when, eq-when, eq-not, all-when}
 
 -- ---- what belongs together
@@ -27,7 +27,7 @@ sorted-when (pairs r) =
     and-when (addsUp r) (eqb (length (r .lengths) % 2) 0) (eq-when (sum (r .lengths)) (length (r .bytes))) (eq-when (length (r .lengths) % 2) 0)
 sorted-when (several ns) = (λ _. tt, λ _. refl)
 
-nothing-when : (g : Given) → (nothing g ≡ true) ↔ Nothing g
+nothing-when : (g : Given) → (nothing g ≡ true) ↔ NothingGiven g
 nothing-when (one none) = (λ _. refl, λ _. refl)
 nothing-when (one (some n)) = (λ e. absurd (no-way e), λ e. cc)
 nothing-when (lent l) = and-when (not (l .on)) (isEmpty (l .bytes)) (not-when (l .on)) (nil-when (l .bytes))
@@ -86,7 +86,7 @@ plain-when h = and-when (eqb (h .reason) 0) (not (h .block)) (eq-when (h .reason
 
 -- ---- an absent block
 
-nothing-items : (g : Given) → Nothing g → items g ≡ []
+nothing-items : (g : Given) → NothingGiven g → items g ≡ []
 nothing-items (one o) e = rw e
 nothing-items (lent l) (e, _) = rw e
 nothing-items (pairs r) (_, e) = rw e

@@ -16,7 +16,7 @@ use Rattle.reading.proofs.Fields.{text-fine}
 use Rattle.writing.specs.Lists.{flat}
 use Rattle.writing.specs.Size.{most}
 use Rattle.writing.specs.Order.{Test, judge, Field, raw, word, filter, fieldTests, small, limitTests}
-use Rattle.writing.specs.Refuse.{Sound, Faulty, long-raw, long-word, long-filter, bad-word, bad-filter, bad-rule, bad-qos, FirstFault, Small, TooLarge, Within}
+use Rattle.writing.specs.Refuse.{Writable, Faulty, long-raw, long-word, long-filter, bad-word, bad-filter, bad-rule, bad-qos, FirstFault, Small, TooLarge, Within}
 use Rattle.writing.proofs.Tests.{fails-when}
 use Rattle.writing.specs.Refuse as r
 
@@ -45,7 +45,7 @@ field-fault (bad-filter {s} h n) = rw (leb-yes (length s) 65535 h, text-no s n)
 field-fault (bad-rule {s} h u p) = rw (leb-yes (length s) 65535 h, text-fine s .1 u, p)
 field-fault (bad-qos {s} h u p q) = rw (leb-yes (length s) 65535 h, text-fine s .1 u, p, q)
 
-pub field-pass : (f : Field) → Sound f → judge (fieldTests f) ≡ got tt
+pub field-pass : (f : Field) → Writable f → judge (fieldTests f) ≡ got tt
 unfolding judge
 field-pass (raw s) h = rw (leb-yes (length s) 65535 h)
 field-pass (word s) (h, u) = rw (leb-yes (length s) 65535 h, text-fine s .1 u)
@@ -55,7 +55,7 @@ field-pass (filter s o) (h, u, p, q) = rw (leb-yes (length s) 65535 h, text-fine
 pub fields-more : (f : Field) (fs : List Field) → judge (flat fieldTests (f ∷ fs)) ≡ (judge (fieldTests f) >> judge (flat fieldTests fs))
 fields-more f fs = judge-append (fieldTests f) (flat fieldTests fs)
 
-pub fields-pass : {fs : List Field} → Each Sound fs → judge (flat fieldTests fs) ≡ got tt
+pub fields-pass : {fs : List Field} → Each Writable fs → judge (flat fieldTests fs) ≡ got tt
 unfolding judge
 fields-pass nil = refl
 fields-pass (_&_ {a = f} {l = fs} p ps) = rw (fields-more f fs, field-pass f p) (fields-pass ps)

@@ -21,7 +21,7 @@ use Rattle.writing.specs.Spell.{wide, propsBytes, counted, block}
 use Rattle.writing.specs.Size.{most, isPlain}
 use Rattle.writing.specs.Order.{Field, givenFields, propsFields, filterField, fieldsOf, numbersOf, named, asked}
 use Rattle.writing.specs.Write.{firsts, firstOf, firstByte, identBytes, bodyBytes, frameBytes}
-use Rattle.writing.specs.Refuse.{InBlock, Belongs, Sound, Small, Accepts}
+use Rattle.writing.specs.Refuse.{InBlock, Belongs, Writable, Small, Accepts}
 use Rattle.writing.specs.Meant.{said, PublishTyped, AckTyped, SubscribeTyped, Typed}
 use Rattle.writing.proofs.Each.{each-head, each-tail, each-append, each-left, each-right, each-flat, each-piece, rows-of, lookup-each}
 use Rattle.writing.proofs.Tests.{and-left, and-right, all-when, passes-when}
@@ -97,7 +97,7 @@ block-fits b h = omega (arith, simp length-append at h)
 
 -- ---- Publish
 
-publish-rows : (h : PublishHanded) → PublishTyped h → Each (λ r. Each Sound (givenFields (r .1) (publishGiven h (r .0)))) publishPlace → Each Small (h .subscriptions) → Each (RightRow publishPlace (publishGiven h)) publishPlace
+publish-rows : (h : PublishHanded) → PublishTyped h → Each (λ r. Each Writable (givenFields (r .1) (publishGiven h (r .0)))) publishPlace → Each Small (h .subscriptions) → Each (RightRow publishPlace (publishGiven h)) publishPlace
 unfolding publishPlace publishGiven
 publish-rows h t (_ & (_ & (_ & (a & (b & (c & (_ & (d & nil)))))))) q = rows-of (RightRow publishPlace (publishGiven h)) publishPlace
     (record { known = refl; small = omega arith; suits = one-suits _ (λ n b. an-u8 b) (h .format) (below-each 256 (h .format) (t .format)) }
@@ -142,7 +142,7 @@ module _ (d q r : ℕ) (hd : d < 2) (hq : q < 3) (hr : r < 2) where
   flags-retain : flags % 2 ≡ r
   flags-retain = omega arith
 
-publish-fields : (h : PublishHanded) → PublishTyped h → Each Sound (fieldsOf (publish h)) → named (publish h) ≡ true → Each Small (h .subscriptions) → length (bodyBytes (publish h)) ≤ most
+publish-fields : (h : PublishHanded) → PublishTyped h → Each Writable (fieldsOf (publish h)) → named (publish h) ≡ true → Each Small (h .subscriptions) → length (bodyBytes (publish h)) ≤ most
     → Says (Fields aPublish (firstByte (publish h))) (said (publish h)) (bodyBytes (publish h))
 unfolding firstByte bodyBytes fieldsOf propsFields said block
 publish-fields h t p i q l =
@@ -170,14 +170,14 @@ publish-kind h t = (rw (flags-kind (h .dup) (h .qos) (h .retain) (t .dup) (t .qo
 
 -- ---- acknowledgements
 
-ack-rows : (k : ℕ) (h : AckHanded) → AckTyped k h → Each (λ r. Each Sound (givenFields (r .1) (ackGiven h (r .0)))) ackPlace → Each (RightRow ackPlace (ackGiven h)) ackPlace
+ack-rows : (k : ℕ) (h : AckHanded) → AckTyped k h → Each (λ r. Each Writable (givenFields (r .1) (ackGiven h (r .0)))) ackPlace → Each (RightRow ackPlace (ackGiven h)) ackPlace
 unfolding ackPlace ackGiven
 ack-rows k h t (a & (b & nil)) = rows-of (RightRow ackPlace (ackGiven h)) ackPlace
     (record { known = refl; small = omega arith; suits = lent-suits (h .text) (a-text (t .text)) a }
     & (record { known = refl; small = omega arith; suits = pairs-suit (h .user) (t .user) b }
     & nil))
 
-ack-rest : (k : ℕ) (h : AckHanded) (t : AckTyped k h) → Octets (t .reasons) → Each (InBlock (h .block) (ackGiven h)) ackPlace → Each Sound (propsFields ackPlace (ackGiven h))
+ack-rest : (k : ℕ) (h : AckHanded) (t : AckTyped k h) → Octets (t .reasons) → Each (InBlock (h .block) (ackGiven h)) ackPlace → Each Writable (propsFields ackPlace (ackGiven h))
     → (b : Bool) → isPlain h ≡ b → length (cond b [] (h .reason ∷ block ackPlace (ackGiven h))) ≤ most
     → Says (AckRest (t .reasons)) (h .reason, ackOf (map propOf (entries ackPlace (ackGiven h)))) (cond b [] (h .reason ∷ block ackPlace (ackGiven h)))
 unfolding propsFields block
@@ -188,7 +188,7 @@ ack-rest k h t o w p false e l =
     let s = says-block ackPlace ackOf (ackGiven h) (ack-rows k h t (each-flat _ ackPlace p)) (block-fits (propsBytes ackPlace (ackGiven h)) (omega arith)) in
     record { spelled = full (t .reason) (s .spelled); octets = is-in Octet (h .reason) o (t .reason) & s .octets }
 
-ack-fields : (k : ℕ) (h : AckHanded) (t : AckTyped k h) → First k → Octets (t .reasons) → Belongs (ack k h) → Each Sound (fieldsOf (ack k h)) → length (bodyBytes (ack k h)) ≤ most
+ack-fields : (k : ℕ) (h : AckHanded) (t : AckTyped k h) → First k → Octets (t .reasons) → Belongs (ack k h) → Each Writable (fieldsOf (ack k h)) → length (bodyBytes (ack k h)) ≤ most
     → Says (Fields (anAck (t .reasons)) (firstOf k)) (said (ack k h)) (bodyBytes (ack k h))
 unfolding fieldsOf bodyBytes said
 ack-fields k h t f o w p l =
@@ -198,7 +198,7 @@ ack-fields k h t f o w p l =
 
 -- ---- Subscribe
 
-subscribe-rows : (h : SubscribeHanded) → SubscribeTyped h → Each (λ r. Each Sound (givenFields (r .1) (subscribeGiven h (r .0)))) subscribePlace → Each Small (numbersOf (subscribe h)) → Each (RightRow subscribePlace (subscribeGiven h)) subscribePlace
+subscribe-rows : (h : SubscribeHanded) → SubscribeTyped h → Each (λ r. Each Writable (givenFields (r .1) (subscribeGiven h (r .0)))) subscribePlace → Each Small (numbersOf (subscribe h)) → Each (RightRow subscribePlace (subscribeGiven h)) subscribePlace
 unfolding subscribePlace subscribeGiven
 subscribe-rows h t (_ & (b & nil)) q = rows-of (RightRow subscribePlace (subscribeGiven h)) subscribePlace
     (record { known = refl; small = omega arith; suits = one-suits Small (λ n s. a-number s) (h .subscription) q }
@@ -214,7 +214,7 @@ some-mapped : (fs : List (List ℕ × ℕ)) → not (isEmpty fs) ≡ true → so
 some-mapped [] e = e
 some-mapped (f ∷ fs) e = refl
 
-subscribe-fields : (h : SubscribeHanded) → SubscribeTyped h → Each Sound (fieldsOf (subscribe h)) → Each Small (numbersOf (subscribe h)) → asked (subscribe h) ≡ true → length (bodyBytes (subscribe h)) ≤ most
+subscribe-fields : (h : SubscribeHanded) → SubscribeTyped h → Each Writable (fieldsOf (subscribe h)) → Each Small (numbersOf (subscribe h)) → asked (subscribe h) ≡ true → length (bodyBytes (subscribe h)) ≤ most
     → Says (Fields aSubscribe (firstOf 8)) (said (subscribe h)) (bodyBytes (subscribe h))
 unfolding fieldsOf propsFields bodyBytes said filters block
 subscribe-fields h t p q a l =

@@ -19,7 +19,7 @@ use Rattle.writing.specs.Handed.{Lent, Run, one, lent, pairs, several, G
 use Rattle.writing.specs.Spell.{string, numeral, value, entry, rowBytes, propsBytes, block, filterBytes}
 use Rattle.writing.specs.Size.{most}
 use Rattle.writing.specs.Order.{word, stringField, filterField, orNone}
-use Rattle.writing.specs.Refuse.{Short, Sound, Small}
+use Rattle.writing.specs.Refuse.{Short, Writable, Small}
 use Rattle.writing.specs.Meant.{Below}
 use Rattle.writing.proofs.Each.{each-imp, each-both, map-each, flat-each, each-piece, flat-append}
 use Rattle.writing.proofs.Says.{Says, says-map, says-only, says-then, says-sized, says-is, says-many, says-byte, says-wide, says-short, says-counted}
@@ -34,7 +34,7 @@ says-string P {s} p o h = says-sized (says-wide 2 (length s) (omega arith)) (say
 pub says-bytes : {s : List ℕ} → Octets s → Short s → Says Bytes s (string s)
 says-bytes o h = says-string Any tt o h
 
-says-text : {s : List ℕ} → Octets s → Sound (word s) → Says Text s (string s)
+says-text : {s : List ℕ} → Octets s → Writable (word s) → Says Text s (string s)
 says-text o (h, u) = says-string Utf8 u o h
 
 -- ---- values
@@ -45,9 +45,9 @@ pub data Suits : Form → Value → Type 0 where
   an-u16 : {n : ℕ} → n < 65536 → Suits u16 (num n)
   an-u32 : {n : ℕ} → n < 4294967296 → Suits u32 (num n)
   a-number : {n : ℕ} → Small n → Suits number (num n)
-  a-text : {s : List ℕ} → Octets s → Sound (word s) → Suits text (str s)
+  a-text : {s : List ℕ} → Octets s → Writable (word s) → Suits text (str s)
   a-bytes : {s : List ℕ} → Octets s → Short s → Suits bytes (str s)
-  a-pair : {a b : List ℕ} → Octets a → Sound (word a) → Octets b → Sound (word b) → Suits pair (duo a b)
+  a-pair : {a b : List ℕ} → Octets a → Writable (word a) → Octets b → Writable (word b) → Suits pair (duo a b)
 
 says-value : {f : Form} {v : Value} → Suits f v → Says (Spelt f) v (value f v)
 unfolding value numeral
@@ -109,19 +109,19 @@ pub below-each : (m : ℕ) (o : Option ℕ) → Below m o → Each (λ (n : ℕ)
 below-each m none b = nil
 below-each m (some n) b = b & nil
 
-pub lent-suits : {f : Form} (l : Lent) → (Sound (stringField f (l .bytes)) → Suits f (str (l .bytes))) → Each Sound (cond (l .on) (stringField f (l .bytes) ∷ []) []) → Each (Suits f) (items (lent l))
+pub lent-suits : {f : Form} (l : Lent) → (Writable (stringField f (l .bytes)) → Suits f (str (l .bytes))) → Each Writable (cond (l .on) (stringField f (l .bytes) ∷ []) []) → Each (Suits f) (items (lent l))
 lent-suits {f} l s = go (l .on)
   where
-    go : (t : Bool) → Each Sound (cond t (stringField f (l .bytes) ∷ []) []) → Each (Suits f) (cond t (str (l .bytes) ∷ []) [])
+    go : (t : Bool) → Each Writable (cond t (stringField f (l .bytes) ∷ []) []) → Each (Suits f) (cond t (str (l .bytes) ∷ []) [])
     go true (p & nil) = s p & nil
     go false p = nil
 
-duos-suit : (l : List (List ℕ)) → Each Octets l → Each Sound (map word l) → Each (Suits pair) (duos l)
+duos-suit : (l : List (List ℕ)) → Each Octets l → Each Writable (map word l) → Each (Suits pair) (duos l)
 duos-suit [] o p = nil
 duos-suit (a ∷ []) o p = nil
 duos-suit (a ∷ b ∷ l) (o & (o′ & os)) (p & (p′ & ps)) = a-pair o p o′ p′ & duos-suit l os ps
 
-pub pairs-suit : (r : Run) → Octets (r .bytes) → Each Sound (map word (strings r)) → Each (Suits pair) (items (pairs r))
+pub pairs-suit : (r : Run) → Octets (r .bytes) → Each Writable (map word (strings r)) → Each (Suits pair) (items (pairs r))
 pairs-suit r o p = duos-suit (strings r) (each-piece (r .lengths) o) p
 
 pub several-suit : {ns : List ℕ} → Each Small ns → Each (Suits number) (items (several ns))
@@ -144,11 +144,11 @@ module _ (o : ℕ) where
       let e : o % 64 / 8 % 2 ≡ o / 8 % 2 = omega arith in
       rw (low-qos, d, e, low-rule)
 
-says-filter : (f : List ℕ × ℕ) → Octets (f .0) × Sound (filterField f) → Says FilterOf (mkFilter f) (filterBytes f)
+says-filter : (f : List ℕ × ℕ) → Octets (f .0) × Writable (filterField f) → Says FilterOf (mkFilter f) (filterBytes f)
 says-filter (s, o) (b, (h, u, p, q)) =
     let p′ : ruleFine (o % 64) ≡ true = rw (low-rule o) p in
     let q′ : qosFine (o % 64) ≡ true = rw (low-qos o) q in
     rw (← low-filter o s) (says-map mkFilter (says-then (says-text b (h, u)) (says-only qosFine q′ (says-only ruleFine p′ (says-byte (o % 64) (omega arith))))))
 
-pub says-filters : (fs : List (List ℕ × ℕ)) → Each (λ f. Octets (f .0)) fs → Each Sound (map filterField fs) → Says (Many FilterOf) (map mkFilter fs) (flat filterBytes fs)
+pub says-filters : (fs : List (List ℕ × ℕ)) → Each (λ f. Octets (f .0)) fs → Each Writable (map filterField fs) → Says (Many FilterOf) (map mkFilter fs) (flat filterBytes fs)
 says-filters fs o p = says-many mkFilter filterBytes fs (each-imp says-filter (each-both o (map-each filterField fs p)))

@@ -20,7 +20,7 @@ use Rattle.writing.specs.Handed.{Handed, belongs}
 use Rattle.writing.specs.Size.{most, restIs, sizeIs}
 use Rattle.writing.specs.Order.{judge, Field, raw, word, filter, fieldsOf, small, numbersOf, named, asked, limitTests, permit}
 use Rattle.writing.specs.Write.{frameBytes, sizeOf, writeOf, answerOf}
-use Rattle.writing.specs.Refuse.{Belongs, Short, Sound, Faulty, long-raw, long-word, long-filter, bad-word, bad-filter, bad-rule, bad-qos, FirstFault, Small, TooLarge, Unnamed, Unasked, Within, Countable, Refuses, field, too-large, no-name, number, none-asked, no-room, Accepts, Unsized, Sized}
+use Rattle.writing.specs.Refuse.{Belongs, Short, Writable, Faulty, long-raw, long-word, long-filter, bad-word, bad-filter, bad-rule, bad-qos, FirstFault, Small, TooLarge, Unnamed, Unasked, Within, Countable, Refuses, field, too-large, no-name, number, none-asked, no-room, Accepts, Unsized, HasSize}
 use Rattle.writing.proofs.Tests.{passes-when, fails-when, decide-by, le-or}
 use Rattle.writing.proofs.Belong.{belongs-when, unnamed-when, unasked-when}
 use Rattle.writing.proofs.Judge.{fields-pass, fields-fault, numbers-pass, numbers-fault, limit-pass, limit-fault}
@@ -47,33 +47,33 @@ decide-word s = go (le-or (length s) 65535) (holds-or (isText s) (text-fine s))
     go (inl h) (inl u) = inl (h, u)
     go (inl h) (inr n) = inr (inr (h, n))
 
-decide-field : (f : Field) → Sound f ⊎ ((k : Refusal) × Faulty f k)
+decide-field : (f : Field) → Writable f ⊎ ((k : Refusal) × Faulty f k)
 decide-field (raw s) = go (le-or (length s) 65535)
   where
-    go : (Short s ⊎ (65535 < length s)) → Sound (raw s) ⊎ ((k : Refusal) × Faulty (raw s) k)
+    go : (Short s ⊎ (65535 < length s)) → Writable (raw s) ⊎ ((k : Refusal) × Faulty (raw s) k)
     go (inl h) = inl h
     go (inr l) = inr (nr 18 (length s ∷ []), long-raw l)
 decide-field (word s) = go (decide-word s)
   where
-    go : ((Short s × Utf8 s) ⊎ ((65535 < length s) ⊎ (Short s × (Utf8 s → ⊥)))) → Sound (word s) ⊎ ((k : Refusal) × Faulty (word s) k)
+    go : ((Short s × Utf8 s) ⊎ ((65535 < length s) ⊎ (Short s × (Utf8 s → ⊥)))) → Writable (word s) ⊎ ((k : Refusal) × Faulty (word s) k)
     go (inl h) = inl h
     go (inr (inl l)) = inr (nr 18 (length s ∷ []), long-word l)
     go (inr (inr t)) = inr (nr 9 [], bad-word (t .0) (t .1))
 decide-field (filter s o) = go (decide-word s) (either (ruleFine o)) (either (qosFine o))
   where
     go : ((Short s × Utf8 s) ⊎ ((65535 < length s) ⊎ (Short s × (Utf8 s → ⊥)))) → ((ruleFine o ≡ true) ⊎ (ruleFine o ≡ false)) → ((qosFine o ≡ true) ⊎ (qosFine o ≡ false))
-        → Sound (filter s o) ⊎ ((k : Refusal) × Faulty (filter s o) k)
+        → Writable (filter s o) ⊎ ((k : Refusal) × Faulty (filter s o) k)
     go (inr (inl l)) p q = inr (nr 18 (length s ∷ []), long-filter l)
     go (inr (inr t)) p q = inr (nr 9 [], bad-filter (t .0) (t .1))
     go (inl t) (inr p) q = inr (nr 14 (3 ∷ []), bad-rule (t .0) (t .1) p)
     go (inl t) (inl p) (inr q) = inr (nr 11 (3 ∷ []), bad-qos (t .0) (t .1) p q)
     go (inl t) (inl p) (inl q) = inl (t .0, t .1, p, q)
 
-decide-fields : (fs : List Field) → Each Sound fs ⊎ ((k : Refusal) × FirstFault k fs)
+decide-fields : (fs : List Field) → Each Writable fs ⊎ ((k : Refusal) × FirstFault k fs)
 decide-fields [] = inl nil
 decide-fields (f ∷ fs) = go (decide-field f) (decide-fields fs)
   where
-    go : (Sound f ⊎ ((k : Refusal) × Faulty f k)) → (Each Sound fs ⊎ ((k : Refusal) × FirstFault k fs)) → Each Sound (f ∷ fs) ⊎ ((k : Refusal) × FirstFault k (f ∷ fs))
+    go : (Writable f ⊎ ((k : Refusal) × Faulty f k)) → (Each Writable fs ⊎ ((k : Refusal) × FirstFault k fs)) → Each Writable (f ∷ fs) ⊎ ((k : Refusal) × FirstFault k (f ∷ fs))
     go (inr t) m = inr (t .0, r.FirstFault.here (t .1))
     go (inl p) (inl ps) = inl (p & ps)
     go (inl p) (inr t) = inr (t .0, r.FirstFault.later p (t .1))
@@ -103,7 +103,7 @@ module _ (limit : Option ℕ) (room : ℕ) (h : Handed) where
   decide = go (holds-or (belongs h) (belongs-when h)) (decide-fields (fieldsOf h)) (le-or (restIs h) most) (decide-limit limit (sizeIs h)) (fails-or (named h) (unnamed-when h))
       (decide-numbers (numbersOf h)) (fails-or (asked h) (unasked-when h)) (le-or (sizeIs h) room)
     where
-      go : (Belongs h ⊎ (Belongs h → ⊥)) → (Each Sound (fieldsOf h) ⊎ ((k : Refusal) × FirstFault k (fieldsOf h))) → (Small (restIs h) ⊎ (most < restIs h))
+      go : (Belongs h ⊎ (Belongs h → ⊥)) → (Each Writable (fieldsOf h) ⊎ ((k : Refusal) × FirstFault k (fieldsOf h))) → (Small (restIs h) ⊎ (most < restIs h))
           → (Within limit (sizeIs h) ⊎ ((m : ℕ) × (limit ≡ some m) × (m < sizeIs h))) → ((Unnamed h → ⊥) ⊎ Unnamed h) → (Each Small (numbersOf h) ⊎ TooLarge (numbersOf h))
           → ((Unasked h → ⊥) ⊎ Unasked h) → ((sizeIs h ≤ room) ⊎ (room < sizeIs h)) → Accepts limit room h ⊎ ((k : Refusal) × Refuses limit room h k)
       go (inr w) f l m i n s o = inr (nr 20 [], r.Refuses.mismatch w)
@@ -221,15 +221,15 @@ module _ (limit : Option ℕ) (room : ℕ) (h : Handed) (b : List ℕ) (e : writ
 -- ---- size, asked alone
 
 module _ (h : Handed) where
-  decide-size : Sized h ⊎ ((k : Refusal) × Unsized h k)
+  decide-size : HasSize h ⊎ ((k : Refusal) × Unsized h k)
   decide-size = go (holds-or (belongs h) (belongs-when h)) (le-or (restIs h) most)
     where
-      go : (Belongs h ⊎ (Belongs h → ⊥)) → (Small (restIs h) ⊎ (most < restIs h)) → Sized h ⊎ ((k : Refusal) × Unsized h k)
+      go : (Belongs h ⊎ (Belongs h → ⊥)) → (Small (restIs h) ⊎ (most < restIs h)) → HasSize h ⊎ ((k : Refusal) × Unsized h k)
       go (inr w) l = inr (nr 20 [], r.Unsized.mismatch w)
       go (inl w) (inr l) = inr (nr 17 [], r.Unsized.too-long w l)
       go (inl w) (inl l) = inl (w, l)
 
-  sized-got : Sized h → sizeOf h ≡ got (sizeIs h)
+  sized-got : HasSize h → sizeOf h ≡ got (sizeIs h)
   unfolding sizeOf
   sized-got (w, l) = rw (belongs-when h .1 w, leb-yes (restIs h) most l)
 
@@ -239,7 +239,7 @@ module _ (h : Handed) where
   unsized-bad _ (r.Unsized.too-long w l) = rw (belongs-when h .1 w, leb-no (restIs h) most l)
 
   -- the size is told exactly when what is handed over belongs together and R can be written
-  pub sized-when : (n : ℕ) → (sizeOf h ≡ got n) ↔ (Sized h × (sizeIs h ≡ n))
+  pub sized-when : (n : ℕ) → (sizeOf h ≡ got n) ↔ (HasSize h × (sizeIs h ≡ n))
   sized-when = got-when (sizeOf h) (sizeIs h) sized-got unsized-bad decide-size
 
   -- it is refused exactly as 20, then 17 for R say

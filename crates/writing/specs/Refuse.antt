@@ -29,15 +29,15 @@ Sorted (pairs r) = AddsUp r × (length (r .lengths) % 2 ≡ 0)
 Sorted (several ns) = Unit {0}
 
 -- nothing at all
-abbrev pub Nothing : Given → Type 0
-Nothing (one o) = o ≡ none
-Nothing (lent l) = (l .on ≡ false) × (l .bytes ≡ [])
-Nothing (pairs r) = (r .bytes ≡ []) × (r .lengths ≡ [])
-Nothing (several ns) = ns ≡ []
+abbrev pub NothingGiven : Given → Type 0
+NothingGiven (one o) = o ≡ none
+NothingGiven (lent l) = (l .on ≡ false) × (l .bytes ≡ [])
+NothingGiven (pairs r) = (r .bytes ≡ []) × (r .lengths ≡ [])
+NothingGiven (several ns) = ns ≡ []
 
 -- nothing for an absent block
 abbrev pub InBlock : Bool → Givens → ℕ × Form → Type 0
-InBlock block g r = Sorted (g (r .0)) × (block ≡ false → Nothing (g (r .0)))
+InBlock block g r = Sorted (g (r .0)) × (block ≡ false → NothingGiven (g (r .0)))
 
 -- 01, row 20, does not apply
 abbrev pub Belongs : Handed → Type 0
@@ -53,10 +53,10 @@ abbrev pub Short : List ℕ → Type 0
 Short s = length s ≤ 65535
 
 -- a field that can be written
-abbrev pub Sound : Field → Type 0
-Sound (raw s) = Short s
-Sound (word s) = Short s × Utf8 s
-Sound (filter s o) = Short s × Utf8 s × (ruleFine o ≡ true) × (qosFine o ≡ true)
+abbrev pub Writable : Field → Type 0
+Writable (raw s) = Short s
+Writable (word s) = Short s × Utf8 s
+Writable (filter s o) = Short s × Utf8 s × (ruleFine o ≡ true) × (qosFine o ≡ true)
 
 -- a field that cannot, and the refusal that it is given
 pub data Faulty : Field → Refusal → Type 0 where
@@ -71,7 +71,7 @@ pub data Faulty : Field → Refusal → Type 0 where
 -- the first field that cannot be written is given k
 pub data FirstFault (k : Refusal) : List Field → Type 0 where
   here : {f : Field} {fs : List Field} → Faulty f k → FirstFault k (f ∷ fs)
-  later : {f : Field} {fs : List Field} → Sound f → FirstFault k fs → FirstFault k (f ∷ fs)
+  later : {f : Field} {fs : List Field} → Writable f → FirstFault k fs → FirstFault k (f ∷ fs)
 
 -- ---- the other rows
 
@@ -108,14 +108,14 @@ Within (some m) n = n ≤ m
 -- no row up to 17 for R applies
 pub record Countable (h : Handed) : Type 0 where
   pub belongs : Belongs h
-  pub fields : Each Sound (fieldsOf h)
+  pub fields : Each Writable (fieldsOf h)
   pub rest : Small (restIs h)
 
 -- 01, writing order: a row in its turn, if no row before it applies
 pub data Refuses (limit : Option ℕ) (room : ℕ) (h : Handed) : Refusal → Type 0 where
   mismatch : (Belongs h → ⊥) → Refuses limit room h (nr 20 [])
   field : {k : Refusal} → Belongs h → FirstFault k (fieldsOf h) → Refuses limit room h k
-  too-long : Belongs h → Each Sound (fieldsOf h) → most < restIs h → Refuses limit room h (nr 17 [])
+  too-long : Belongs h → Each Writable (fieldsOf h) → most < restIs h → Refuses limit room h (nr 17 [])
   too-large : {m : ℕ} → Countable h → limit ≡ some m → m < sizeIs h → Refuses limit room h (nr 16 (sizeIs h ∷ m ∷ []))
   no-name : Countable h → Within limit (sizeIs h) → Unnamed h → Refuses limit room h (nr 12 [])
   number : Countable h → Within limit (sizeIs h) → (Unnamed h → ⊥) → TooLarge (numbersOf h) → Refuses limit room h (nr 17 [])
@@ -137,5 +137,5 @@ pub data Unsized (h : Handed) : Refusal → Type 0 where
   too-long : Belongs h → most < restIs h → Unsized h (nr 17 [])
 
 -- and is told otherwise: what is handed over belongs together, and R can be written
-abbrev pub Sized : Handed → Type 0
-Sized h = Belongs h × Small (restIs h)
+abbrev pub HasSize : Handed → Type 0
+HasSize h = Belongs h × Small (restIs h)

@@ -17,7 +17,7 @@ use Rattle.writing.specs.Spell.{wide, spellStep, spell, short, string, numeral,
 use Rattle.writing.specs.Size.{most, propsSize, restIs, sizeIs}
 use Rattle.writing.specs.Order.{judge, raw, propsFields, fieldsOf, permit}
 use Rattle.writing.specs.Write.{firsts, firstOf, firstByte, bodyBytes, frameBytes, sizeOf, writeOf, outOf}
-use Rattle.writing.specs.Refuse.{Sound, Refuses}
+use Rattle.writing.specs.Refuse.{Writable, Refuses}
 use Rattle.writing.proofs.Belong.{belongs-when}
 use Rattle.writing.proofs.Verdict.{refused-when}
 use Rattle.writing.specs.Refuse as r
@@ -220,11 +220,11 @@ lengthy-belongs : (n : ℕ) → belongs (publish (lengthy n)) ≡ true
 unfolding belongs blockBelongs publishPlace publishGiven
 lengthy-belongs n = refl
 
-lengthy-sound : (n : ℕ) → Each Sound (fieldsOf (publish (lengthy n)))
+lengthy-sound : (n : ℕ) → Each Writable (fieldsOf (publish (lengthy n)))
 unfolding fieldsOf propsFields publishPlace publishGiven
 lengthy-sound n = topic & nil
   where
-    topic : Sound (raw a)
+    topic : Writable (raw a)
     topic = omega arith
 
 lengthy-rest : (n : ℕ) → restIs (publish (lengthy n)) ≡ 4 + n

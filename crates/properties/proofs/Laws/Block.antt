@@ -16,7 +16,7 @@ use Rattle.positions.proofs.At.{sized-bad, sized-crossed, sized-at, span-at, pa
 use Rattle.positions.proofs.Behind.{Way, short, crosses, stands, way, Stands, read-stands}
 use Rattle.positions.proofs.Trails.{trails-num}
 use Rattle.positions.proofs.Position.{got-left, got-within, bad-left, left-bad}
-use Rattle.properties.specs.Block.{roomOf, Row, loopFrom, filledAt}
+use Rattle.properties.specs.Block.{extentOf, Row, loopFrom, filledAt}
 use Rattle.properties.proofs.Laws.Fold.{Lawful, blockAs, loopOn, block-none, block-some}
 
 bad-inj : {A : Type 0} {k k′ : Refusal} → _≡_ {A = Fit A} (bad k) (bad k′) → k ≡ k′
@@ -71,23 +71,23 @@ module _ {A : Type 0} (q : ℕ → Filler A) (s : List ℕ) (at : ℕ) where
 -- ---- where a block stands
 
 module _ (s : List ℕ) (at : ℕ) where
-  pub room-short : (k : Refusal) → bad k ≡ lengthAt s at → bad k ≡ fromAt (roomOf (length s)) s at
-  unfolding roomOf
+  pub room-short : (k : Refusal) → bad k ≡ lengthAt s at → bad k ≡ fromAt (extentOf (length s)) s at
+  unfolding extentOf
   room-short = sized-short (stringFit asPlaces anyBytes cut) s at
 
-  pub room-over : (l m : ℕ) → got (l, m) ≡ lengthAt s at → length s < m + l → bad (nr 8 (l ∷ [])) ≡ fromAt (roomOf (length s)) s at
-  unfolding roomOf
+  pub room-over : (l m : ℕ) → got (l, m) ≡ lengthAt s at → length s < m + l → bad (nr 8 (l ∷ [])) ≡ fromAt (extentOf (length s)) s at
+  unfolding extentOf
   room-over = sized-over (stringFit asPlaces anyBytes cut) s at
 
-  pub room-within : (l m : ℕ) → got (l, m) ≡ lengthAt s at → m + l ≤ length s → got (record { start = m; len = l }, m + l) ≡ fromAt (roomOf (length s)) s at
-  unfolding roomOf stringFit handFit isFit
+  pub room-within : (l m : ℕ) → got (l, m) ≡ lengthAt s at → m + l ≤ length s → got (record { start = m; len = l }, m + l) ≡ fromAt (extentOf (length s)) s at
+  unfolding extentOf stringFit handFit isFit
   room-within l m e o = sym (sized-within (stringFit asPlaces anyBytes cut) s at l m e o ∙ rw (span-at s l m o))
 
   -- a block that has room stands
-  room-stands : (z : Span × ℕ) → got z ≡ fromAt (roomOf (length s)) s at → Stands (lengthAt s at) (length s) z
-  room-stands = read-stands (lengthAt s at) (length s) (fromAt (roomOf (length s)) s at) room-short room-over room-within
+  room-stands : (z : Span × ℕ) → got z ≡ fromAt (extentOf (length s)) s at → Stands (lengthAt s at) (length s) z
+  room-stands = read-stands (lengthAt s at) (length s) (fromAt (extentOf (length s)) s at) room-short room-over room-within
 
-  pub room-inside : {z : Span × ℕ} → got z ≡ fromAt (roomOf (length s)) s at → z .1 ≤ length s
+  pub room-inside : {z : Span × ℕ} → got z ≡ fromAt (extentOf (length s)) s at → z .1 ≤ length s
   room-inside {z = z} e = room-stands z e .within
 
   -- ---- the block there, of a row
@@ -97,7 +97,7 @@ module _ (s : List ℕ) (at : ℕ) where
     blockAt = fromAt (blockOf asPlaces (w .place) (blockAs w) (length s)) s at
 
     -- what has no room is no block
-    pub block-bad : {k : Refusal} → bad k ≡ fromAt (roomOf (length s)) s at → bad k ≡ blockAt
+    pub block-bad : {k : Refusal} → bad k ≡ fromAt (extentOf (length s)) s at → bad k ≡ blockAt
     unfolding blockOf
     block-bad {k = k} e = go (way (lengthAt s at) (length s))
       where
@@ -106,7 +106,7 @@ module _ (s : List ℕ) (at : ℕ) where
         go (crosses l m v o) = ap bad (bad-inj (e ∙ sym (room-over l m v o))) ∙ sized-over (handFit (blockAs w) (propertiesFit asPlaces (w .place))) s at l m v o
         go (stands l m v o) = absurd (bad-got (e ∙ sym (room-within l m v o)))
 
-  module _ {w : Row} (W : Lawful w) {z : Span × ℕ} (r : got z ≡ fromAt (roomOf (length s)) s at) where
+  module _ {w : Row} (W : Lawful w) {z : Span × ℕ} (r : got z ≡ fromAt (extentOf (length s)) s at) where
     h : Stands (lengthAt s at) (length s) z
     h = room-stands z r
 
