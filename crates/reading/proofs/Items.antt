@@ -99,15 +99,15 @@ module _ (s : List ℕ) (p : Span) where
       like-is (valuesAt asPlaces s p place i >>= nthOf n) (valuesAt asBytes s p place i >>= nthOf n) (onGot (sayVal s)) (λ _. refl) (λ _. refl)
       (like-bind (valuesAt asPlaces s p place i) (valuesAt asBytes s p place i) (nthOf n) (nthOf n) (values-like place i) λ vs ws _ _ r. nth-like (sayVal s) n vs ws r)
 
-  nth-user : (place : Place) (n : ℕ) → onGot (sayVal s) (userAt asPlaces s p place n) ≡ userAt asBytes s p place n
+  pub nth-user : (place : Place) (n : ℕ) → onGot (sayVal s) (userAt asPlaces s p place n) ≡ userAt asBytes s p place n
   unfolding userAt
   nth-user place n = nth-value place _ n
 
-  nth-subscription : (n : ℕ) → onGot (sayVal s) (subscriptionAt asPlaces s p n) ≡ subscriptionAt asBytes s p n
+  pub nth-subscription : (n : ℕ) → onGot (sayVal s) (subscriptionAt asPlaces s p n) ≡ subscriptionAt asBytes s p n
   unfolding subscriptionAt
   nth-subscription n = nth-value _ _ n
 
-  nth-filter : (n : ℕ) → onGot (sayFilter s) (filterAt asPlaces s p n) ≡ filterAt asBytes s p n
+  pub nth-filter : (n : ℕ) → onGot (sayFilter s) (filterAt asPlaces s p n) ≡ filterAt asBytes s p n
   unfolding filterAt
   nth-filter n =
       like-is (filterAt asPlaces s p n) (filterAt asBytes s p n) (onGot (sayFilter s)) (λ _. refl) (λ _. refl)
