@@ -150,7 +150,7 @@ enum ecch_next_filter_layout {
  * a limit. */
 uint32_t ecch_read(const uint8_t *stream, size_t stream_len, uint8_t limited, size_t limit, uint64_t *record, size_t record_len);
 
-/* How many bytes of a place lie in the stream: `len` if all of it does, else 0. The part is then stream + start. */
+/* How many bytes of a place lie in the stream: `len` if all of it does, and the part is then stream + start; else 0, and no part. */
 size_t ecch_part(const uint8_t *stream, size_t stream_len, size_t start, size_t len);
 
 /* The n-th item, n from 0, of the list at a place of the stream: 0, or 21 if there is none, or if the place is no well-formed block of
@@ -252,7 +252,7 @@ uint32_t ecch_ping_size(uint64_t *answer, size_t answer_len);
 uint32_t ecch_pingreq_write(uint8_t limited, size_t limit, uint8_t *out, size_t out_len, uint64_t *answer, size_t answer_len);
 uint32_t ecch_pingresp_write(uint8_t limited, size_t limit, uint8_t *out, size_t out_len, uint64_t *answer, size_t answer_len);
 
-/* A pointer for what has length 0: aligned, and not NULL. */
+/* A pointer for what has length 0: aligned, and not NULL. C++ needs a cast to the type of the parameter. */
 #define ECCH_NOTHING ((void *)sizeof(size_t))
 
 #ifdef __cplusplus

@@ -1,6 +1,6 @@
 // The property or filter at an index of the stream, and the index after it: a list walked item by item costs each byte once.
 use given::kind::property_at;
-use layout_next::store_filter;
+use layout_next::store_next_filter;
 use layout_next::store_property;
 ghost use mathlib.Core.Path.{_≡_};
 ghost use lib.ListN.{length};
@@ -29,5 +29,5 @@ pub extern "C" fn ecch_next_filter(stream: &[u8], at: usize, into: &mut [u64]) -
     ensures stored { λ r. ⌜ now (into .exit) ≡ sets (now (into .entry)) 0 (nextFilterNumbers (fromAt (filterOf asPlaces (length (now (stream .entry)))) (now (stream .entry)) at)) ⌝ }
 {
     let found = filters::read_filter(stream, at);
-    store_filter(found, &mut *into)
+    store_next_filter(found, &mut *into)
 }

@@ -10,7 +10,7 @@ ghost use Rattle.reading.specs.Place.{readPlacedOf, heldOf};
 ghost use Rattle.layout_read.specs.Record.{readNumber, encoded};
 ghost use Rattle.given.specs.Given.{limitGiven};
 
-// 0, or the refusal's number; every number of the layout is stored.
+// 0, or the refusal's number; the numbers of the layout are stored, as many as the array holds.
 #[no_mangle]
 pub extern "C" fn ecch_read(stream: &[u8], limited: u8, limit: usize, into: &mut [u64]) -> u32
     ensures number { λ r. ⌜ r ≡ readNumber (readPlacedOf (limitGiven limited limit) (now (stream .entry))) ⌝ }

@@ -31,7 +31,7 @@ pub extern "C" fn ecch_pingreq_write(
     ensures output { λ r. ⌜ now (out .exit) ≡ outOf (limitGiven limited limit) (now (out .entry)) (ping 12) ⌝ }
     ensures stored { λ r. ⌜ now (answer .exit) ≡ sets (now (answer .entry)) 0 (answerNumbers (answerOf (limitGiven limited limit) (length (now (out .entry))) (ping 12))) ⌝ }
 {
-    let written = ping::write_ping_req(&mut *out, bound(limited, limit));
+    let written = ping::write_ping_req(bound(limited, limit), &mut *out);
     layout_answer::store_written(written, &mut *answer)
 }
 
@@ -46,6 +46,6 @@ pub extern "C" fn ecch_pingresp_write(
     ensures output { λ r. ⌜ now (out .exit) ≡ outOf (limitGiven limited limit) (now (out .entry)) (ping 13) ⌝ }
     ensures stored { λ r. ⌜ now (answer .exit) ≡ sets (now (answer .entry)) 0 (answerNumbers (answerOf (limitGiven limited limit) (length (now (out .entry))) (ping 13))) ⌝ }
 {
-    let written = ping::write_ping_resp(&mut *out, bound(limited, limit));
+    let written = ping::write_ping_resp(bound(limited, limit), &mut *out);
     layout_answer::store_written(written, &mut *answer)
 }

@@ -13,7 +13,7 @@ use Rattle.grammar.specs.Sentence.{qosFine, ruleFine}
 use Rattle.reading.specs.Refusal.{Refusal, nr}
 use Rattle.reading.specs.Reader.{got, bad, _>>_, guard}
 use Rattle.writing.specs.Lists.{beside}
-use Rattle.writing.specs.Handed.{Run, strings}
+use Rattle.writing.specs.Handed.{Run, strings, filtersOf}
 use Rattle.writing.specs.Spell.{wide, string, filterBytes}
 use Rattle.writing.specs.Size.{cap}
 use Rattle.writing.specs.Order.{Test, judge, word, filter, fieldTests}
@@ -22,11 +22,11 @@ use Rattle.writing.proofs.Judge.{judge-append}
 use Rattle.writing.proofs.Sizes.{length-string}
 use Rattle.writing.proofs.ForCode.{runFrom, stringAt, strings-done}
 use Rattle.number_puts.proofs.Laws.Put.{wide-one}
+use Rattle.rows.specs.Given.{run}
 use Rattle.rows.proofs.Laws.Run.{strings-cut}
 use Rattle.row_sizes.proofs.Laws.{cap-left}
 use Rattle.row_puts.specs.Put.{Put}
 use Rattle.row_puts.proofs.Laws.{sets-next}
-use Rattle.filters_write.specs.Filters.{filtersOf}
 
 -- ---- the i-th filter, its text at index p of the run; the rest of the run is from index q on
 
@@ -48,15 +48,15 @@ filters-done r i p os h = go (le-or (length (r .lengths)) i)
 
 -- ---- 13: there is a filter exactly if there are a length and an options byte
 
-pub none-asked : (run ns os : List ℕ) → min (length ns) (length os) ≡ 0 → bad (nr 13 []) ≡ guard (not (isEmpty (filtersOf run ns os))) (nr 13 [])
-none-asked run [] os e = refl
-none-asked run (n ∷ ns) [] e = refl
-none-asked run (n ∷ ns) (o ∷ os) e = absurd (omega arith)
+pub none-asked : (b ns os : List ℕ) → min (length ns) (length os) ≡ 0 → bad (nr 13 []) ≡ guard (not (isEmpty (filtersOf (run b ns) os))) (nr 13 [])
+none-asked b [] os e = refl
+none-asked b (n ∷ ns) [] e = refl
+none-asked b (n ∷ ns) (o ∷ os) e = absurd (omega arith)
 
-pub some-asked : (run ns os : List ℕ) → (min (length ns) (length os) ≡ 0 → ⊥) → got tt ≡ guard (not (isEmpty (filtersOf run ns os))) (nr 13 [])
-some-asked run [] os e = absurd (e (omega arith))
-some-asked run (n ∷ ns) [] e = absurd (e (omega arith))
-some-asked run (n ∷ ns) (o ∷ os) e = refl
+pub some-asked : (b ns os : List ℕ) → (min (length ns) (length os) ≡ 0 → ⊥) → got tt ≡ guard (not (isEmpty (filtersOf (run b ns) os))) (nr 13 [])
+some-asked b [] os e = absurd (e (omega arith))
+some-asked b (n ∷ ns) [] e = absurd (e (omega arith))
+some-asked b (n ∷ ns) (o ∷ os) e = refl
 
 -- ---- their bytes, counted
 

@@ -8,23 +8,21 @@ use row_tests::test_word;
 use rows::run;
 use string_puts::put_string;
 ghost use mathlib.Core.Path.{_≡_};
-ghost use mathlib.Core.Bool.{not, _&&_};
+ghost use mathlib.Core.Bool.{not};
 ghost use mathlib.Core.List.{List, [], map};
-ghost use Prim.Native.Nat.{ℕ, _+_, _*_, min};
-ghost use lib.Dec.{eqb};
+ghost use Prim.Native.Nat.{ℕ, min};
 ghost use lib.ListN.{length};
 ghost use Rattle.grammar.specs.Choice.{isEmpty};
 ghost use Rattle.reading.specs.Refusal.{nr};
 ghost use Rattle.reading.specs.Reader.{guard};
 ghost use Rattle.writing.specs.Lists.{flat};
-ghost use Rattle.writing.specs.Handed.{addsUp};
+ghost use Rattle.writing.specs.Handed.{filtersOf, filtersBelong};
 ghost use Rattle.writing.specs.Spell.{filterBytes};
-ghost use Rattle.writing.specs.Size.{cap};
+ghost use Rattle.writing.specs.Size.{filtersSize, cap};
 ghost use Rattle.writing.specs.Order.{judge, filter, fieldTests, filterField};
 ghost use Rattle.rows.specs.Given.{run as runOf};
 ghost use Rattle.row_tests.specs.Tested.{toldTested};
 ghost use Rattle.row_puts.specs.Put.{Put};
-ghost use Rattle.filters_write.specs.Filters.{filtersOf};
 
 // How many there are: one for each length that has an options byte.
 fn how_many(lengths: &[usize], options: &[u8]) -> usize
@@ -35,7 +33,7 @@ fn how_many(lengths: &[usize], options: &[u8]) -> usize
 
 // False is 20: lengths that do not add up to the bytes, or options bytes that differ from them in number.
 pub fn filters_belong(bytes: &[u8], lengths: &[usize], options: &[u8]) -> bool
-    ensures { λ r. ⌜ r ≡ (addsUp (runOf (now (bytes .entry)) (now (lengths .entry))) && eqb (length (now (lengths .entry))) (length (now (options .entry)))) ⌝ }
+    ensures { λ r. ⌜ r ≡ filtersBelong (runOf (now (bytes .entry)) (now (lengths .entry))) (now (options .entry)) ⌝ }
 {
     let same = lengths.len() == options.len();
     row_belongs::both(run::adds_up(bytes, lengths), same)
@@ -43,7 +41,7 @@ pub fn filters_belong(bytes: &[u8], lengths: &[usize], options: &[u8]) -> bool
 
 // Their bytes, cut off where they are too many: a filter has two bytes of length and its options byte.
 pub fn filters_size(bytes: &[u8], options: &[u8]) -> usize
-    ensures { λ r. ⌜ r ≡ cap (length (now (bytes .entry)) + 3 * length (now (options .entry))) ⌝ }
+    ensures { λ r. ⌜ r ≡ cap (filtersSize (now (bytes .entry)) (now (options .entry))) ⌝ }
 {
     let n = options.len();
     row_sizes::add(row_sizes::add(row_sizes::add(n, n), n), bytes.len())
@@ -69,7 +67,7 @@ fn test_filter(s: &[u8], options: u8) -> Tested
 
 // Filters one after the other, as far as there are both lengths and options.
 pub fn test_filters(bytes: &[u8], lengths: &[usize], options: &[u8]) -> Tested
-    ensures { λ r. ⌜ toldTested r ≡ judge (flat fieldTests (map filterField (filtersOf (now (bytes .entry)) (now (lengths .entry)) (now (options .entry))))) ⌝ }
+    ensures { λ r. ⌜ toldTested r ≡ judge (flat fieldTests (map filterField (filtersOf (runOf (now (bytes .entry)) (now (lengths .entry))) (now (options .entry))))) ⌝ }
 {
     let count = how_many(lengths, options);
     let mut at: usize = 0;
@@ -88,7 +86,7 @@ pub fn test_filters(bytes: &[u8], lengths: &[usize], options: &[u8]) -> Tested
 
 // 13 if there is no filter.
 pub fn test_asked(lengths: &[usize], options: &[u8]) -> Tested
-    ensures { λ r. ⌜ ((bytes : List ℕ) → toldTested r ≡ guard (not (isEmpty (filtersOf bytes (now (lengths .entry)) (now (options .entry))))) (nr 13 [])) ⌝ }
+    ensures { λ r. ⌜ ((bytes : List ℕ) → toldTested r ≡ guard (not (isEmpty (filtersOf (runOf bytes (now (lengths .entry))) (now (options .entry))))) (nr 13 [])) ⌝ }
 {
     if how_many(lengths, options) == 0 {
         return Tested::Refused(Error::EmptySubscription);
@@ -113,7 +111,7 @@ pub fn put_filters(
     lengths: &[usize],
     options: &[u8],
 ) -> usize
-    ensures { λ r. ⌜ Put (now (out .entry)) at (flat filterBytes (filtersOf (now (bytes .entry)) (now (lengths .entry)) (now (options .entry)))) (now (out .exit)) r ⌝ }
+    ensures { λ r. ⌜ Put (now (out .entry)) at (flat filterBytes (filtersOf (runOf (now (bytes .entry)) (now (lengths .entry))) (now (options .entry)))) (now (out .exit)) r ⌝ }
 {
     let count = how_many(lengths, options);
     let mut n: usize = 0;

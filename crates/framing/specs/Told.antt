@@ -38,7 +38,7 @@ kindAt x = (kindOf x, isIn (kindOf x) reserved, lookup kinds (kindOf x))
 
 -- ---- frames
 
--- 01, grammar: "A frame is one byte, a variable length number R": what `frameOf` reads before the limit is looked at
+-- 01, grammar: "A frame is one byte .., a variable length number R": what `frameOf` reads before the limit is looked at
 abbrev pub headerOf : Reader (ℕ × ℕ)
 headerOf = thenOf (byteOf (nr 1 (2 ∷ []))) (λ _. numOf (nr 1 (1 ∷ [])) 4)
 

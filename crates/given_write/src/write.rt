@@ -3,7 +3,6 @@ use given_heads::puback_by::GotPubAckHead;
 use given_heads::publish_by::GotPublishHead;
 use records::answer::Limit;
 use records::answer::Written;
-ghost use mathlib.Core.Path.{_≡_};
 ghost use Rattle.records.specs.Told.{limitOf};
 ghost use Rattle.records.specs.Answered.{toldWritten};
 ghost use Rattle.given_heads.specs.Head.{publishHanded, ackHanded};

@@ -108,7 +108,7 @@ pub fn store_property(property: GotProperty, into: &mut [u64]) -> u32
 }
 
 // The same of a filter: its text and options.
-pub fn store_filter(filter: GotFilter, into: &mut [u64]) -> u32
+pub fn store_next_filter(filter: GotFilter, into: &mut [u64]) -> u32
     ensures number { λ r. ⌜ r ≡ fitNumber (toldGotFilter filter) ⌝ }
     ensures stored { λ r. ⌜ now (into .exit) ≡ sets (now (into .entry)) 0 (nextFilterNumbers (toldGotFilter filter)) ⌝ }
 {

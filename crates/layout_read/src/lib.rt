@@ -158,7 +158,7 @@ fn packet_numbers(taken: usize, p: Packet) -> [u64; 38]
 
 // ---- an answer
 
-fn error_numbers(e: Error, taken: usize) -> [u64; 38]
+fn error_numbers(taken: usize, e: Error) -> [u64; 38]
     ensures { λ r. ⌜ r ≡ encoded (refusedAs (toldError e) taken) ⌝ }
 {
     let v = values(e);
@@ -173,7 +173,7 @@ fn read_numbers(read: Read) -> [u64; 38]
 {
     match read {
         Read::Packet(p, taken) => packet_numbers(taken, p),
-        Read::Refused(e, taken) => error_numbers(e, taken),
+        Read::Refused(e, taken) => error_numbers(taken, e),
     }
 }
 

@@ -15,6 +15,7 @@ use Rattle.writing.proofs.Sizes.{length-string}
 use Rattle.writing.proofs.ForCode.{runFrom, stringAt, strings-done}
 use Rattle.rows.proofs.Laws.Run.{strings-cut}
 use Rattle.row_puts.specs.Put.{Put}
+use Rattle.row_puts.specs.Behind.{Behind}
 use Rattle.row_puts.proofs.Laws.{sets-next}
 
 -- ---- pairs
@@ -26,12 +27,12 @@ module _ (key val : List ℕ) where
   pub pair-count : (l : List ℕ) (at : ℕ) (l₁ : List ℕ) (k : ℕ) → Put l at (38 ∷ (string key ++ string val)) l₁ k → k ≡ 5 + length key + length val
   pair-count l at l₁ k p = p .count ∙ pair-length
 
-  pub put-both : (l l₁ l₂ l₃ : List ℕ) (at m q : ℕ) → (l₁ ≡ sets l at (38 ∷ [])) × (m ≡ min (at + 1) (length l₁)) → l₂ ≡ sets l₁ m (string key)
+  pub put-both : (l l₁ l₂ l₃ : List ℕ) (at m q : ℕ) → Behind l at (38 ∷ []) l₁ m → l₂ ≡ sets l₁ m (string key)
       → q ≡ min (at + (3 + length key)) (length l₂) → l₃ ≡ sets l₂ q (string val) → Put l at (38 ∷ (string key ++ string val)) l₃ (5 + length key + length val)
-  put-both l l₁ l₂ l₃ at m q (e, n) f o g =
+  put-both l l₁ l₂ l₃ at m q p f o g =
       let s : 3 + length key ≡ length (38 ∷ string key) = omega (arith, length-string key) in
       record {
-        stores = sets-next l l₂ l₃ (38 ∷ string key) (string val) at q (sets-next l l₁ l₂ (38 ∷ []) (string key) at m e n f) (o ∙ rw s) g;
+        stores = sets-next l l₂ l₃ (38 ∷ string key) (string val) at q (sets-next l l₁ l₂ (38 ∷ []) (string key) at m (p .stores) (p .place) f) (o ∙ rw s) g;
         count = sym pair-length;
       }
 

@@ -139,7 +139,7 @@ pub fn write(
             limit,
             &mut *out,
         ),
-        PacketHead::PingReq => ping::write_ping_req(&mut *out, limit),
-        PacketHead::PingResp => ping::write_ping_resp(&mut *out, limit),
+        PacketHead::PingReq => ping::write_ping_req(limit, &mut *out),
+        PacketHead::PingResp => ping::write_ping_resp(limit, &mut *out),
     }
 }

@@ -17,7 +17,7 @@ pub fn ping_size() -> Sized
     settle::size(true, 0)
 }
 
-fn write_ping(out: &mut [u8], first: u8, limit: Limit) -> Written
+fn write_ping(first: u8, limit: Limit, out: &mut [u8]) -> Written
     ensures { λ r. ⌜ ((k : ℕ) → first ≡ firstOf k → WrittenOf (limitOf limit) (ping k) (now (out .entry)) (now (out .exit)) (toldWritten r)) ⌝ }
 {
     match settle::settle(Tested::Fine, 0, limit, Tested::Fine, out.len()) {
@@ -30,15 +30,15 @@ fn write_ping(out: &mut [u8], first: u8, limit: Limit) -> Written
 }
 
 // A PingReq, and its size; a refused write leaves the output as it stood.
-pub fn write_ping_req(out: &mut [u8], limit: Limit) -> Written
+pub fn write_ping_req(limit: Limit, out: &mut [u8]) -> Written
     ensures { λ r. ⌜ WrittenOf (limitOf limit) (ping 12) (now (out .entry)) (now (out .exit)) (toldWritten r) ⌝ }
 {
-    write_ping(&mut *out, 0xC0, limit)
+    write_ping(0xC0, limit, &mut *out)
 }
 
 // A PingResp, likewise.
-pub fn write_ping_resp(out: &mut [u8], limit: Limit) -> Written
+pub fn write_ping_resp(limit: Limit, out: &mut [u8]) -> Written
     ensures { λ r. ⌜ WrittenOf (limitOf limit) (ping 13) (now (out .entry)) (now (out .exit)) (toldWritten r) ⌝ }
 {
-    write_ping(&mut *out, 0xD0, limit)
+    write_ping(0xD0, limit, &mut *out)
 }

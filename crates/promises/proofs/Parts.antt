@@ -1,4 +1,4 @@
--- What the places of a record hold is its value: the parts that `publish` and `puback` give are the strings of the sentence. Assumes nothing.
+-- What the places of a record hold is its value: the parts that `publish_parts` and `puback` give are the strings of the sentence. Assumes nothing.
 use mathlib.Core.Path.{_≡_, refl, ap, _∙_}
 use mathlib.Core.Option.{Option, none, some}
 use mathlib.Core.List.{List}

@@ -14,7 +14,7 @@ use Rattle.grammar.specs.Record as record-of
 use Rattle.grammar.specs.Sentence.{Packet, Sentence}
 use Rattle.reading.specs.Refusal.{accepted}
 use Rattle.reading.specs.Reader.{got}
-use Rattle.reading.specs.Place.{say, Items}
+use Rattle.reading.specs.Place.{say}
 use Rattle.reading.specs.Demand.{Begins}
 use Rattle.reading.proofs.Reading.{got-inj}
 use Rattle.reading.proofs.Items.{say-items}
@@ -51,12 +51,8 @@ use Rattle.promises.proofs.Items.{publish-items, puback-items, subscribe-items,
 use Rattle.packet_parts.specs.Parts.{Parts, foreign}
 use Rattle.packet_write.specs.Union.{own, unionOf}
 use Rattle.packet_parts.specs.declared.head.PacketHead.{PacketHead}
-use Rattle.promises_writing.specs.Writing.{Meets, Widths, LentOctets}
+use Rattle.promises_writing.specs.Writing.{Obeys, ReadsAs, Widths, LentOctets}
 use Rattle.promises_writing.proofs.Writing as writing
-
--- the answer r says v: it is a record, its places say v, its items are those of v, and n bytes are taken
-abbrev Reads : List ℕ → Read → Packet → ℕ → Type 0
-Reads s r v n = (p : code.Packet) × (r ≡ Read.Packet p n) × (say s (toldPacket p) ≡ got v) × Items s (toldPacket p) v
 
 -- ---- what the types of the arguments ensure
 
@@ -125,22 +121,22 @@ the-set : {A : Type 0} (t : Bool) (a b : A) → cond t none (some a) ≡ some b 
 the-set true a b e = let z : _≡_ {A = ℕ} 0 1 = cc in absurd (omega arith)
 the-set false a b e = cc
 
-module _ (limit : Limit) (alone : Bool) (h : Handed) (before after : List ℕ) (w : Written) (m : Meets limit alone h before after w) (n : ℕ) (i : w ≡ Written.Size n) (t : Typed h) where
+module _ (limit : Limit) (alone : Bool) (h : Handed) (before after : List ℕ) (w : Written) (m : Obeys limit alone h before after w) (n : ℕ) (i : w ≡ Written.Size n) (t : Typed h) where
   begins : (rest : List ℕ) → Begins Sentence (frameBytes h ++ rest) (said h) n
   begins rest = (frameBytes h, rest, refl, writing.frame-sentence limit alone h before after w m n i t, writing.frame-size limit alone h before after w m n i)
 
   module _ (rest : List ℕ) (r : Read) (j : reading.Meets Limit.Unlimited (frameBytes h ++ rest) r) where
     -- whatever follows, what is read is what the bytes say, and taken is the size
-    pub reads-said : Reads (frameBytes h ++ rest) r (said h) n
+    pub reads-said : ReadsAs (frameBytes h ++ rest) r (said h) n
     reads-said =
         let (p, e, f) = sentence-read (frameBytes h ++ rest) r j (said h) n (begins rest) in
         (p, e, f, say-items (frameBytes h ++ rest) (toldPacket p) (said h) f)
 
     -- 01, "Reading back": it is the record, if "QoS 0 has identifier 0, and no property set is present but empty"
-    pub reads-back : Plain h → Reads (frameBytes h ++ rest) r (meant h) n
+    pub reads-back : Plain h → ReadsAs (frameBytes h ++ rest) r (meant h) n
     reads-back p =
         let a = writing.accepted limit h before after w alone m n .0 i .1 in
-        subst (λ (v : Packet). Reads (frameBytes h ++ rest) r v n) (said-meant h (a .countable .belongs) p) reads-said
+        subst (λ (v : Packet). ReadsAs (frameBytes h ++ rest) r v n) (said-meant h (a .countable .belongs) p) reads-said
 
     -- an answer says one thing
     says-said : (v : Packet) → Says (frameBytes h ++ rest) r (accepted v n) → said h ≡ v
@@ -149,7 +145,7 @@ module _ (limit : Limit) (alone : Bool) (h : Handed) (before after : List ℕ) (
         let b : accepted (said h) n ≡ accepted v n = got-inj (sym a ∙ e) in
         cc
 
-    -- ---- the parts of a Publish and of a PubAck, as the functions of `publish` and `puback` give them
+    -- ---- the parts of a Publish and of a PubAck, as the functions of `publish_parts` and `puback` give them
 
     told-by : (p : code.Packet) → r ≡ Read.Packet p n → say (frameBytes h ++ rest) (toldPacket p) ≡ got (said h)
     told-by p e =
@@ -165,15 +161,15 @@ module _ (limit : Limit) (alone : Bool) (h : Handed) (before after : List ℕ) (
     puback-back x e = puback-parts (frameBytes h ++ rest) x (said h) (told-by (code.Packet.PubAck x) e)
 
   -- the output itself, read
-  pub output-read : (r : Read) → reading.Meets Limit.Unlimited after r → Reads after r (said h) n
+  pub output-read : (r : Read) → reading.Meets Limit.Unlimited after r → ReadsAs after r (said h) n
   output-read r j =
       let e = writing.frame-out limit alone h before after w m n i in
-      subst (λ (s : List ℕ). Reads s r (said h) n) (sym e) (reads-said (drop n before) r (subst (λ (s : List ℕ). reading.Meets Limit.Unlimited s r) e j))
+      subst (λ (s : List ℕ). ReadsAs s r (said h) n) (sym e) (reads-said (drop n before) r (subst (λ (s : List ℕ). reading.Meets Limit.Unlimited s r) e j))
 
--- ---- the items, as the functions of `items` and `subscribe` give them: the lists that were handed over, in order, and then 21
+-- ---- the items, as the functions of `items` and `filter_runs` give them: the lists that were handed over, in order, and then 21
 
 module _ (limit : Limit) (alone : Bool) (before after : List ℕ) (w : Written) (n : ℕ) (i : w ≡ Written.Size n) (rest : List ℕ) (r : Read) where
-  pub publish-items-back : (h : PublishHanded) → Meets limit alone (publish h) before after w → Typed (publish h) → reading.Meets Limit.Unlimited (frameBytes (publish h) ++ rest) r
+  pub publish-items-back : (h : PublishHanded) → Obeys limit alone (publish h) before after w → Typed (publish h) → reading.Meets Limit.Unlimited (frameBytes (publish h) ++ rest) r
       → (x : Publish) (p : PublishProperties) → r ≡ Read.Packet (code.Packet.Publish x) n → x .properties ≡ MaybePublishProperties.Present p
       → UserItems (frameBytes (publish h) ++ rest) publishPlace (p .block) (duos (strings (h .user))) × IdentifierItems (frameBytes (publish h) ++ rest) (p .block) (map num (h .subscriptions))
   unfolding said
@@ -184,7 +180,7 @@ module _ (limit : Limit) (alone : Bool) (before after : List ℕ) (w : Written) 
       let d : publishSet h ≡ qs = the-set (nonePublish h) (publishSet h) qs (publish-props c ∙ b) in
       (subst (λ (q : PublishProps (List ℕ) List). UserItems s publishPlace (p .block) (q .user)) (sym d) us, subst (λ (q : PublishProps (List ℕ) List). IdentifierItems s (p .block) (q .subscriptions)) (sym d) ns)
 
-  pub puback-items-back : (h : AckHanded) → Meets limit alone (ack 4 h) before after w → Typed (ack 4 h) → reading.Meets Limit.Unlimited (frameBytes (ack 4 h) ++ rest) r
+  pub puback-items-back : (h : AckHanded) → Obeys limit alone (ack 4 h) before after w → Typed (ack 4 h) → reading.Meets Limit.Unlimited (frameBytes (ack 4 h) ++ rest) r
       → (x : PubAck) (p : PubAckProperties) → r ≡ Read.Packet (code.Packet.PubAck x) n → x .properties ≡ MaybePubAckProperties.Present p
       → UserItems (frameBytes (ack 4 h) ++ rest) ackPlace (p .block) (duos (strings (h .user)))
   unfolding said
@@ -195,7 +191,7 @@ module _ (limit : Limit) (alone : Bool) (before after : List ℕ) (w : Written) 
       let d : ackSet h ≡ qs = the-set (noneAck h) (ackSet h) qs (puback-props c ∙ b) in
       subst (λ (q : AckProps (List ℕ) List). UserItems s ackPlace (p .block) (q .user)) (sym d) us
 
-  pub subscribe-items-back : (h : SubscribeHanded) → Meets limit alone (subscribe h) before after w → Typed (subscribe h) → reading.Meets Limit.Unlimited (frameBytes (subscribe h) ++ rest) r
+  pub subscribe-items-back : (h : SubscribeHanded) → Obeys limit alone (subscribe h) before after w → Typed (subscribe h) → reading.Meets Limit.Unlimited (frameBytes (subscribe h) ++ rest) r
       → (x : Subscribe) (p : SubscribeProperties) → r ≡ Read.Packet (code.Packet.Subscribe x) n → x .properties ≡ MaybeSubscribeProperties.Present p
       → UserItems (frameBytes (subscribe h) ++ rest) subscribePlace (p .block) (duos (strings (h .user)))
   unfolding said
@@ -206,7 +202,7 @@ module _ (limit : Limit) (alone : Bool) (before after : List ℕ) (w : Written) 
       let d : subscribeSet h ≡ qs = the-set (noneSubscribe h) (subscribeSet h) qs (subscribe-props c ∙ b) in
       subst (λ (q : SubscribeProps (List ℕ) List). UserItems s subscribePlace (p .block) (q .user)) (sym d) us
 
-  pub filter-items-back : (h : SubscribeHanded) → Meets limit alone (subscribe h) before after w → Typed (subscribe h) → reading.Meets Limit.Unlimited (frameBytes (subscribe h) ++ rest) r
+  pub filter-items-back : (h : SubscribeHanded) → Obeys limit alone (subscribe h) before after w → Typed (subscribe h) → reading.Meets Limit.Unlimited (frameBytes (subscribe h) ++ rest) r
       → (x : Subscribe) → r ≡ Read.Packet (code.Packet.Subscribe x) n → FilterItems (frameBytes (subscribe h) ++ rest) (x .filters) (map mkFilter (filters h))
   unfolding said
   filter-items-back h m t j x e =
@@ -238,9 +234,9 @@ subscribe-no-set h e = rw e
 -- ---- all of it, of `packet_write::write`
 
 pub packet-reads-back : (limit : Limit) (m : PacketHead) (p : Parts) (before after : List ℕ) (w : Written) → WrittenBehind (limitOf limit) (unionOf m p) before after (toldWritten w) → Widths m → LentOctets p
-    → (n : ℕ) → w ≡ Written.Size n → Plain (own m p) → (r : Read) → reading.Meets Limit.Unlimited after r → Reads after r (meant (own m p)) n
+    → (n : ℕ) → w ≡ Written.Size n → Plain (own m p) → (r : Read) → reading.Meets Limit.Unlimited after r → ReadsAs after r (meant (own m p)) n
 packet-reads-back limit m p before after w c b l n i q r j =
     let d = writing.of-packet limit m p before after w c in
     let k = writing.frame-out limit (all isEmpty (foreign m p)) (own m p) before after w d n i in
-    subst (λ (s : List ℕ). Reads s r (meant (own m p)) n) (sym k)
+    subst (λ (s : List ℕ). ReadsAs s r (meant (own m p)) n) (sym k)
     (reads-back limit (all isEmpty (foreign m p)) (own m p) before after w d n i (typed m p b l) (drop n before) r (subst (λ (s : List ℕ). reading.Meets Limit.Unlimited s r) k j) q)

@@ -35,19 +35,19 @@ use Rattle.records.specs.declared.error.Error.{Error}
 use Rattle.packet_parts.specs.Parts.{Parts, foreign}
 use Rattle.packet_write.specs.Union.{own, unionOf}
 use Rattle.packet_parts.specs.declared.head.PacketHead.{PacketHead}
-use Rattle.promises_writing.specs.Writing.{Meets, Counts, Refusing, writerRows}
+use Rattle.promises_writing.specs.Writing.{Obeys, Counts, Refusing, writerRows}
 use Rattle.promises_writing.specs.Writing as refusing
 
 -- ---- whose contract it is
 
 -- of `packet_write::write`
 pub of-packet : (limit : Limit) (m : PacketHead) (p : Parts) (before after : List ℕ) (w : Written)
-    → WrittenBehind (limitOf limit) (unionOf m p) before after (toldWritten w) → Meets limit (all isEmpty (foreign m p)) (own m p) before after w
+    → WrittenBehind (limitOf limit) (unionOf m p) before after (toldWritten w) → Obeys limit (all isEmpty (foreign m p)) (own m p) before after w
 unfolding unionOf
 of-packet limit m p before after w c = c
 
 -- of a kind's own `write`
-pub of-kind : (limit : Limit) (h : Handed) (before after : List ℕ) (w : Written) → writing.Written (limitOf limit) h before after (toldWritten w) → Meets limit true h before after w
+pub of-kind : (limit : Limit) (h : Handed) (before after : List ℕ) (w : Written) → writing.Written (limitOf limit) h before after (toldWritten w) → Obeys limit true h before after w
 unfolding answeredBehind outBehind outOf
 of-kind limit h before after w c = record { answer = c .answer; output = c .output }
 
@@ -78,9 +78,9 @@ row-of (no-room c l u n a r) = refl
 
 -- ---- the answer
 
-module _ (limit : Limit) (alone : Bool) (h : Handed) (before after : List ℕ) (w : Written) (m : Meets limit alone h before after w) where
+module _ (limit : Limit) (alone : Bool) (h : Handed) (before after : List ℕ) (w : Written) (m : Obeys limit alone h before after w) where
   -- inputs admit one answer only, and one output
-  pub one-answer : (after′ : List ℕ) (w′ : Written) → Meets limit alone h before after′ w′ → (w ≡ w′) × (after ≡ after′)
+  pub one-answer : (after′ : List ℕ) (w′ : Written) → Obeys limit alone h before after′ w′ → (w ≡ w′) × (after ≡ after′)
   one-answer after′ w′ m′ = (written-injective (m .answer ∙ sym (m′ .answer)), m .output ∙ sym (m′ .output))
 
 -- what a refusal is, by whether only what belongs to the record is lent
@@ -95,7 +95,7 @@ is-foreign {P} {k} e = let i : nr 20 [] ≡ k = cc in subst (Refusing P false) i
 
 module _ (limit : Limit) (h : Handed) (before after : List ℕ) (w : Written) where
   -- each refusal is given exactly when its row says, in 01's writing order
-  pub refused : (alone : Bool) → Meets limit alone h before after w → (e : Error) → (w ≡ Written.Refused e) ↔ Refusing (Refuses (limitOf limit) (length before) h) alone (toldError e)
+  pub refused : (alone : Bool) → Obeys limit alone h before after w → (e : Error) → (w ≡ Written.Refused e) ↔ Refusing (Refuses (limitOf limit) (length before) h) alone (toldError e)
   unfolding answeredBehind
   refused true m e =
       let u = unanswered-when (limitOf limit) (length before) h (toldError e) in
@@ -103,7 +103,7 @@ module _ (limit : Limit) (h : Handed) (before after : List ℕ) (w : Written) wh
   refused false m e = (λ i. is-foreign (sym (m .answer) ∙ ap toldWritten i), λ r. written-injective (m .answer ∙ ap bad (as-foreign r)))
 
   -- and the size exactly when no row applies
-  pub accepted : (alone : Bool) → Meets limit alone h before after w → (n : ℕ) → (w ≡ Written.Size n) ↔ ((alone ≡ true) × Accepts (limitOf limit) (length before) h × (sizeIs h ≡ n))
+  pub accepted : (alone : Bool) → Obeys limit alone h before after w → (n : ℕ) → (w ≡ Written.Size n) ↔ ((alone ≡ true) × Accepts (limitOf limit) (length before) h × (sizeIs h ≡ n))
   unfolding answeredBehind
   accepted true m n =
       let u = answered-when (limitOf limit) (length before) h n in
@@ -111,26 +111,26 @@ module _ (limit : Limit) (h : Handed) (before after : List ℕ) (w : Written) wh
   accepted false m n = (λ i. absurd (bad-got (sym (m .answer) ∙ ap toldWritten i)), λ (t, a, l). absurd (no-way t))
 
   -- demand 1: a refusal of 01's writing order, and no other
-  pub refused-row : (alone : Bool) → Meets limit alone h before after w → (e : Error) → w ≡ Written.Refused e → isIn (rowOf (toldError e)) writerRows ≡ true
+  pub refused-row : (alone : Bool) → Obeys limit alone h before after w → (e : Error) → w ≡ Written.Refused e → isIn (rowOf (toldError e)) writerRows ≡ true
   refused-row true m e i = row-of (as-own (refused true m e .0 i))
   refused-row false m e i = rw (← as-foreign (refused false m e .0 i))
 
-  -- demand 1: "A refused write leaves the output as it stood"
-  pub refused-keeps : (alone : Bool) → Meets limit alone h before after w → (e : Error) → w ≡ Written.Refused e → after ≡ before
+  -- 01: "A refused write leaves the output as it stood"
+  pub refused-keeps : (alone : Bool) → Obeys limit alone h before after w → (e : Error) → w ≡ Written.Refused e → after ≡ before
   unfolding outBehind outOf
   refused-keeps true m e i =
       m .output ∙ out-refused (limitOf limit) before h (toldError e) (refused-when (limitOf limit) (length before) h (toldError e) .1 (as-own (refused true m e .0 i)))
   refused-keeps false m e i = m .output
 
   -- no byte is added or lost
-  pub same-length : (alone : Bool) → Meets limit alone h before after w → length after ≡ length before
+  pub same-length : (alone : Bool) → Obeys limit alone h before after w → length after ≡ length before
   unfolding outBehind outOf
   same-length true m = ap length (m .output) ∙ out-length (limitOf limit) before h
   same-length false m = ap length (m .output)
 
 -- ---- an accepted write
 
-module _ (limit : Limit) (alone : Bool) (h : Handed) (before after : List ℕ) (w : Written) (m : Meets limit alone h before after w) (n : ℕ) (i : w ≡ Written.Size n) where
+module _ (limit : Limit) (alone : Bool) (h : Handed) (before after : List ℕ) (w : Written) (m : Obeys limit alone h before after w) (n : ℕ) (i : w ≡ Written.Size n) where
   -- nothing is lent that does not belong to the record
   pub is-alone : alone ≡ true
   is-alone = accepted limit h before after w alone m n .0 i .0

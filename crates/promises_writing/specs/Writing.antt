@@ -4,15 +4,20 @@ use mathlib.Core.Bool.{Bool, true, false}
 use mathlib.Core.List.{List, [], _∷_}
 use Prim.Native.Nat.{ℕ, _<_}
 use Rattle.grammar.specs.Octets.{Octets}
+use Rattle.grammar.specs.Sentence.{Packet}
 use Rattle.reading.specs.Refusal.{Refusal, nr}
 use Rattle.reading.specs.Reader.{got, _>>_, guard}
 use Rattle.writing.specs.Handed.{Handed}
 use Rattle.writing.specs.Meant.{Below}
+use Rattle.reading.specs.Place.{say, Items}
 use Rattle.records.specs.Told.{limitOf}
+use Rattle.records.specs.Said.{toldPacket}
 use Rattle.records.specs.Answered.{toldSized, toldWritten}
 use Rattle.records.specs.declared.answer.Limit.{Limit}
+use Rattle.records.specs.declared.answer.Read.{Read}
 use Rattle.records.specs.declared.answer.Sized.{Sized}
 use Rattle.records.specs.declared.answer.Written.{Written}
+use Rattle.records.specs.declared.packet_record.Packet as code
 use Rattle.rows.specs.Given.{numberU8, numberU16, numberU32}
 use Rattle.publish_plan.specs.declared.head.PublishHead.{PublishHead}
 use Rattle.packet_parts.specs.Parts.{Parts}
@@ -22,12 +27,16 @@ use Rattle.packet_parts.specs.declared.head.PacketHead.{PacketHead}
 -- ---- the contract
 
 -- of the answer w and the output before and after, where h is handed over; `alone` says whether nothing is lent that does not belong to it
-abbrev pub Meets : Limit → Bool → Handed → List ℕ → List ℕ → Written → Type 0
-Meets limit alone h before after w = WrittenBehind (limitOf limit) (guard alone (nr 20 []) >> got h) before after (toldWritten w)
+abbrev pub Obeys : Limit → Bool → Handed → List ℕ → List ℕ → Written → Type 0
+Obeys limit alone h before after w = WrittenBehind (limitOf limit) (guard alone (nr 20 []) >> got h) before after (toldWritten w)
 
 -- the same of the answer z of a `size`
 abbrev pub Counts : Bool → Handed → Sized → Type 0
 Counts alone h z = toldSized z ≡ sizedBehind (guard alone (nr 20 []) >> got h)
+
+-- demand 2: "A written record reads back equal": the answer r says v: it is a record, its places say v, its items are those of v, and n bytes are taken
+abbrev pub ReadsAs : List ℕ → Read → Packet → ℕ → Type 0
+ReadsAs s r v n = (p : code.Packet) × (r ≡ Read.Packet p n) × (say s (toldPacket p) ≡ got v) × Items s (toldPacket p) v
 
 -- 01, writing order: 20 for what does not belong to the record, else what P says
 pub data Refusing (P : Refusal → Type 0) : Bool → Refusal → Type 0 where

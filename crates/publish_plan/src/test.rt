@@ -3,7 +3,7 @@ use crate::belong::all_belong;
 use crate::head::PublishHead;
 use codes::qos_number;
 use records::error::Error;
-use row_tests as test;
+use row_tests;
 use row_tests::Tested;
 use row_tests::then;
 ghost use mathlib.Core.Path.{_≡_};
@@ -31,12 +31,12 @@ fn test_fields(
 ) -> Tested
     ensures { λ r. ⌜ ((i p : List ℕ) → toldTested r ≡ judge (flat fieldTests (fieldsOf (publish (handed head (now (topic .entry)) (now («response_topic» .entry)) (now («correlation_data» .entry)) (now (user .entry)) (now («user_lengths» .entry)) i (now («content_type» .entry)) p))))) ⌝ }
 {
-    let content = test::test_text(head.content_type, content_type);
+    let content = row_tests::test_text(head.content_type, content_type);
     let lists = then(list_tests::test_words(user, user_lengths), content);
-    let correlation = test::test_bytes(head.correlation_data, correlation_data);
-    let response = test::test_text(head.response_topic, response_topic);
+    let correlation = row_tests::test_bytes(head.correlation_data, correlation_data);
+    let response = row_tests::test_text(head.response_topic, response_topic);
     then(
-        test::test_raw(topic),
+        row_tests::test_raw(topic),
         then(response, then(correlation, lists)),
     )
 }

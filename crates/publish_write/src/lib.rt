@@ -8,7 +8,7 @@ use records::answer::Sized;
 use records::answer::Written;
 ghost use mathlib.Core.Path.{_≡_};
 ghost use Rattle.writing.specs.Handed.{publish};
-ghost use Rattle.writing.specs.Write.{sizeOf, Written as Writes};
+ghost use Rattle.writing.specs.Write.{sizeOf, Written as WrittenOf};
 ghost use Rattle.records.specs.Told.{limitOf};
 ghost use Rattle.records.specs.Answered.{toldSized, toldWritten};
 ghost use Rattle.publish_plan.specs.Handed.{handed};
@@ -64,7 +64,7 @@ pub fn write(
     limit: Limit,
     out: &mut [u8],
 ) -> Written
-    ensures { λ r. ⌜ Writes (limitOf limit) (publish (handed head (now (topic .entry)) (now («response_topic» .entry)) (now («correlation_data» .entry)) (now (user .entry)) (now («user_lengths» .entry)) (now («subscription_identifiers» .entry)) (now («content_type» .entry)) (now (payload .entry)))) (now (out .entry)) (now (out .exit)) (toldWritten r) ⌝ }
+    ensures { λ r. ⌜ WrittenOf (limitOf limit) (publish (handed head (now (topic .entry)) (now («response_topic» .entry)) (now («correlation_data» .entry)) (now (user .entry)) (now («user_lengths» .entry)) (now («subscription_identifiers» .entry)) (now («content_type» .entry)) (now (payload .entry)))) (now (out .entry)) (now (out .exit)) (toldWritten r) ⌝ }
 {
     let fields = test::early(
         head,

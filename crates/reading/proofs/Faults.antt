@@ -22,24 +22,24 @@ use Rattle.reading.proofs.Reading.{reads-only, fills-many}
 use Rattle.reading.proofs.Fields.{reads-byte, reads-big, reads-num, text-fine, reads-bytes, reads-text, reads-property, property-solid}
 use Rattle.reading.proofs.Packets.{reads-ack, reads-ident, reads-filter, filter-solid, reads-publish-block, reads-subscribe-block, kind-fine, fills-body}
 use Rattle.reading.proofs.Demand.{reads-length, reads-frame, whole-answer}
-use Rattle.reading.proofs.Refusing.{got-bad, of-bind, of-guard, Refuses, refuses-byte, refuses-big, refuses-num, refuses-none, refuses-map, refuses-fit, refuses-hand, refuses-then, refuses-end, refuses-only, refuses-exact, refuses-many, refuses-sized, refuses-is}
+use Rattle.reading.proofs.Refusing.{got-bad, of-bind, of-guard, RefusesBy, refuses-byte, refuses-big, refuses-num, refuses-none, refuses-map, refuses-fit, refuses-hand, refuses-then, refuses-end, refuses-only, refuses-exact, refuses-many, refuses-sized, refuses-is}
 
 -- ---- strings and properties
 
-sound : Refuses (isFit anyBytes cut) Sound
+sound : RefusesBy (isFit anyBytes cut) Sound
 unfolding isFit
 sound = record { fault = λ s k e. got-bad e; refuse = λ s k f. elim f [ ] }
 
 module _ (end : ℕ) where
-  refuses-bytes : Refuses (bytesOf asBytes end) BytesFault
+  refuses-bytes : RefusesBy (bytesOf asBytes end) BytesFault
   unfolding bytesOf stringFit
   refuses-bytes = refuses-sized crossed (reads-big cut 2) (refuses-big cut 2) (refuses-hand _ (λ _. sound)) end
 
-  refuses-text : Refuses (textOf asBytes end) TextFault
+  refuses-text : RefusesBy (textOf asBytes end) TextFault
   unfolding textOf stringFit
   refuses-text = refuses-sized crossed (reads-big cut 2) (refuses-big cut 2) (refuses-hand _ (λ _. refuses-is isText Utf8 (nr 9 []) text-fine)) end
 
-refuses-value : (k : Form) (end : ℕ) → Refuses (valueOf asBytes k end) (ValueFault k)
+refuses-value : (k : Form) (end : ℕ) → RefusesBy (valueOf asBytes k end) (ValueFault k)
 unfolding valueOf
 refuses-value u8 end = refuses-map (refuses-byte cut) num
 refuses-value u16 end = refuses-map (refuses-big cut 2) num
@@ -66,17 +66,17 @@ module _ (place : Place) (end : ℕ) where
   property-refuse _ _ (unknown e) = rw e
   property-refuse _ k (value {f = t} {s = s} e h) = rw (e, refuses-value t end .refuse s k h)
 
-  refuses-property : Refuses (propertyOf asBytes place end) (PropertyFault place)
+  refuses-property : RefusesBy (propertyOf asBytes place end) (PropertyFault place)
   refuses-property = record { fault = property-fault; refuse = property-refuse }
 
-refuses-block : {A : Type 0} (place : Place) (f : List Prop → List ℕ → ℕ → A) (end : ℕ) → Refuses (blockOf asBytes place f end) (BlockFault place)
+refuses-block : {A : Type 0} (place : Place) (f : List Prop → List ℕ → ℕ → A) (end : ℕ) → RefusesBy (blockOf asBytes place f end) (BlockFault place)
 unfolding blockOf propertiesFit
 refuses-block place f = refuses-sized crossed (reads-num cut 4) (refuses-num cut 4) (refuses-hand f (λ e. refuses-many (refuses-property place e) (reads-property place e) (property-solid place)))
 
 -- ---- bodies
 
 module _ (rs : List ℕ) (end : ℕ) where
-  ack-block : Refuses (exactFit (blockOf asBytes ackPlace (ackAs asBytes) end) cut) (ExactFault (Block ackPlace ackOf) (BlockFault ackPlace) cut)
+  ack-block : RefusesBy (exactFit (blockOf asBytes ackPlace (ackAs asBytes) end) cut) (ExactFault (Block ackPlace ackOf) (BlockFault ackPlace) cut)
   ack-block = refuses-exact (refuses-block ackPlace (ackAs asBytes) end) (reads-ack end) cut
 
   block-fault : (c : ℕ) (r : List ℕ) (k : Refusal) → isIn c rs ≡ true → ackBlockFit asBytes end r ≡ bad k → AckFault rs (c ∷ r) k
@@ -95,18 +95,18 @@ module _ (rs : List ℕ) (end : ℕ) where
   rest-refuse _ _ (reason h) = rw h
   rest-refuse _ k (block {x = x} {r = r} h f) = rw (h, ack-block .refuse (x ∷ r) k f)
 
-  refuses-rest : Refuses (ackRestFit asBytes rs end) (AckFault rs)
+  refuses-rest : RefusesBy (ackRestFit asBytes rs end) (AckFault rs)
   refuses-rest = record { fault = rest-fault; refuse = rest-refuse }
 
 module _ (end : ℕ) where
-  refuses-filter : Refuses (filterOf asBytes end) FilterFault
+  refuses-filter : RefusesBy (filterOf asBytes end) FilterFault
   unfolding filterOf
   refuses-filter =
       refuses-map (refuses-then (refuses-text end) (reads-text end)
       (refuses-only (refuses-only (refuses-byte cut) (reads-byte cut) ruleFine (λ _. nr 14 (3 ∷ []))) (reads-only ruleFine (λ _. nr 14 (3 ∷ [])) (reads-byte cut)) qosFine (λ _. nr 11 (3 ∷ []))))
       mkFilter
 
-  refuses-run : Refuses (manyFit (filterOf asBytes end)) (ManyFault FilterOf FilterFault)
+  refuses-run : RefusesBy (manyFit (filterOf asBytes end)) (ManyFault FilterOf FilterFault)
   refuses-run = refuses-many refuses-filter (reads-filter end) filter-solid
 
   empty-run : (fs : List (Filter (List ℕ))) (s : List ℕ) → someOf fs ≡ false → Many FilterOf fs s → s ≡ []
@@ -123,10 +123,10 @@ module _ (end : ℕ) where
   filters-refuse _ _ noFilters = refl
   filters-refuse s k (filter h) = rw (refuses-run .refuse s k h)
 
-  refuses-filters : Refuses (filtersFit asBytes end) FiltersFault
+  refuses-filters : RefusesBy (filtersFit asBytes end) FiltersFault
   refuses-filters = record { fault = filters-fault; refuse = filters-refuse }
 
-refuses-ident : (q : ℕ) → Refuses (identOf q) (IdentFault q)
+refuses-ident : (q : ℕ) → RefusesBy (identOf q) (IdentFault q)
 unfolding identOf
 refuses-ident zero = refuses-none 0
 refuses-ident (suc q) = refuses-only (refuses-big cut 2) (reads-big cut 2) notZero (λ _. nr 12 [])
@@ -134,7 +134,7 @@ refuses-ident (suc q) = refuses-only (refuses-big cut 2) (reads-big cut 2) notZe
 -- ---- every layout
 
 module _ (x end : ℕ) where
-  refuses-message : Refuses (messageFit asBytes x end) (MessageFault (flagQos x))
+  refuses-message : RefusesBy (messageFit asBytes x end) (MessageFault (flagQos x))
   unfolding messageFit stringFit
   refuses-message =
       refuses-fit (mkPublish x)
@@ -152,7 +152,7 @@ module _ (x end : ℕ) where
   publish-refuse s _ (qos h) = rw h
   publish-refuse s k (fields h f) = rw (h, refuses-message .refuse s k f)
 
-  refuses-fields : (f : Layout) → Refuses (fieldsFit asBytes f x end) (FieldsFault f x)
+  refuses-fields : (f : Layout) → RefusesBy (fieldsFit asBytes f x end) (FieldsFault f x)
   unfolding fieldsFit
   refuses-fields aPublish = record { fault = publish-fault; refuse = publish-refuse }
   refuses-fields (anAck rs) = refuses-fit (mkAck x) (refuses-end (refuses-big cut 2) (reads-big cut 2) (refuses-rest rs end))
@@ -190,12 +190,12 @@ module _ (x end : ℕ) where
   body-refuse _ _ (foreign h e) = rw (h, e)
   body-refuse b k (content {l = f} e h g) = rw (kind-fine (kindOf x) f e, e, h, refuses-fields f .refuse b k g)
 
-  refuses-body : Refuses (bodyFit asBytes x end) (BodyFault x)
+  refuses-body : RefusesBy (bodyFit asBytes x end) (BodyFault x)
   refuses-body = record { fault = body-fault; refuse = body-refuse }
 
 -- ---- the frame, and the verdict
 
-pub refuses-frame : (limit : Option ℕ) (end : ℕ) → Refuses (frameOf limit end) (FrameFault limit)
+pub refuses-frame : (limit : Option ℕ) (end : ℕ) → RefusesBy (frameOf limit end) (FrameFault limit)
 unfolding frameOf
 refuses-frame limit end =
     refuses-then (refuses-byte (nr 1 (2 ∷ []))) (reads-byte (nr 1 (2 ∷ [])))

@@ -32,7 +32,7 @@ of-guard false c m k x y e = x refl (cc)
 
 -- ---- what a reader, or a filler, that refuses has to do
 
-pub record Refuses {B : Type 0} (p : List ℕ → Fit B) (F : Fault) : Type 0 where
+pub record RefusesBy {B : Type 0} (p : List ℕ → Fit B) (F : Fault) : Type 0 where
   pub fault : (s : List ℕ) (k : Refusal) → p s ≡ bad k → F s k
   pub refuse : (s : List ℕ) (k : Refusal) → F s k → p s ≡ bad k
 
@@ -48,7 +48,7 @@ module _ (c : Refusal) where
   unfolding byteOf
   byte-refuse _ _ noByte = refl
 
-  pub refuses-byte : Refuses (byteOf c) (ByteFault c)
+  pub refuses-byte : RefusesBy (byteOf c) (ByteFault c)
   refuses-byte = record { fault = byte-fault; refuse = byte-refuse }
 
   module _ (n : ℕ) where
@@ -60,7 +60,7 @@ module _ (c : Refusal) where
     unfolding bigOf
     big-refuse s _ (fewer h) = rw (leb-no n (length s) h)
 
-    pub refuses-big : Refuses (bigOf c n) (BigFault c n)
+    pub refuses-big : RefusesBy (bigOf c n) (BigFault c n)
     refuses-big = record { fault = big-fault; refuse = big-refuse }
 
   -- a byte with its top bit set before a fault
@@ -96,40 +96,40 @@ module _ (c : Refusal) where
   num-refuse n s _ (endless t h) = tops-end n s t h
   num-refuse n _ _ (long {b = b} r t h) = tops-long n b r t h
 
-  pub refuses-num : (n : ℕ) → Refuses (numOf c n) (NumFault c n)
+  pub refuses-num : (n : ℕ) → RefusesBy (numOf c n) (NumFault c n)
   refuses-num n = record { fault = num-fault n; refuse = num-refuse n }
 
 -- ---- readers
 
-pub refuses-none : {A : Type 0} (a : A) → Refuses (noneOf a) Sound
+pub refuses-none : {A : Type 0} (a : A) → RefusesBy (noneOf a) Sound
 unfolding noneOf
 refuses-none a = record { fault = λ s k e. got-bad e; refuse = λ s k f. elim f [ ] }
 
 -- what is made of a value that was read refuses nothing
-module _ {A B : Type 0} {p : List ℕ → Fit A} {F : Fault} (P : Refuses p F) (g : List ℕ → A → B) where
+module _ {A B : Type 0} {p : List ℕ → Fit A} {F : Fault} (P : RefusesBy p F) (g : List ℕ → A → B) where
   via-fault : (s : List ℕ) (k : Refusal) → (p s >>= λ a. got (g s a)) ≡ bad k → F s k
   via-fault s k = of-bind (p s) _ k (P .fault s k) (λ a e e′. got-bad e′)
 
   via-refuse : (s : List ℕ) (k : Refusal) → F s k → (p s >>= λ a. got (g s a)) ≡ bad k
   via-refuse s k h = rw (P .refuse s k h)
 
-  refuses-via : Refuses (λ s. p s >>= λ a. got (g s a)) F
+  refuses-via : RefusesBy (λ s. p s >>= λ a. got (g s a)) F
   refuses-via = record { fault = via-fault; refuse = via-refuse }
 
-pub refuses-map : {A B : Type 0} {p : Reader A} {F : Fault} → Refuses p F → (f : A → B) → Refuses (mapOf f p) F
+pub refuses-map : {A B : Type 0} {p : Reader A} {F : Fault} → RefusesBy p F → (f : A → B) → RefusesBy (mapOf f p) F
 unfolding mapOf
 refuses-map P f = refuses-via P (λ s y. (f (y .0), y .1))
 
-pub refuses-fit : {A B : Type 0} {q : Filler A} {F : Fault} (f : A → B) → Refuses q F → Refuses (mapFit f q) F
+pub refuses-fit : {A B : Type 0} {q : Filler A} {F : Fault} (f : A → B) → RefusesBy q F → RefusesBy (mapFit f q) F
 unfolding mapFit
 refuses-fit f Q = refuses-via Q (λ s. f)
 
-pub refuses-hand : {A B : Type 0} {q : ℕ → Filler A} {F : Fault} (f : A → List ℕ → ℕ → B) → ((e : ℕ) → Refuses (q e) F) → (end : ℕ) → Refuses (handFit f q end) F
+pub refuses-hand : {A B : Type 0} {q : ℕ → Filler A} {F : Fault} (f : A → List ℕ → ℕ → B) → ((e : ℕ) → RefusesBy (q e) F) → (end : ℕ) → RefusesBy (handFit f q end) F
 unfolding handFit
 refuses-hand f Q end = refuses-via (Q end) (λ s a. f a s end)
 
 -- one after the other, whatever is made of the two values
-module _ {A B C : Type 0} {p : Reader A} {q : List ℕ → Fit B} {G : Gram A} {F H : Fault} (P : Refuses p F) (R : Reads p G) (Q : Refuses q H) (g : A → B → C) where
+module _ {A B C : Type 0} {p : Reader A} {q : List ℕ → Fit B} {G : Gram A} {F H : Fault} (P : RefusesBy p F) (R : Reads p G) (Q : RefusesBy q H) (g : A → B → C) where
   pair-fault : (s : List ℕ) (k : Refusal) → (p s >>= λ x. q (x .1) >>= λ y. got (g (x .0) y)) ≡ bad k → ThenFault G F H s k
   pair-fault s k = of-bind (p s) _ k (λ e. first (P .fault s k e)) λ x e. of-bind (q (x .1)) _ k
       (λ e′. let (b, e₁, r) = R .split s x e in rw e₁ (second r (Q .fault (x .1) k e′))) (λ y e′ e″. got-bad e″)
@@ -138,19 +138,19 @@ module _ {A B C : Type 0} {p : Reader A} {q : List ℕ → Fit B} {G : Gram A} {
   pair-refuse s k (first h) = rw (P .refuse s k h)
   pair-refuse _ k (second {a = a} {b = b} {r = r} h f) = rw (R .whole a b r h, Q .refuse r k f)
 
-  refuses-pair : Refuses (λ s. p s >>= λ x. q (x .1) >>= λ y. got (g (x .0) y)) (ThenFault G F H)
+  refuses-pair : RefusesBy (λ s. p s >>= λ x. q (x .1) >>= λ y. got (g (x .0) y)) (ThenFault G F H)
   refuses-pair = record { fault = pair-fault; refuse = pair-refuse }
 
-module _ {A B : Type 0} {p : Reader A} {G : Gram A} {F H : Fault} (P : Refuses p F) (R : Reads p G) where
-  pub refuses-then : {q : Reader B} → Refuses q H → Refuses (thenOf p (λ _. q)) (ThenFault G F H)
+module _ {A B : Type 0} {p : Reader A} {G : Gram A} {F H : Fault} (P : RefusesBy p F) (R : Reads p G) where
+  pub refuses-then : {q : Reader B} → RefusesBy q H → RefusesBy (thenOf p (λ _. q)) (ThenFault G F H)
   unfolding thenOf
   refuses-then Q = refuses-pair P R Q (λ a y. ((a, y .0), y .1))
 
-  pub refuses-end : {q : Filler B} → Refuses q H → Refuses (thenFit p (λ _. q)) (ThenFault G F H)
+  pub refuses-end : {q : Filler B} → RefusesBy q H → RefusesBy (thenFit p (λ _. q)) (ThenFault G F H)
   unfolding thenFit
   refuses-end Q = refuses-pair P R Q (λ a c. (a, c))
 
-module _ {A : Type 0} {p : Reader A} {F : Fault} (P : Refuses p F) where
+module _ {A : Type 0} {p : Reader A} {F : Fault} (P : RefusesBy p F) where
   module _ {G : Gram A} (R : Reads p G) where
     module _ (t : A → Bool) (c : A → Refusal) where
       only-fault : (s : List ℕ) (k : Refusal) → onlyOf t c p s ≡ bad k → OnlyFault t c G F s k
@@ -163,7 +163,7 @@ module _ {A : Type 0} {p : Reader A} {F : Fault} (P : Refuses p F) where
       only-refuse s k (under h) = rw (P .refuse s k h)
       only-refuse _ _ (fails {a = a} {b = b} r g h) = rw (R .whole a b r g, h)
 
-      pub refuses-only : Refuses (onlyOf t c p) (OnlyFault t c G F)
+      pub refuses-only : RefusesBy (onlyOf t c p) (OnlyFault t c G F)
       refuses-only = record { fault = only-fault; refuse = only-refuse }
 
     module _ (c : Refusal) where
@@ -181,7 +181,7 @@ module _ {A : Type 0} {p : Reader A} {F : Fault} (P : Refuses p F) where
       exact-refuse s k (before h) = rw (P .refuse s k h)
       exact-refuse _ _ (follows {a = a} {b = b} y r g) = rw (R .whole a b (y ∷ r) g)
 
-      pub refuses-exact : Refuses (exactFit p c) (ExactFault G F c)
+      pub refuses-exact : RefusesBy (exactFit p c) (ExactFault G F c)
       refuses-exact = record { fault = exact-fault; refuse = exact-refuse }
 
     module _ (L : Solid G) where
@@ -224,10 +224,10 @@ module _ {A : Type 0} {p : Reader A} {F : Fault} (P : Refuses p F) where
       unfolding chainFit
       many-refuse s k h = run-refuse s k h s (omega arith)
 
-      pub refuses-many : Refuses (manyFit p) (ManyFault G F)
+      pub refuses-many : RefusesBy (manyFit p) (ManyFault G F)
       refuses-many = record { fault = many-fault; refuse = many-refuse }
 
-module _ {A : Type 0} {n : Reader ℕ} {q : ℕ → Filler A} {N : Gram ℕ} {F H : Fault} (c : ℕ → List ℕ → Refusal) (R : Reads n N) (P : Refuses n F) (Q : (e : ℕ) → Refuses (q e) H) (end : ℕ) where
+module _ {A : Type 0} {n : Reader ℕ} {q : ℕ → Filler A} {N : Gram ℕ} {F H : Fault} (c : ℕ → List ℕ → Refusal) (R : Reads n N) (P : RefusesBy n F) (Q : (e : ℕ) → RefusesBy (q e) H) (end : ℕ) where
   sized-fault : (s : List ℕ) (k : Refusal) → sizedOf n c q end s ≡ bad k → SizedFault N F c H s k
   unfolding sizedOf
   sized-fault s k = of-bind (n s) _ k (λ e. sizes (P .fault s k e)) λ x e. of-guard (leb (x .0) (length (x .1))) (c (x .0) (x .1)) _ k
@@ -256,7 +256,7 @@ module _ {A : Type 0} {n : Reader ℕ} {q : ℕ → Filler A} {N : Gram ℕ} {F 
         Q (end - length r) .refuse b k h,
       )
 
-  pub refuses-sized : Refuses (sizedOf n c q end) (SizedFault N F c H)
+  pub refuses-sized : RefusesBy (sizedOf n c q end) (SizedFault N F c H)
   refuses-sized = record { fault = sized-fault; refuse = sized-refuse }
 
 -- ---- bytes as they stand
@@ -274,5 +274,5 @@ module _ (t : List ℕ → Bool) (P : List ℕ → Type 0) (c : Refusal) (D : (b
   unfolding isFit
   is-refuse s _ (isnt h) = rw (fails-test s h (t s) refl)
 
-  pub refuses-is : Refuses (isFit t c) (IsFault P c)
+  pub refuses-is : RefusesBy (isFit t c) (IsFault P c)
   refuses-is = record { fault = is-fault; refuse = is-refuse }

@@ -129,7 +129,7 @@ pub data FiltersFault : List ℕ → Refusal → Type 0 where
   noFilters : FiltersFault [] (nr 13 [])
   filter : {s : List ℕ} {k : Refusal} → ManyFault FilterOf FilterFault s k → FiltersFault s k
 
--- 01: "Topic as bytes; u16 identifier; block; the rest is payload", where QoS is q
+-- 01: "Topic as bytes, ..; u16 identifier ..; block; the rest is payload", where QoS is q
 abbrev pub MessageFault : ℕ → Fault
 MessageFault q = ThenFault Bytes BytesFault (ThenFault (Ident q) (IdentFault q) (ThenFault (Block publishPlace publishOf) (BlockFault publishPlace) Sound))
 

@@ -32,11 +32,11 @@ partOf s p = take (p .len) (drop (p .start) s)
 abbrev pub liesIn : List ℕ → Span → Bool
 liesIn s p = leb (p .start + p .len) (length s)
 
--- demand 1: "any record may be handed to any public entry point": the part if it lies within the stream, else the empty part
+-- demand 1, of any record: the part if it lies within the stream, else the empty part
 unfoldable pub heldOf : List ℕ → Span → List ℕ
 heldOf s p = cond (liesIn s p) (partOf s p) []
 
--- a string is handed back as its span, a list as the span that its items fill
+-- 01, "What must change shape": a string is handed back as its span, a list as the span that its items fill
 abbrev pub asPlaces : Shape
 asPlaces = record { Str = Span; Run = λ A. Span; string = spanOf; run = λ A vs b end. spanOf b end }
 
@@ -44,7 +44,7 @@ asPlaces = record { Str = Span; Run = λ A. Span; string = spanOf; run = λ A vs
 abbrev pub Placed : Type 0
 Placed = PacketOf Span (λ A. Span)
 
--- the answer with every number and place in it
+-- 01, Taken: the answer, with every number and place in it
 abbrev pub readPlacedOf : Option ℕ → List ℕ → Answer Placed
 readPlacedOf = readAs asPlaces
 
@@ -59,7 +59,7 @@ abbrev pub orNoItem : {A : Type 0} → Fit A → Fit A
 orNoItem (got a) = got a
 orNoItem (bad k) = bad noItem
 
--- what fills the part of s at p
+-- 01, row 21: what fills the part of s at p
 unfoldable pub again : {A : Type 0} → (ℕ → Filler A) → List ℕ → Span → Fit A
 again q s p = do
   guard (liesIn s p) noItem

@@ -88,7 +88,7 @@ asBytes = record { Str = List ℕ; Run = List; string = λ b end. b; run = λ A 
 abbrev pub lengthOf : Option ℕ → Reader ℕ
 lengthOf limit = onlyOf (within limit) (over limit) (numOf (nr 1 (1 ∷ [])) 4)
 
--- 01: "A frame is one byte, a variable length number R, then R bytes"; reading order: "1 while the header is incomplete, or 2; then 3; then 1"
+-- 01: "A frame is one byte .., a variable length number R, then R bytes"; reading order: "1 while the header is incomplete, or 2; then 3; then 1"
 unfoldable pub frameOf : Option ℕ → ℕ → Reader (ℕ × List ℕ)
 frameOf limit end = thenOf (byteOf (nr 1 (2 ∷ []))) (λ _. sizedOf (lengthOf limit) lacking (λ _. isFit anyBytes cut) end)
 
@@ -179,7 +179,7 @@ module _ (h : Shape) where
   unfoldable pub filtersFit : ℕ → Filler (List (Filter (h .Str)))
   filtersFit end = onlyFit someOf (nr 13 []) (manyFit (filterOf end))
 
-  -- 01: "Topic as bytes; u16 identifier; block; the rest is payload"
+  -- 01: "Topic as bytes, ..; u16 identifier ..; block; the rest is payload"
   unfoldable pub messageFit : ℕ → ℕ → Filler (PacketOf (h .Str) (h .Run))
   messageFit x end =
       mapFit (mkPublish x) (thenFit (bytesOf end) (λ _. thenFit (identOf (flagQos x)) (λ _. thenFit (blockOf publishPlace publishAs end) (λ _. stringFit anyBytes cut end))))

@@ -70,13 +70,13 @@ back-user (UserItem.Pair k v) = simp back-span
 back-user UserItem.NoItem = refl
 
 -- the number of a value
-abbrev numberIn : Val place.Span → IdentifierItem
-numberIn (num n) = IdentifierItem.Number n
-numberIn (str p) = IdentifierItem.NoItem
-numberIn (duo k v) = IdentifierItem.NoItem
+abbrev identifierIn : Val place.Span → IdentifierItem
+identifierIn (num n) = IdentifierItem.Number n
+identifierIn (str p) = IdentifierItem.NoItem
+identifierIn (duo k v) = IdentifierItem.NoItem
 
 pub backIdentifier : Fit (Val place.Span) → IdentifierItem
-backIdentifier (got v) = numberIn v
+backIdentifier (got v) = identifierIn v
 backIdentifier (bad k) = IdentifierItem.NoItem
 
 pub back-identifier : (r : IdentifierItem) → backIdentifier (toldIdentifier r) ≡ r

@@ -1,6 +1,6 @@
 -- How bytes are written for people: the line format of docs/DESK.md. Assumes nothing.
 use mathlib.Core.Path.{_≡_}
-use mathlib.Core.Bool.{Bool, cond, _||_}
+use mathlib.Core.Bool.{Bool, cond, _||_, _&&_}
 use mathlib.Core.List.{List, [], _∷_, _++_}
 use Prim.Native.Nat.{ℕ, zero, suc, _+_, _-_, _/_, _%_}
 use lib.Dec.{eqb, leb, ltb}
@@ -30,7 +30,7 @@ isMarked b = eqb b 34 || eqb b 92
 
 -- 0x20 to 0x7E stand as they are
 abbrev pub isPrintable : ℕ → Bool
-isPrintable b = cond (leb 32 b) (leb b 126) (leb 32 b)
+isPrintable b = leb 32 b && leb b 126
 
 -- a byte between the quotes; every other byte is `\xHH`
 unfoldable pub shownOf : ℕ → List ℕ

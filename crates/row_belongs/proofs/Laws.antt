@@ -1,4 +1,4 @@
--- What belongs together, test by test. Assumes nothing.
+-- What belongs together, test by test. Assumes nothingGiven.
 use mathlib.Core.Path.{_≡_, refl, sym, _∙_}
 use mathlib.Core.Bool.{Bool, true, false, _&&_, _||_, or-true}
 use mathlib.Core.List.{List, [], _∷_}
@@ -8,10 +8,10 @@ use lib.ListN.{length}
 use Rattle.grammar.specs.Choice.{isEmpty}
 use Rattle.reading.proofs.Lists.{no-way}
 use Rattle.writing.specs.Lists.{sum}
-use Rattle.writing.specs.Handed.{Run, pairs, addsUp, nothing, rowBelongs}
+use Rattle.writing.specs.Handed.{Run, pairs, addsUp, nothingGiven, rowBelongs}
 use Rattle.writing.proofs.Tests.{eq-when, eq-not}
 
--- ---- nothing handed over
+-- ---- nothingGiven handed over
 
 pub empty-length : {A : Type 0} (l : List A) → eqb (length l) 0 ≡ isEmpty l
 empty-length [] = refl
@@ -32,7 +32,7 @@ module _ (block : Bool) (r : Run) (e : addsUp r ≡ true) where
   pairs-odd n = rw (e, eq-not (length (r .lengths) % 2) 0 .1 n)
 
   module _ (h : length (r .lengths) % 2 ≡ 0) where
-    even : rowBelongs block (pairs r) ≡ (block || nothing (pairs r))
+    even : rowBelongs block (pairs r) ≡ (block || nothingGiven (pairs r))
     even = rw (e, eq-when (length (r .lengths) % 2) 0 .1 h)
 
     pub pairs-in : block ≡ true → true ≡ rowBelongs block (pairs r)

@@ -82,8 +82,8 @@ module _ {before whole out rest : List ℕ} {at n : ℕ} (p : Putting before at 
 -- ---- rows
 
 -- an identifier byte, and a value behind it
-pub put-row : (l l₁ l₂ xs : List ℕ) (at id m k : ℕ) → (l₁ ≡ sets l at (id ∷ [])) × (m ≡ min (at + 1) (length l₁)) → l₂ ≡ sets l₁ m xs → k ≡ 1 + length xs → Put l at (id ∷ xs) l₂ k
-put-row l l₁ l₂ xs at id m k (e, n) f c = record { stores = sets-next l l₁ l₂ (id ∷ []) xs at m e n f; count = omega arith }
+pub put-row : (l l₁ l₂ xs : List ℕ) (at id m k : ℕ) → Behind l at (id ∷ []) l₁ m → l₂ ≡ sets l₁ m xs → k ≡ 1 + length xs → Put l at (id ∷ xs) l₂ k
+put-row l l₁ l₂ xs at id m k p f c = record { stores = sets-next l l₁ l₂ (id ∷ []) xs at m (p .stores) (p .place) f; count = omega arith }
 
 module _ (id : ℕ) (f : Form) where
   one-row : (n : ℕ) → rowBytes (id, f) (one (some n)) ≡ id ∷ numeral f n
@@ -96,7 +96,7 @@ module _ (id : ℕ) (f : Form) where
 
 -- a number of w bytes
 pub put-wide : (id : ℕ) (f : Form) (w n : ℕ) → numeral f n ≡ wide w n → (l l₁ l₂ : List ℕ) (at m : ℕ)
-    → (l₁ ≡ sets l at (id ∷ [])) × (m ≡ min (at + 1) (length l₁)) → l₂ ≡ sets l₁ m (wide w n) → Put l at (rowBytes (id, f) (one (some n))) l₂ (1 + w)
+    → Behind l at (id ∷ []) l₁ m → l₂ ≡ sets l₁ m (wide w n) → Put l at (rowBytes (id, f) (one (some n))) l₂ (1 + w)
 put-wide id f w n e l l₁ l₂ at m p q = rw (one-row id f n, e) (put-row l l₁ l₂ (wide w n) at id m (1 + w) p q (rw (length-wide w n)))
 
 -- a variable length number
@@ -106,5 +106,5 @@ put-short id n l l₂ at k p = rw (one-row id number n) p
 
 -- a string
 pub put-string : (id : ℕ) (f : Form) (s l l₁ l₂ : List ℕ) (at m : ℕ)
-    → (l₁ ≡ sets l at (id ∷ [])) × (m ≡ min (at + 1) (length l₁)) → l₂ ≡ sets l₁ m (string s) → Put l at (rowBytes (id, f) (givenLent true s)) l₂ (3 + length s)
+    → Behind l at (id ∷ []) l₁ m → l₂ ≡ sets l₁ m (string s) → Put l at (rowBytes (id, f) (givenLent true s)) l₂ (3 + length s)
 put-string id f s l l₁ l₂ at m p q = rw (lent-row id f s) (put-row l l₁ l₂ (string s) at id m (3 + length s) p q (omega (arith, length-string s)))

@@ -7,19 +7,17 @@ use records::span::MaybeU16;
 use records::span::MaybeU32;
 use rows::run;
 use string_puts::put_string;
-ghost use mathlib.Core.Path.{_≡_};
 ghost use mathlib.Core.List.{_∷_, []};
-ghost use Prim.Native.Nat.{_+_, _≤_, min};
-ghost use lib.ListN.{length};
-ghost use lib.Seq.{sets};
+ghost use Prim.Native.Nat.{_≤_};
 ghost use Rattle.grammar.specs.Tables.{Form, u8, u16, u32, number};
 ghost use Rattle.writing.specs.Spell.{short, rowBytes};
 ghost use Rattle.rows.specs.Given.{givenU8, givenU16, givenU32, givenLent};
 ghost use Rattle.row_puts.specs.Put.{Put};
+ghost use Rattle.row_puts.specs.Behind.{Behind};
 
 // An identifier byte; gives the index after it, the end at most.
 pub fn put_id(out: &mut [u8], at: usize, id: u8) -> usize
-    ensures { λ r. ⌜ (now (out .exit) ≡ sets (now (out .entry)) at (id ∷ [])) × (r ≡ min (at + 1) (length (now (out .exit)))) ⌝ }
+    ensures { λ r. ⌜ Behind (now (out .entry)) at (id ∷ []) (now (out .exit)) r ⌝ }
 {
     fixed::put_u8(&mut *out, at, id);
     run::after(out.len(), at, 1)

@@ -16,7 +16,7 @@ use Rattle.positions.proofs.Position.{got-left, got-within, bad-left}
 use Rattle.positions.proofs.Trails.{trails-reads}
 use Rattle.positions.proofs.Walk.{Less, fold-nil, fold-bad, fold-next}
 use Rattle.positions.specs.Count.{wrapped, orZero}
-use Rattle.speed_leaves.specs.Numbers.{sumFrom, sumOf}
+use Rattle.speed_leaves.specs.Numbers.{numbersSumFrom, numbersSum}
 
 num-less : (bound : ℕ) → Less bound (numOf cut 4)
 num-less bound s z h e = less (reads-num cut 4) (num-solid 4) s z e
@@ -24,18 +24,18 @@ num-less bound s z h e = less (reads-num cut 4) (num-solid 4) s z e
 -- the numbers before `at` are summed up, and what stands from there on decides
 pub record Summed (s : List ℕ) (sum at : ℕ) : Type 0 where
   pub within : at ≤ length s
-  pub rest : sumOf s ≡ orZero (sumFrom sum (drop at s))
+  pub rest : numbersSum s ≡ orZero (numbersSumFrom sum (drop at s))
 
 pub none-summed : (s : List ℕ) → Summed s 0 0
-unfolding sumOf
+unfolding numbersSum
 none-summed s = record { within = omega arith; rest = refl }
 
 module _ {s : List ℕ} {sum at : ℕ} (p : Summed s sum at) where
-  pub all-summed : length s ≤ at → sum ≡ sumOf s
+  pub all-summed : length s ≤ at → sum ≡ numbersSum s
   all-summed h = sym (p .rest ∙ rw (drop-of-length-le s h, fold-nil forget (λ _. numOf cut 4) 0 (λ _. num-less 0) wrapped sum tt))
 
   module _ (h : at < length s) where
-    pub not-summed : (k : Refusal) → fromAt (numOf cut 4) s at ≡ bad k → 0 ≡ sumOf s
+    pub not-summed : (k : Refusal) → fromAt (numOf cut 4) s at ≡ bad k → 0 ≡ numbersSum s
     not-summed k e =
         let c : drop at s ≡ getD s at 0 ∷ drop (suc at) s = drop-cons s at 0 h in
         let b : numOf cut 4 (getD s at 0 ∷ drop (suc at) s) ≡ bad k = rw c at (bad-left (numOf cut 4) s at k e) in

@@ -13,14 +13,14 @@ nextOf (got (n, next)) = next
 nextOf (bad k) = 0
 
 -- the number, or what stood there before
-abbrev pub valueOf : ℕ → Fit (ℕ × ℕ) → ℕ
-valueOf old (got (n, next)) = n
-valueOf old (bad k) = old
+abbrev pub numberOr : ℕ → Fit (ℕ × ℕ) → ℕ
+numberOr old (got (n, next)) = n
+numberOr old (bad k) = old
 
 -- the sum of the numbers that fill s, beside what came before
-abbrev pub sumFrom : ℕ → List ℕ → Fit ℕ
-sumFrom sum s = foldFit forget (λ _. numOf cut 4) wrapped sum tt s
+abbrev pub numbersSumFrom : ℕ → List ℕ → Fit ℕ
+numbersSumFrom sum s = foldFit forget (λ _. numOf cut 4) wrapped sum tt s
 
 -- 01, grammar: variable length numbers, one behind the other to the end
-unfoldable pub sumOf : List ℕ → ℕ
-sumOf s = orZero (sumFrom 0 s)
+unfoldable pub numbersSum : List ℕ → ℕ
+numbersSum s = orZero (numbersSumFrom 0 s)

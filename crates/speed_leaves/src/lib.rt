@@ -6,7 +6,7 @@ ghost use mathlib.Core.Path.{_≡_};
 ghost use Rattle.reading.specs.Refusal.{cut};
 ghost use Rattle.reading.specs.Read.{isText, numOf};
 ghost use Rattle.positions.specs.Position.{fromAt};
-ghost use Rattle.speed_leaves.specs.Numbers.{valueOf, nextOf, sumOf};
+ghost use Rattle.speed_leaves.specs.Numbers.{numberOr, nextOf, numbersSum};
 
 // Is s well-formed UTF-8?
 #[no_mangle]
@@ -19,7 +19,7 @@ pub extern "C" fn speed_leaves_is_utf8(s: &[u8]) -> bool
 // The index after the variable length number at `at`, whose value is stored; 0, and nothing is stored, if there is none.
 #[no_mangle]
 pub extern "C" fn speed_leaves_length(s: &[u8], at: usize, value: &mut u32) -> usize
-    ensures { λ r. ⌜ (r ≡ nextOf (fromAt (numOf cut 4) (now (s .entry)) at)) × (now (value .exit) ≡ valueOf (now (value .entry)) (fromAt (numOf cut 4) (now (s .entry)) at)) ⌝ }
+    ensures { λ r. ⌜ (r ≡ nextOf (fromAt (numOf cut 4) (now (s .entry)) at)) × (now (value .exit) ≡ numberOr (now (value .entry)) (fromAt (numOf cut 4) (now (s .entry)) at)) ⌝ }
 {
     match var_length::read_length(s, at) {
         GotU32::Value(n, next) => {
@@ -33,7 +33,7 @@ pub extern "C" fn speed_leaves_length(s: &[u8], at: usize, value: &mut u32) -> u
 // The sum of the variable length numbers that fill s, modulo 2^64; 0 if s is no run of such numbers.
 #[no_mangle]
 pub extern "C" fn speed_leaves_sum(s: &[u8]) -> u64
-    ensures { λ r. ⌜ r ≡ sumOf (now (s .entry)) ⌝ }
+    ensures { λ r. ⌜ r ≡ numbersSum (now (s .entry)) ⌝ }
 {
     let mut sum: u64 = 0;
     let mut at: usize = 0;

@@ -13,7 +13,7 @@ use Rattle.reading.specs.Place.{asPlaces, Placed, readPlacedOf}
 use Rattle.reading.proofs.Reading.{less, solid-then}
 use Rattle.reading.proofs.Fields.{byte-solid}
 use Rattle.reading.proofs.Demand.{no-accept, reads-length, reads-frame}
-use Rattle.speed_reading.specs.Sum.{counted, sumFrom, sumOf}
+use Rattle.speed_reading.specs.Sum.{addedFor, framesSumFrom, framesSum}
 
 -- ---- taken
 
@@ -41,8 +41,8 @@ module _ (limit : Option ℕ) (s : List ℕ) (p : Placed) (n : ℕ) where
   taken-fits h = frame-taken (frameOf limit (length s) s) refl h
 
 -- nothing is read of no bytes
-none-taken : (f : List ℕ) (sum : ℕ) → sumFrom f sum [] ≡ sum
-unfolding sumFrom readAs frameAnswer frameOf thenOf byteOf
+none-taken : (f : List ℕ) (sum : ℕ) → framesSumFrom f sum [] ≡ sum
+unfolding framesSumFrom readAs frameAnswer frameOf thenOf byteOf
 none-taken [] sum = refl
 none-taken (y ∷ f) sum = refl
 
@@ -53,10 +53,10 @@ pub record Summed (s : List ℕ) (sum at : ℕ) : Type 0 where
   pub within : at ≤ length s
   pub bound : List ℕ
   pub enough : length s - at ≤ length bound
-  pub rest : sumOf s ≡ sumFrom bound sum (drop at s)
+  pub rest : framesSum s ≡ framesSumFrom bound sum (drop at s)
 
 pub none-summed : (s : List ℕ) → Summed s 0 0
-unfolding sumOf
+unfolding framesSum
 none-summed s = record { within = omega arith; bound = s; enough = omega arith; rest = refl }
 
 -- the part of s from `at` on, as it is lent
@@ -67,17 +67,17 @@ part-from : (s : List ℕ) (at : ℕ) → partFrom s at ≡ drop at s
 part-from s at = take-all (length s - at) (drop at s) (rw length-drop (omega arith))
 
 module _ {s : List ℕ} {sum at : ℕ} (q : Summed s sum at) where
-  pub all-summed : length s ≤ at → sum ≡ sumOf s
+  pub all-summed : length s ≤ at → sum ≡ framesSum s
   all-summed h = sym (q .rest ∙ rw (drop-of-length-le s h, none-taken (q .bound) sum))
 
-  pub last-summed : (k : Refusal) (n : ℕ) → refusedAs k n ≡ readPlacedOf none (partFrom s at) → sum ≡ sumOf s
-  unfolding sumFrom
+  pub last-summed : (k : Refusal) (n : ℕ) → refusedAs k n ≡ readPlacedOf none (partFrom s at) → sum ≡ framesSum s
+  unfolding framesSumFrom
   last-summed (nr k vs) n e = sym (q .rest ∙ go (q .bound))
     where
       e′ : readPlacedOf none (drop at s) ≡ refused k vs n
       e′ = sym (rw (part-from s at) at e)
 
-      go : (f : List ℕ) → sumFrom f sum (drop at s) ≡ sum
+      go : (f : List ℕ) → framesSumFrom f sum (drop at s) ≡ sum
       go [] = refl
       go (y ∷ f) = rw e′
 
@@ -90,11 +90,11 @@ module _ {s : List ℕ} {sum at : ℕ} (q : Summed s sum at) where
         let t : Fits (drop at s) n = taken-fits none (drop at s) p n here in
         (t .0, omega (arith, t .1, length-drop at s))
 
-    pub one-summed : Summed s (counted sum p n) (at + n)
-    unfolding sumFrom
+    pub one-summed : Summed s (addedFor sum p n) (at + n)
+    unfolding framesSumFrom
     one-summed = go (q .bound) (q .enough) (q .rest)
       where
-        go : (f : List ℕ) → length s - at ≤ length f → sumOf s ≡ sumFrom f sum (drop at s) → Summed s (counted sum p n) (at + n)
+        go : (f : List ℕ) → length s - at ≤ length f → framesSum s ≡ framesSumFrom f sum (drop at s) → Summed s (addedFor sum p n) (at + n)
         go [] l r = absurd (omega arith)
         go (y ∷ f) l r = record {
           within = ahead .1;

@@ -16,8 +16,8 @@ weightOf (subscribe m) = 0
 weightOf (ping k) = 0
 
 -- what is added for a packet of n bytes
-abbrev pub counted : ℕ → Placed → ℕ → ℕ
-counted sum p n = wrapped (wrapped sum (weightOf p)) n
+abbrev pub addedFor : ℕ → Placed → ℕ → ℕ
+addedFor sum p n = wrapped (wrapped sum (weightOf p)) n
 
 -- the first refusal ends the sum
 abbrev afterAnswer : Answer Placed → ℕ → (Placed → ℕ → ℕ) → ℕ
@@ -25,10 +25,10 @@ afterAnswer (accepted p n) sum more = more p n
 afterAnswer (refused k vs n) sum more = sum
 
 -- the frames of s, beside what came before; the first list bounds their number
-unfoldable pub sumFrom : List ℕ → ℕ → List ℕ → ℕ
-sumFrom [] sum s = sum
-sumFrom (y ∷ f) sum s = afterAnswer (readPlacedOf none s) sum (λ p n. sumFrom f (counted sum p n) (drop n s))
+unfoldable pub framesSumFrom : List ℕ → ℕ → List ℕ → ℕ
+framesSumFrom [] sum s = sum
+framesSumFrom (y ∷ f) sum s = afterAnswer (readPlacedOf none s) sum (λ p n. framesSumFrom f (addedFor sum p n) (drop n s))
 
 -- a stream has no more frames than bytes
-unfoldable pub sumOf : List ℕ → ℕ
-sumOf s = sumFrom s 0 s
+unfoldable pub framesSum : List ℕ → ℕ
+framesSum s = framesSumFrom s 0 s

@@ -6,7 +6,7 @@ use records::packet_record::Packet;
 use std::num;
 ghost use mathlib.Core.Path.{_≡_};
 ghost use Rattle.records.specs.Said.{toldPacket};
-ghost use Rattle.speed_reading.specs.Sum.{weightOf, sumOf};
+ghost use Rattle.speed_reading.specs.Sum.{weightOf, framesSum};
 
 // The lengths of topic and payload of a Publish, added; 0 for any other packet.
 fn weight(p: Packet) -> u64
@@ -24,7 +24,7 @@ fn weight(p: Packet) -> u64
 // Of the frames of a stream, up to its end or the first refusal: the bytes taken, and what each packet weighs, added modulo 2^64.
 #[no_mangle]
 pub extern "C" fn speed_reading_sum(stream: &[u8]) -> u64
-    ensures { λ r. ⌜ r ≡ sumOf (now (stream .entry)) ⌝ }
+    ensures { λ r. ⌜ r ≡ framesSum (now (stream .entry)) ⌝ }
 {
     let mut sum: u64 = 0;
     let mut at: usize = 0;

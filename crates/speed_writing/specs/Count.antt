@@ -5,7 +5,6 @@ use mathlib.Core.Option.{none}
 use mathlib.Core.List.{List}
 use Prim.Native.Nat.{ℕ}
 use lib.Dec.{eqb}
-use lib.ListN.{length}
 use Rattle.positions.specs.Count.{orZero}
 use Rattle.records.specs.declared.qos.QoS.{QoS}
 use Rattle.records.specs.declared.span.MaybeU8.{MaybeU8}

@@ -5,7 +5,7 @@ use mathlib.Core.List.{List, [], _∷_}
 use Prim.Native.Nat.{ℕ, _+_, _/_, _%_}
 use native.Mathlib.Omega.{arith}
 use lib.Dec.{leb}
-use lib.ListN.{length, length-append}
+use lib.ListN.{length}
 use lib.Seq.{sets}
 use Rattle.reading.specs.Refusal.{Refusal, nr}
 use Rattle.reading.specs.Reader.{Fit, got, bad}
@@ -33,11 +33,6 @@ put-string l l₁ l₂ xs at e f =
     f ∙ rw (e, wide-cut (length xs), sets-append (wide 2 (length xs)) xs l at, length-wide 2 (length xs))
 
 -- ---- the length's test
-
--- two bytes of length, and the bytes
-pub length-string : (xs : List ℕ) → 2 + length xs ≡ length (string xs)
-unfolding string
-length-string xs = simp (length-append, length-wide 2 (length xs))
 
 -- a string that is given a length passes the test, and one that is refused does not
 module _ (xs : List ℕ) where

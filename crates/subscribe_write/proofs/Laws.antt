@@ -2,9 +2,8 @@
 use mathlib.Core.Path.{_≡_, sym, ap, _∙_}
 use mathlib.Core.Bool.{Bool, true, not, _&&_, and-true}
 use mathlib.Core.List.{List, [], _∷_, _++_, map, append-assoc, append-nil}
-use Prim.Native.Nat.{ℕ, _+_, _*_, _≤_, min}
+use Prim.Native.Nat.{ℕ, _+_, _≤_, min}
 use native.Mathlib.Omega.{arith}
-use lib.Dec.{eqb}
 use lib.ListN.{length}
 use lib.Seq.{sets}
 use Rattle.grammar.specs.Choice.{isEmpty}
@@ -12,8 +11,8 @@ use Rattle.grammar.specs.Tables.{number, pair, subscribePlace}
 use Rattle.reading.specs.Refusal.{nr}
 use Rattle.reading.specs.Reader.{Fit, _>>_, guard}
 use Rattle.writing.specs.Lists.{flat}
-use Rattle.writing.specs.Handed.{SubscribeHanded, subscribe, one, pairs, addsUp, subscribeGiven, filters, filtersBelong, rowBelongs, belongs}
-use Rattle.writing.specs.Size.{most, withLength, givenSize, propsSize, restIs, cap}
+use Rattle.writing.specs.Handed.{SubscribeHanded, subscribe, one, pairs, subscribeGiven, filtersOf, filters, filtersBelong, rowBelongs, belongs}
+use Rattle.writing.specs.Size.{most, withLength, givenSize, propsSize, filtersSize, restIs, cap}
 use Rattle.writing.specs.Spell.{wide, short, rowBytes, propsBytes, filterBytes}
 use Rattle.writing.specs.Order.{judge, fieldTests, filterField, small, orNone}
 use Rattle.writing.specs.Write.{firstByte, frameBytes}
@@ -24,7 +23,6 @@ use Rattle.row_sizes.proofs.Laws.{cap-left, cap-both, cap-last}
 use Rattle.row_puts.specs.Put.{Put}
 use Rattle.row_puts.specs.Behind.{Behind}
 use Rattle.row_puts.proofs.Laws.{store-next, put-next, next-last, next-then}
-use Rattle.filters_write.specs.Filters.{filtersOf}
 use Rattle.settle.specs.Found.{earlyOf, lateOf}
 use Rattle.settle.proofs.Laws.{early-fields}
 
@@ -36,8 +34,7 @@ module _ (h : SubscribeHanded) where
   -- ---- 20
 
   pub belong-all : {x y z r s : Bool} → x ≡ rowBelongs (h .block) (one (h .subscription)) → y ≡ rowBelongs (h .block) (pairs (h .user))
-      → z ≡ (addsUp (h .filters) && eqb (length (h .filters .lengths)) (length (h .options))) → r ≡ (x && y) → s ≡ (r && z) → s ≡ belongs (subscribe h)
-  unfolding filtersBelong
+      → z ≡ filtersBelong (h .filters) (h .options) → r ≡ (x && y) → s ≡ (r && z) → s ≡ belongs (subscribe h)
   belong-all {y = y} e f g i j = sym (subscribe-belongs h ∙ rw (← e, ← f, ← g, and-true y, ← i, ← j))
 
   -- ---- L and R
@@ -45,12 +42,12 @@ module _ (h : SubscribeHanded) where
   pub subscribe-length : (a b r : ℕ) → a ≡ cap (givenSize number (one (h .subscription))) → b ≡ cap (givenSize pair (pairs (h .user))) → r ≡ cap (a + b) → r ≡ cap (propsSize subscribePlace (subscribeGiven h))
   subscribe-length a b r e f g = g ∙ cap-last a b (givenSize number (one (h .subscription))) (givenSize pair (pairs (h .user))) e f ∙ ap cap (sym (subscribe-sum h))
 
-  pub subscribe-rest : (l w f a r : ℕ) → l ≡ cap (propsSize subscribePlace (subscribeGiven h)) → w ≡ cap (withLength l) → f ≡ cap (length (h .filters .bytes) + 3 * length (h .options))
+  pub subscribe-rest : (l w f a r : ℕ) → l ≡ cap (propsSize subscribePlace (subscribeGiven h)) → w ≡ cap (withLength l) → f ≡ cap (filtersSize (h .filters .bytes) (h .options))
       → a ≡ cap (w + f) → r ≡ cap (a + 2) → r ≡ cap (restIs (subscribe h))
   unfolding restIs
   subscribe-rest l w f a r e g i j k =
       let n : ℕ = propsSize subscribePlace (subscribeGiven h) in
-      let t : ℕ = length (h .filters .bytes) + 3 * length (h .options) in
+      let t : ℕ = filtersSize (h .filters .bytes) (h .options) in
       let p : w ≡ cap (withLength n) = g ∙ rw e (cap-length n) in
       let q : withLength n + t + 2 ≡ 2 + (withLength n + t) = omega arith in
       k ∙ cap-left a (withLength n + t) 2 (j ∙ cap-both w f (withLength n) t p i) ∙ rw q
@@ -58,14 +55,14 @@ module _ (h : SubscribeHanded) where
   -- ---- 20 and the fields
 
   pub early-all : {b : Bool} {x y r : Fit (Unit {0})} → b ≡ belongs (subscribe h) → b ≡ true → x ≡ judgeAll (h .user)
-      → y ≡ judge (flat fieldTests (map filterField (filtersOf (h .filters .bytes) (h .filters .lengths) (h .options)))) → r ≡ (x >> y) → r ≡ earlyOf (subscribe h)
+      → y ≡ judge (flat fieldTests (map filterField (filtersOf (h .filters) (h .options)))) → r ≡ (x >> y) → r ≡ earlyOf (subscribe h)
   unfolding filters
   early-all {b} e f i j k = k ∙ rw (i, j) (sym (subscribe-tests h)) ∙ early-fields (subscribe h) b e f
 
   -- ---- 17 for the identifier, and 13
 
   pub late-all : {x y r : Fit (Unit {0})} → x ≡ judge (map small (orNone (h .subscription)))
-      → y ≡ guard (not (isEmpty (filtersOf (h .filters .bytes) (h .filters .lengths) (h .options)))) (nr 13 []) → r ≡ (x >> y) → r ≡ lateOf (subscribe h)
+      → y ≡ guard (not (isEmpty (filtersOf (h .filters) (h .options)))) (nr 13 []) → r ≡ (x >> y) → r ≡ lateOf (subscribe h)
   unfolding filters
   late-all e f g = g ∙ rw (e, f)
 
@@ -83,7 +80,7 @@ module _ (h : SubscribeHanded) where
       → Put before 0 (0x82 ∷ short len) out₁ n → first ≡ min (0 + n) (length out₁)
       → out₂ ≡ sets out₁ first (wide 2 (h .ident)) → second ≡ min (first + 2) (length out₂)
       → (propsSize subscribePlace (subscribeGiven h) ≤ most → Behind out₂ second block out₃ third)
-      → Put out₃ third (flat filterBytes (filtersOf (h .filters .bytes) (h .filters .lengths) (h .options))) out₄ j
+      → Put out₃ third (flat filterBytes (filtersOf (h .filters) (h .options))) out₄ j
       → belongs (subscribe h) ≡ true → restIs (subscribe h) ≤ most → out₄ ≡ sets before 0 (frameBytes (subscribe h))
   unfolding filters
   put-frame before out₁ out₂ out₃ out₄ len n first second third j l p₁ m₁ q₂ m₂ p₃ p₄ e s =

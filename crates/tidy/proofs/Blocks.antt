@@ -11,7 +11,7 @@ use Rattle.grammar.specs.Tables.{Form, Place}
 use Rattle.grammar.specs.Record.{allOf, unlessEmpty}
 use Rattle.grammar.specs.Sentence.{Value, Prop}
 use Rattle.grammar.specs.Octets.{Each, nil, _&_}
-use Rattle.reading.proofs.Lists.{no-way, T-true, eq-of, not-true}
+use Rattle.reading.proofs.Lists.{no-way, T-true, eq-of, not-true, lookup-each}
 use Rattle.writing.specs.Lists.{flat, all, total}
 use Rattle.writing.specs.Handed.{Givens, items, tag, entries}
 use Rattle.writing.specs.Size.{most, withLength, propsSize}
@@ -73,12 +73,7 @@ rows-size place d (p ∷ ps) = omega (arith, add-row p ps place d, rows-size pla
 -- ---- a property stands in some row
 
 no-row : (i : ℕ) (f : Form) (ps : List Prop) {place : Place} → Each (λ r. allOf (r .0) ps ≡ []) place → lookup place i ≡ some f → allOf i ps ≡ []
-no-row i f ps nil e = cc
-no-row i f ps (_&_ {a = r} {l = rs} p rows) e = go (no-row i f ps rows) (eqb (r .0) i) refl e
-  where
-    go : (lookup rs i ≡ some f → allOf i ps ≡ []) → (t : Bool) → eqb (r .0) i ≡ t → cond t (some (r .1)) (lookup rs i) ≡ some f → allOf i ps ≡ []
-    go ih true q w = rw (← eq-of (r .0) i q) p
-    go ih false q w = ih w
+no-row i f ps rows e = lookup-each (λ r. allOf (r .0) ps ≡ []) rows i f e
 
 some-row : (place : Place) (p : Prop) (ps : List Prop) → SuitsIn place p → Each (λ r. allOf (r .0) (p ∷ ps) ≡ []) place → ⊥
 unfolding allOf

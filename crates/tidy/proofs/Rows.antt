@@ -113,17 +113,13 @@ users-back {vs} p = ap duos (run-back (stringsIn vs)) ∙ pairs-back p .back
 
 -- ---- of the values with one identifier, the last is one of all
 
-abbrev optional : Option Value → List Value
-optional none = []
-optional (some v) = v ∷ []
-
-last-light : (f : Form) (i : ℕ) (o : Option Value) (ps : List Prop) → weigh f (optional (lastFrom o i ps)) ≤ weigh f (optional o) + weigh f (allOf i ps)
+last-light : (f : Form) (i : ℕ) (o : Option Value) (ps : List Prop) → weigh f (orNone (lastFrom o i ps)) ≤ weigh f (orNone o) + weigh f (allOf i ps)
 unfolding allOf
 last-light f i o [] = omega arith
 last-light f i o (p ∷ ps) = go (eqb (p .0) i) (last-light f i (cond (eqb (p .0) i) (some (p .1)) o) ps)
   where
-    go : (t : Bool) → weigh f (optional (lastFrom (cond (eqb (p .0) i) (some (p .1)) o) i ps)) ≤ weigh f (optional (cond t (some (p .1)) o)) + weigh f (allOf i ps)
-        → weigh f (optional (lastFrom (cond (eqb (p .0) i) (some (p .1)) o) i ps)) ≤ weigh f (optional o) + weigh f (cond t (p .1 ∷ allOf i ps) (allOf i ps))
+    go : (t : Bool) → weigh f (orNone (lastFrom (cond (eqb (p .0) i) (some (p .1)) o) i ps)) ≤ weigh f (orNone (cond t (some (p .1)) o)) + weigh f (allOf i ps)
+        → weigh f (orNone (lastFrom (cond (eqb (p .0) i) (some (p .1)) o) i ps)) ≤ weigh f (orNone o) + weigh f (cond t (p .1 ∷ allOf i ps) (allOf i ps))
     go true h = omega arith
     go false h = h
 
@@ -146,7 +142,7 @@ pub record RowGiven (i : ℕ) (f : Form) (ps : List Prop) (g : Given) : Type 0 w
   pub empty : ps ≡ [] → NothingGiven g
 
 -- a row whose items are the last value
-module _ (i : ℕ) (f : Form) (ps : List Prop) (g : Given) (s : Sorted g) (q : items g ≡ optional (lastOf i ps)) where
+module _ (i : ℕ) (f : Form) (ps : List Prop) (g : Given) (s : Sorted g) (q : items g ≡ orNone (lastOf i ps)) where
   last-lighter : givenSize f g ≤ weigh f (allOf i ps)
   unfolding lastOf
   last-lighter = omega (arith, weigh-given f g s, ap (weigh f) q, last-light f i none ps)
@@ -155,11 +151,11 @@ module _ (i : ℕ) (f : Form) (ps : List Prop) (g : Given) (s : Sorted g) (q : i
   unfolding lastOf
   last-whole e = last-none i ps none (go (lastOf i ps) (sym q ∙ e)) .1
     where
-      go : (o : Option Value) → optional o ≡ [] → o ≡ none
+      go : (o : Option Value) → orNone o ≡ [] → o ≡ none
       go none e = refl
       go (some v) e = cc
 
-one-items : (m : Option ℕ) → items (one m) ≡ optional (numeralOf m)
+one-items : (m : Option ℕ) → items (one m) ≡ orNone (numeralOf m)
 one-items none = refl
 one-items (some n) = refl
 
@@ -167,7 +163,7 @@ pub row-one : (i : ℕ) (f : Form) (ps : List Prop) → numeralOf (numIn (lastOf
 unfolding lastOf
 row-one i f ps e =
     let g : Given = one (numIn (lastOf i ps)) in
-    let q : items g ≡ optional (lastOf i ps) = one-items (numIn (lastOf i ps)) ∙ ap optional e in
+    let q : items g ≡ orNone (lastOf i ps) = one-items (numIn (lastOf i ps)) ∙ ap orNone e in
     record { sorted = tt; sound = nil; light = last-lighter i f ps g tt q; whole = last-whole i f ps g tt q; empty = λ z. ap (λ (l : List Prop). numIn (lastOf i l)) z }
 
 lent-sorted : (o : Option Value) → Sorted (lent (lentIn o))
@@ -176,7 +172,7 @@ lent-sorted (some (num n)) e = refl
 lent-sorted (some (str s)) e = absurd (no-way (sym e))
 lent-sorted (some (duo a b)) e = refl
 
-lent-items : (o : Option Value) → stringOf (lentIn o) ≡ o → items (lent (lentIn o)) ≡ optional o
+lent-items : (o : Option Value) → stringOf (lentIn o) ≡ o → items (lent (lentIn o)) ≡ orNone o
 lent-items none e = refl
 lent-items (some (num n)) e = cc
 lent-items (some (str s)) e = refl

@@ -16,11 +16,11 @@ use Rattle.grammar.specs.Record.{AckProps, Publish, Filter, Subscribe, Ack, kin
 use Rattle.grammar.specs.Sentence.{Any, publishOf, subscribeOf, ackOf, notThree, notZero, Ident, qosFine, ruleFine, FilterOf, someOf, AckRest, plain, coded, full, Packet, Fields, body, framed, Sentence}
 use Rattle.grammar.specs.Record as g
 use Rattle.grammar.specs.Octets.{Each, nil, Octets}
-use Rattle.reading.proofs.Lists.{no-way}
+use Rattle.reading.proofs.Lists.{no-way, lookup-each}
 use Rattle.writing.specs.Lists.{total}
 use Rattle.writing.specs.Size.{most, identSize}
 use Rattle.writing.specs.Refuse.{Short}
-use Rattle.writing.proofs.Each.{each-tail, each-left, each-right, lookup-each}
+use Rattle.writing.proofs.Each.{each-tail, each-left, each-right}
 use Rattle.writing.proofs.Tests.{eq-not, all-when}
 use Rattle.tidy.proofs.Has.{has-many, has-big, has-number, has-string, FromList, has-block}
 

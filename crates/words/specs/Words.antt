@@ -47,8 +47,8 @@ abbrev pub unasked : Asked
 unasked = record { file = 0; limit = Limit.Unlimited; status = false; bad = false; named = false; awaits = false }
 
 -- no words of desk's
-abbrev pub refused : Asked → Asked
-refused a = record { file = a .file; limit = a .limit; status = a .status; bad = true; named = a .named; awaits = a .awaits }
+abbrev pub asBad : Asked → Asked
+asBad a = record { file = a .file; limit = a .limit; status = a .status; bad = true; named = a .named; awaits = a .awaits }
 
 -- N behind `--limit`
 abbrev pub withLimit : Asked → Option ℕ → Asked
@@ -58,7 +58,7 @@ withLimit a none = record { file = a .file; limit = a .limit; status = a .status
 -- FILE, the i-th word, which is named once; `-` is standard input
 abbrev pub withName : Asked → List ℕ → ℕ → Asked
 withName a w i =
-    cond (a .named) (refused a)
+    cond (a .named) (asBad a)
     (cond (same w (codesOf "-"))
     (record { file = a .file; limit = a .limit; status = a .status; bad = a .bad; named = true; awaits = a .awaits })
     (record { file = i; limit = a .limit; status = a .status; bad = a .bad; named = true; awaits = a .awaits }))
@@ -71,8 +71,8 @@ withWord a w i =
     (record { file = a .file; limit = a .limit; status = a .status; bad = a .bad; named = a .named; awaits = true })
     (cond (same w (codesOf "--status"))
     (record { file = a .file; limit = a .limit; status = true; bad = a .bad; named = a .named; awaits = a .awaits })
-    (cond (isOption w) (refused a) (withName a w i))))
+    (cond (isOption w) (asBad a) (withName a w i))))
 
 -- after the last word: N is awaited behind `--limit`
 abbrev pub withEnd : Asked → Asked
-withEnd a = cond (a .awaits) (refused a) a
+withEnd a = cond (a .awaits) (asBad a) a

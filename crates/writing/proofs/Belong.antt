@@ -1,4 +1,4 @@
--- 20, 12 and 13 are given exactly when their rows say; what a plain success is; an absent block has nothing in it. Assumes nothing.
+-- 20, 12 and 13 are given exactly when their rows say; what a plain success is; an absent block has nothingGiven in it. Assumes nothingGiven.
 use mathlib.Core.Path.{_≡_, refl, sym}
 use mathlib.Core.Bool.{Bool, true, false, not, _||_}
 use mathlib.Core.Option.{none, some}
@@ -12,7 +12,7 @@ use Rattle.grammar.specs.Tables.{Place, publishPlace, subscribePlace, ackPlace}
 use Rattle.grammar.specs.Octets.{Each, nil, _&_}
 use Rattle.reading.proofs.Lists.{no-way, eq-of}
 use Rattle.writing.specs.Lists.{flat, sum}
-use Rattle.writing.specs.Handed.{AckHanded, Handed, publish, ack, subscribe, ping, Given, one, lent, pairs, several, Givens, publishGiven, subscribeGiven, ackGiven, items, tag, entries, filters, addsUp, sorted, nothing, blockBelongs, filtersBelong, belongs}
+use Rattle.writing.specs.Handed.{AckHanded, Handed, publish, ack, subscribe, ping, Given, one, lent, pairs, several, Givens, publishGiven, subscribeGiven, ackGiven, items, tag, entries, filters, addsUp, sorted, nothingGiven, blockBelongs, filtersBelong, belongs}
 use Rattle.writing.specs.Size.{isPlain}
 use Rattle.writing.specs.Order.{named, asked}
 use Rattle.writing.specs.Refuse.{Sorted, NothingGiven, InBlock, Belongs, Unnamed, Unasked}
@@ -27,7 +27,7 @@ sorted-when (pairs r) =
     and-when (addsUp r) (eqb (length (r .lengths) % 2) 0) (eq-when (sum (r .lengths)) (length (r .bytes))) (eq-when (length (r .lengths) % 2) 0)
 sorted-when (several ns) = (λ _. tt, λ _. refl)
 
-nothing-when : (g : Given) → (nothing g ≡ true) ↔ NothingGiven g
+nothing-when : (g : Given) → (nothingGiven g ≡ true) ↔ NothingGiven g
 nothing-when (one none) = (λ _. refl, λ _. refl)
 nothing-when (one (some n)) = (λ e. absurd (no-way e), λ e. cc)
 nothing-when (lent l) = and-when (not (l .on)) (isEmpty (l .bytes)) (not-when (l .on)) (nil-when (l .bytes))
@@ -36,7 +36,7 @@ nothing-when (several ns) = nil-when ns
 
 block-when : (place : Place) (block : Bool) (g : Givens) → (blockBelongs place block g ≡ true) ↔ Each (InBlock block g) place
 unfolding blockBelongs
-block-when place block g = all-when _ (λ r. and-when (sorted (g (r .0))) (block || nothing (g (r .0))) (sorted-when (g (r .0))) (or-when block (nothing (g (r .0))) (nothing-when (g (r .0))))) place
+block-when place block g = all-when _ (λ r. and-when (sorted (g (r .0))) (block || nothingGiven (g (r .0))) (sorted-when (g (r .0))) (or-when block (nothingGiven (g (r .0))) (nothing-when (g (r .0))))) place
 
 -- 01, row 20
 pub belongs-when : (h : Handed) → (belongs h ≡ true) ↔ Belongs h
@@ -44,7 +44,7 @@ unfolding belongs filtersBelong
 belongs-when (publish h) = block-when publishPlace (h .block) (publishGiven h)
 belongs-when (ack k h) = block-when ackPlace (h .block) (ackGiven h)
 belongs-when (subscribe h) =
-    and-when (blockBelongs subscribePlace (h .block) (subscribeGiven h)) (filtersBelong h) (block-when subscribePlace (h .block) (subscribeGiven h))
+    and-when (blockBelongs subscribePlace (h .block) (subscribeGiven h)) (filtersBelong (h .filters) (h .options)) (block-when subscribePlace (h .block) (subscribeGiven h))
     (and-when (addsUp (h .filters)) (eqb (length (h .filters .lengths)) (length (h .options))) (eq-when (sum (h .filters .lengths)) (length (h .filters .bytes))) (eq-when (length (h .filters .lengths)) (length (h .options))))
 belongs-when (ping k) = (λ _. tt, λ _. refl)
 

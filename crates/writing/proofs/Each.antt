@@ -1,15 +1,9 @@
 -- Facts of every element, and of lists one after the other. Assumes nothing.
 use mathlib.Core.Path.{_≡_, refl}
-use mathlib.Core.Bool.{Bool, true, false, cond}
-use mathlib.Core.Option.{some}
-use native.Mathlib.Omega.{arith}
-use lib.Dec.{eqb}
 use mathlib.Core.List.{List, [], _∷_, _++_, map, append-assoc}
 use Prim.Native.Nat.{ℕ, zero, suc}
 use lib.ListN.{take, drop}
-use Rattle.grammar.specs.Choice.{lookup}
 use Rattle.grammar.specs.Octets.{Each, nil, _&_, Octets}
-use Rattle.reading.proofs.Lists.{eq-of}
 use Rattle.writing.specs.Lists.{flat, pieces}
 
 module _ {A : Type 0} {P : A → Type 0} where
@@ -71,18 +65,6 @@ each-piece (n ∷ ns) p = each-take n p & each-piece ns (each-drop n p)
 -- a proof for each row, one after the other, of the table l: names the table where the goal has it computed
 pub rows-of : {A : Type 0} (P : A → Type 0) (l : List A) → Each P l → Each P l
 rows-of P l p = p
-
--- what holds of every row of a table holds of what is looked up
-pub lookup-each : {A : Type 0} (P : ℕ × A → Type 0) {t : List (ℕ × A)} → Each P t → (k : ℕ) (a : A) → lookup t k ≡ some a → P (k, a)
-lookup-each P nil k a e = let z : _≡_ {A = ℕ} 0 1 = cc in absurd (omega arith)
-lookup-each {A} P (_&_ {a = r} {l = rs} p ps) k a e = go (eqb (r .0) k) refl e (lookup-each P ps k a)
-  where
-    go : (t : Bool) → eqb (r .0) k ≡ t → cond t (some (r .1)) (lookup rs k) ≡ some a → (lookup rs k ≡ some a → P (k, a)) → P (k, a)
-    go true q e ih =
-        let i : r .0 ≡ k = eq-of (r .0) k q in
-        let j : r .1 ≡ a = cc in
-        rw (← i, ← j) p
-    go false q e ih = ih e
 
 -- ---- one after the other
 

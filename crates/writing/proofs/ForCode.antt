@@ -63,7 +63,7 @@ unfolding belongs blockBelongs ackPlace ackGiven
 ack-belongs k h = refl
 
 pub subscribe-belongs : (h : SubscribeHanded) → belongs (subscribe h)
-    ≡ ((rowBelongs (h .block) (one (h .subscription)) && (rowBelongs (h .block) (pairs (h .user)) && true)) && filtersBelong h)
+    ≡ ((rowBelongs (h .block) (one (h .subscription)) && (rowBelongs (h .block) (pairs (h .user)) && true)) && filtersBelong (h .filters) (h .options))
 unfolding belongs blockBelongs subscribePlace subscribeGiven
 subscribe-belongs h = refl
 

@@ -173,7 +173,7 @@ length-beside (s ∷ ss) (o ∷ os) e =
     let ih = length-beside ss os (omega arith) in
     simp (length-append, length-string) (omega arith)
 
-length-filters : (h : SubscribeHanded) → AddsUp (h .filters) → length (h .filters .lengths) ≡ length (h .options) → length (flat filterBytes (filters h)) ≡ filtersSize h
+length-filters : (h : SubscribeHanded) → AddsUp (h .filters) → length (h .filters .lengths) ≡ length (h .options) → length (flat filterBytes (filters h)) ≡ filtersSize (h .filters .bytes) (h .options)
 unfolding filters
 length-filters h a e =
     let n = length-pieces (h .filters .lengths) (h .filters .bytes) in

@@ -3,22 +3,21 @@ use mathlib.Core.Path.{_≡_, refl, sym, ap, _∙_, subst}
 use mathlib.Core.Bool.{Bool, true, false}
 use mathlib.Core.Option.{Option, none, some}
 use mathlib.Core.Logic.{_↔_, _⊎_, inl, inr}
-use mathlib.Core.List.{List, [], _∷_, map}
+use mathlib.Core.List.{List, [], _∷_}
 use Prim.Native.Nat.{ℕ, _≤_, _<_}
-use lib.Dec.{leb}
 use lib.ListN.{length}
 use Rattle.grammar.specs.Text.{Utf8}
 use Rattle.grammar.specs.Sentence.{qosFine, ruleFine}
 use Rattle.grammar.specs.Octets.{Each, nil, _&_}
 use Rattle.reading.specs.Refusal.{Refusal, nr}
-use Rattle.reading.specs.Reader.{Fit, got, bad, _>>_, guard}
+use Rattle.reading.specs.Reader.{Fit, got, bad, _>>_}
 use Rattle.reading.specs.Read.{isText}
 use Rattle.reading.proofs.Lists.{no-way, leb-yes, leb-no}
 use Rattle.reading.proofs.Reading.{bad-got, got-inj}
 use Rattle.reading.proofs.Fields.{text-fine}
 use Rattle.writing.specs.Handed.{Handed, belongs}
 use Rattle.writing.specs.Size.{most, restIs, sizeIs}
-use Rattle.writing.specs.Order.{judge, Field, raw, word, filter, fieldsOf, small, numbersOf, named, asked, limitTests, permit}
+use Rattle.writing.specs.Order.{Field, raw, word, filter, fieldsOf, numbersOf, named, asked, permitLate, permit}
 use Rattle.writing.specs.Write.{frameBytes, sizeOf, writeOf, answerOf}
 use Rattle.writing.specs.Refuse.{Belongs, Short, Writable, Faulty, long-raw, long-word, long-filter, bad-word, bad-filter, bad-rule, bad-qos, FirstFault, Small, TooLarge, Unnamed, Unasked, Within, Countable, Refuses, field, too-large, no-name, number, none-asked, no-room, Accepts, Unsized, HasSize}
 use Rattle.writing.proofs.Tests.{passes-when, fails-when, decide-by, le-or}
@@ -123,16 +122,7 @@ module _ (limit : Option ℕ) (room : ℕ) (h : Handed) where
   unasked-not : (Unasked h → ⊥) → asked h ≡ true
   unasked-not = passes-when (asked h) (unasked-when h) .1
 
-  -- what is left of the order after 17 for R
-  abbrev later : Fit (Unit {0})
-  later = do
-    judge (limitTests limit (sizeIs h))
-    guard (named h) (nr 12 [])
-    judge (map small (numbersOf h))
-    guard (asked h) (nr 13 [])
-    guard (leb (sizeIs h) room) (nr 19 (sizeIs h ∷ []))
-
-  go-on : Countable h → permit limit room h ≡ later
+  go-on : Countable h → permit limit room h ≡ permitLate limit room h
   unfolding permit
   go-on c = rw (belongs-when h .1 (c .belongs), fields-pass (c .fields), leb-yes (restIs h) most (c .rest))
 

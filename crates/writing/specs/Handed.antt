@@ -1,5 +1,5 @@
 -- What a caller hands over to have a packet written (01, "What must change shape"): numbers and presence by value, each string as a list
--- of bytes, a list of strings as one run of bytes and the lengths. Assumes nothing.
+-- of bytes, a list of strings as one run of bytes and the lengths. Assumes nothingGiven.
 use mathlib.Core.Bool.{Bool, true, false, not, _&&_, _||_, cond}
 use mathlib.Core.Option.{Option, none, some}
 use mathlib.Core.List.{List, [], _∷_, map}
@@ -77,7 +77,7 @@ pub data Given : Type 0 where
 abbrev pub Givens : Type 0
 Givens = ℕ → Given
 
--- nothing for an identifier that is none of the record's
+-- nothingGiven for an identifier that is none of the record's
 abbrev orNothing : Option Given → Given
 orNothing none = several []
 orNothing (some g) = g
@@ -140,9 +140,13 @@ tag r (v ∷ vs) = (r, v) ∷ tag r vs
 unfoldable pub entries : Place → Givens → List Entry
 entries place g = flat (λ r. tag r (items (g (r .0)))) place
 
+-- 01, "What must change shape": "an options byte for each filter"
+abbrev pub filtersOf : Run → List ℕ → List (List ℕ × ℕ)
+filtersOf r os = beside (strings r) os
+
 -- 01, grammar, Subscribe: a filter's text, and its options byte
 unfoldable pub filters : SubscribeHanded → List (List ℕ × ℕ)
-filters h = beside (strings (h .filters)) (h .options)
+filters h = filtersOf (h .filters) (h .options)
 
 -- ---- 01, row 20: whether what is handed over belongs together
 
@@ -157,29 +161,29 @@ sorted (lent l) = l .on || isEmpty (l .bytes)
 sorted (pairs r) = addsUp r && eqb (length (r .lengths) % 2) 0
 sorted (several ns) = true
 
--- nothing at all
-abbrev pub nothing : Given → Bool
-nothing (one none) = true
-nothing (one (some n)) = false
-nothing (lent l) = not (l .on) && isEmpty (l .bytes)
-nothing (pairs r) = isEmpty (r .bytes) && isEmpty (r .lengths)
-nothing (several ns) = isEmpty ns
+-- nothingGiven at all
+abbrev pub nothingGiven : Given → Bool
+nothingGiven (one none) = true
+nothingGiven (one (some n)) = false
+nothingGiven (lent l) = not (l .on) && isEmpty (l .bytes)
+nothingGiven (pairs r) = isEmpty (r .bytes) && isEmpty (r .lengths)
+nothingGiven (several ns) = isEmpty ns
 
 -- "anything is handed over for an absent .. block": what is handed over for a row, where the block is present or not
 abbrev pub rowBelongs : Bool → Given → Bool
-rowBelongs block g = sorted g && (block || nothing g)
+rowBelongs block g = sorted g && (block || nothingGiven g)
 
 -- the rows of a block
 unfoldable pub blockBelongs : Place → Bool → Givens → Bool
 blockBelongs place block g = all (λ r. rowBelongs block (g (r .0))) place
 
 -- "options bytes and filter lengths differ in number"
-unfoldable pub filtersBelong : SubscribeHanded → Bool
-filtersBelong h = addsUp (h .filters) && eqb (length (h .filters .lengths)) (length (h .options))
+unfoldable pub filtersBelong : Run → List ℕ → Bool
+filtersBelong r os = addsUp r && eqb (length (r .lengths)) (length os)
 
 -- 01, row 20, of each kind
 unfoldable pub belongs : Handed → Bool
 belongs (publish h) = blockBelongs publishPlace (h .block) (publishGiven h)
 belongs (ack k h) = blockBelongs ackPlace (h .block) (ackGiven h)
-belongs (subscribe h) = blockBelongs subscribePlace (h .block) (subscribeGiven h) && filtersBelong h
+belongs (subscribe h) = blockBelongs subscribePlace (h .block) (subscribeGiven h) && filtersBelong (h .filters) (h .options)
 belongs (ping k) = true

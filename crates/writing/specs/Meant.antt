@@ -11,14 +11,14 @@ use Rattle.grammar.specs.Record.{num, str, PublishProps, SubscribeProps, AckPro
 use Rattle.grammar.specs.Sentence.{Value, Packet}
 use Rattle.grammar.specs.Record as g
 use Rattle.grammar.specs.Octets.{Octets}
+use Rattle.reading.specs.Place.{onSome}
 use Rattle.writing.specs.Handed.{Lent, PublishHanded, SubscribeHanded, AckHanded, Handed, publish, ack, subscribe, ping, publishGiven, subscribeGiven, ackGiven, strings, duos, entries, filters}
 
 -- ---- properties
 
 -- a number, if there is one
 abbrev pub numeralOf : Option ℕ → Option Value
-numeralOf none = none
-numeralOf (some n) = some (num n)
+numeralOf = onSome num
 
 -- a string, if it is present
 abbrev pub stringOf : Lent → Option Value

@@ -86,10 +86,10 @@ fieldsOf (ping k) = []
 abbrev pub small : ℕ → Test
 small n = (leb n most, nr 17 [])
 
--- the number, if there is one
-abbrev pub orNone : Option ℕ → List ℕ
+-- what is present, as a list
+abbrev pub orNone : {A : Type 0} → Option A → List A
 orNone none = []
-orNone (some n) = n ∷ []
+orNone (some a) = a ∷ []
 
 -- 01, writing order: "17 for identifiers in order": the subscription identifiers of each kind
 abbrev pub numbersOf : Handed → List ℕ
@@ -117,14 +117,19 @@ abbrev pub limitTests : Option ℕ → ℕ → List Test
 limitTests none n = []
 limitTests (some m) n = (leb n m, nr 16 (n ∷ m ∷ [])) ∷ []
 
--- 01, writing order: "20; then 18, and 9 for text, field by field as written, ..; 17 for R; 16; 12; 17 for identifiers in order; 13; 19"
-unfoldable pub permit : Option ℕ → ℕ → Handed → Fit (Unit {0})
-permit limit room h = do
-  guard (belongs h) (nr 20 [])
-  judge (flat fieldTests (fieldsOf h))
-  guard (leb (restIs h) most) (nr 17 [])
+-- 01, writing order: "..; 16; 12; 17 for identifiers in order; 13; 19"
+abbrev pub permitLate : Option ℕ → ℕ → Handed → Fit (Unit {0})
+permitLate limit room h = do
   judge (limitTests limit (sizeIs h))
   guard (named h) (nr 12 [])
   judge (map small (numbersOf h))
   guard (asked h) (nr 13 [])
   guard (leb (sizeIs h) room) (nr 19 (sizeIs h ∷ []))
+
+-- 01, writing order: "20; then 18, and 9 for text, field by field as written, ..; 17 for R; .."
+unfoldable pub permit : Option ℕ → ℕ → Handed → Fit (Unit {0})
+permit limit room h = do
+  guard (belongs h) (nr 20 [])
+  judge (flat fieldTests (fieldsOf h))
+  guard (leb (restIs h) most) (nr 17 [])
+  permitLate limit room h

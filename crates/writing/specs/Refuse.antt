@@ -48,17 +48,17 @@ Belongs (ping k) = Unit {0}
 
 -- ---- one field (18, 9, 14, 11)
 
--- at most as long as a string can be
+-- 01, row 18, does not apply: at most 65,535 bytes
 abbrev pub Short : List ℕ → Type 0
 Short s = length s ≤ 65535
 
--- a field that can be written
+-- a field that can be written: none of 01's rows 18, 9, 14 and 11 applies
 abbrev pub Writable : Field → Type 0
 Writable (raw s) = Short s
 Writable (word s) = Short s × Utf8 s
 Writable (filter s o) = Short s × Utf8 s × (ruleFine o ≡ true) × (qosFine o ≡ true)
 
--- a field that cannot, and the refusal that it is given
+-- a field that cannot, and the refusal that it is given: 01, writing order: "18, and 9 for text, .. with 14 then 11"
 pub data Faulty : Field → Refusal → Type 0 where
   long-raw : {s : List ℕ} → 65535 < length s → Faulty (raw s) (nr 18 (length s ∷ []))
   long-word : {s : List ℕ} → 65535 < length s → Faulty (word s) (nr 18 (length s ∷ []))
@@ -68,7 +68,7 @@ pub data Faulty : Field → Refusal → Type 0 where
   bad-rule : {s : List ℕ} {o : ℕ} → Short s → Utf8 s → ruleFine o ≡ false → Faulty (filter s o) (nr 14 (3 ∷ []))
   bad-qos : {s : List ℕ} {o : ℕ} → Short s → Utf8 s → ruleFine o ≡ true → qosFine o ≡ false → Faulty (filter s o) (nr 11 (3 ∷ []))
 
--- the first field that cannot be written is given k
+-- 01, writing order: "field by field as written": the first field that cannot be written is given k
 pub data FirstFault (k : Refusal) : List Field → Type 0 where
   here : {f : Field} {fs : List Field} → Faulty f k → FirstFault k (f ∷ fs)
   later : {f : Field} {fs : List Field} → Writable f → FirstFault k fs → FirstFault k (f ∷ fs)
@@ -79,26 +79,26 @@ pub data FirstFault (k : Refusal) : List Field → Type 0 where
 abbrev pub Small : ℕ → Type 0
 Small n = n ≤ most
 
--- one of the numbers is too large (17)
+-- 01, row 17, of subscription identifiers: one of the numbers is too large
 pub data TooLarge : List ℕ → Type 0 where
   here : {n : ℕ} {ns : List ℕ} → most < n → TooLarge (n ∷ ns)
   later : {n : ℕ} {ns : List ℕ} → TooLarge ns → TooLarge (n ∷ ns)
 
--- a Publish with quality of service 1 or 2 and identifier 0 (12)
+-- 01, row 12: "Publish, QoS 1 or 2, identifier 0"
 abbrev pub Unnamed : Handed → Type 0
 Unnamed (publish h) = (h .qos ≡ 0 → ⊥) × (h .ident ≡ 0)
 Unnamed (ack k h) = ⊥
 Unnamed (subscribe h) = ⊥
 Unnamed (ping k) = ⊥
 
--- a Subscribe with no filters (13)
+-- 01, row 13: "no filters"
 abbrev pub Unasked : Handed → Type 0
 Unasked (publish h) = ⊥
 Unasked (ack k h) = ⊥
 Unasked (subscribe h) = filters h ≡ []
 Unasked (ping k) = ⊥
 
--- at most the limit (16)
+-- 01, row 16, does not apply: at most the limit
 abbrev pub Within : Option ℕ → ℕ → Type 0
 Within none n = Unit {0}
 Within (some m) n = n ≤ m

@@ -1,12 +1,13 @@
 -- The size of what is written, as a sum over what is handed over. Assumes nothing.
 use mathlib.Core.Bool.{Bool, not, _&&_, _||_, cond}
 use mathlib.Core.Option.{none, some}
+use mathlib.Core.List.{List}
 use Prim.Native.Nat.{ℕ, _+_, _*_, _/_}
 use lib.Dec.{leb, ltb, eqb}
 use lib.ListN.{length}
 use Rattle.grammar.specs.Tables.{Form, u8, u16, u32, number, text, bytes, pair, Place, publishPlace, subscribePlace, ackPlace}
 use Rattle.writing.specs.Lists.{total}
-use Rattle.writing.specs.Handed.{SubscribeHanded, AckHanded, Handed, publish, ack, subscribe, ping, Given, one, lent, pairs, several, Givens, publishGiven, subscribeGiven, ackGiven}
+use Rattle.writing.specs.Handed.{AckHanded, Handed, publish, ack, subscribe, ping, Given, one, lent, pairs, several, Givens, publishGiven, subscribeGiven, ackGiven}
 
 -- 01, "Lengths": how many bytes spell a number; writing order: "counts four bytes for a subscription identifier too large to write"
 abbrev pub lenLen : ℕ → ℕ
@@ -59,14 +60,14 @@ abbrev pub isPlain : AckHanded → Bool
 isPlain h = eqb (h .reason) 0 && not (h .block)
 
 -- a filter has two bytes of length and its options byte
-abbrev pub filtersSize : SubscribeHanded → ℕ
-filtersSize h = length (h .filters .bytes) + 3 * length (h .options)
+abbrev pub filtersSize : List ℕ → List ℕ → ℕ
+filtersSize b os = length b + 3 * length os
 
 -- 01, grammar: R of each kind
 unfoldable pub restIs : Handed → ℕ
 restIs (publish h) = 2 + length (h .topic) + (identSize (h .qos) (h .ident) + (withLength (propsSize publishPlace (publishGiven h)) + length (h .payload)))
 restIs (ack k h) = cond (isPlain h) 2 (3 + withLength (propsSize ackPlace (ackGiven h)))
-restIs (subscribe h) = 2 + (withLength (propsSize subscribePlace (subscribeGiven h)) + filtersSize h)
+restIs (subscribe h) = 2 + (withLength (propsSize subscribePlace (subscribeGiven h)) + filtersSize (h .filters .bytes) (h .options))
 restIs (ping k) = 0
 
 -- 01, grammar: "A frame is one byte .., a variable length number R, then R bytes"

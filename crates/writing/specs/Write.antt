@@ -23,13 +23,13 @@ unfoldable pub firsts : List (ℕ × ℕ)
 firsts = (4, 0x40) ∷ (8, 0x82) ∷ (12, 0xC0) ∷ (13, 0xD0) ∷ []
 
 -- 0 for a kind that is not in the table
-abbrev orZero : Option ℕ → ℕ
-orZero none = 0
-orZero (some x) = x
+abbrev firstOrZero : Option ℕ → ℕ
+firstOrZero none = 0
+firstOrZero (some x) = x
 
 -- the first byte of a kind of the table
 unfoldable pub firstOf : ℕ → ℕ
-firstOf k = orZero (lookup firsts k)
+firstOf k = firstOrZero (lookup firsts k)
 
 -- 01, grammar, Publish: "flags are dup (8), QoS (6), retain (1)"
 unfoldable pub firstByte : Handed → ℕ
@@ -81,7 +81,7 @@ abbrev pub leaves : List ℕ → Fit (List ℕ) → List ℕ
 leaves out (got b) = b ++ drop (length b) out
 leaves out (bad k) = out
 
--- the output afterwards
+-- 01, demand 1: the output after the write
 unfoldable pub outOf : Option ℕ → List ℕ → Handed → List ℕ
 outOf limit out h = leaves out (writeOf limit (length out) h)
 
@@ -92,7 +92,7 @@ pub record Written (limit : Option ℕ) (h : Handed) (before after : List ℕ) (
 
 -- ---- where something may be refused before all else: parts of another kind (01, row 20), and in the header numbers that are none of the record's
 
--- 01: "Asked alone, size refuses only with 20, then 17 for R"
+-- the refusal, or the answer of `size`
 unfoldable pub sizedBehind : Fit Handed → Fit ℕ
 sizedBehind f = f >>= sizeOf
 

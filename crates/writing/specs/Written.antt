@@ -12,7 +12,7 @@ use Rattle.writing.specs.Write.{sizeOf, answerOf}
 use Rattle.writing.specs.Refuse.{Within}
 use Rattle.writing.specs.Meant.{said}
 
--- 01, demands on writing: the bytes b that were written are a sentence that says what was handed over; they are as many as size and answer say, at most the
+-- demand 2: the bytes b that were written are a sentence that says what was handed over; they are as many as size and answer say, at most the
 -- limit, and fit the room
 pub record WrittenBytes (limit : Option ℕ) (room : ℕ) (h : Handed) (b : List ℕ) : Type 0 where
   pub sentence : Sentence (said h) b

@@ -23,10 +23,10 @@ use Rattle.writing.proofs.Verdict.{refused-when}
 use Rattle.writing.specs.Refuse as r
 
 -- 01, "Lengths": 127 is 7F, 128 is 80 01, 16,383 is FF 7F, 16,384 is 80 80 01, 2,097,152 is 80 80 80 01; and the ends of each
-pub lengths-right : map short (0 ∷ 127 ∷ 128 ∷ 16383 ∷ 16384 ∷ 2097151 ∷ 2097152 ∷ 268435455 ∷ [])
+pub edges-right : map short (0 ∷ 127 ∷ 128 ∷ 16383 ∷ 16384 ∷ 2097151 ∷ 2097152 ∷ 268435455 ∷ [])
     ≡ (0x00 ∷ []) ∷ (0x7F ∷ []) ∷ (0x80 ∷ 0x01 ∷ []) ∷ (0xFF ∷ 0x7F ∷ []) ∷ (0x80 ∷ 0x80 ∷ 0x01 ∷ []) ∷ (0xFF ∷ 0xFF ∷ 0x7F ∷ []) ∷ (0x80 ∷ 0x80 ∷ 0x80 ∷ 0x01 ∷ []) ∷ (0xFF ∷ 0xFF ∷ 0xFF ∷ 0x7F ∷ []) ∷ []
 unfolding short spell spellStep
-lengths-right = refl
+edges-right = refl
 
 -- ---- records
 

@@ -1,6 +1,7 @@
 -- `filters_write::filters_belong` is right since both tests are made. Assumes nothing.
 use mathlib.Core.Path.{_∙_}
 use borrow.Author.Needs.{needs}
+use Rattle.writing.specs.Handed.{filtersBelong}
 use Rattle.filters_write.proofs.filters_belong.Statement.{statement}
 use Rattle.filters_write.proofs.filters_belong.Tie as tie
 
@@ -11,6 +12,7 @@ both-requires : tie.Need-both-requires
 both-requires c κs = search needs
 
 returns : tie.Need-returns
+unfolding filtersBelong
 returns c = c .both .ensures ∙ rw (c .before .adds-up .ensures)
 
 pub filters-belong-spec : {M : Type 1} → statement M

@@ -6,20 +6,19 @@ use borrow.Author.Needs.{needs}
 use lib.ListN.{length, drop, getD}
 use denote.Ref.{now}
 use Rattle.writing.specs.Lists.{flat, beside}
-use Rattle.writing.specs.Handed.{strings}
+use Rattle.writing.specs.Handed.{strings, filtersOf}
 use Rattle.writing.specs.Spell.{filterBytes}
 use Rattle.writing.proofs.ForCode.{runFrom}
 use Rattle.rows.specs.Given.{run}
 use Rattle.rows.proofs.Laws.Run.{piece-ends, piece-within}
 use Rattle.row_puts.proofs.Laws.{Putting, none-put, put-more, all-put}
-use Rattle.filters_write.specs.Filters.{filtersOf}
 use Rattle.filters_write.proofs.Laws.{filters-cut, filters-done, filter-count}
 use Rattle.filters_write.proofs.put_filters.Statement.{statement}
 use Rattle.filters_write.proofs.put_filters.Tie as tie
 
 abbrev Inv-loop : tie.InvT-loop
 Inv-loop out₀ at bytes lengths options count n₀ from₀ i₀ out n from i =
-    Putting out₀ at (flat filterBytes (filtersOf bytes lengths options)) out n (flat filterBytes (beside (strings (runFrom (run bytes lengths) i from)) (drop i options)))
+    Putting out₀ at (flat filterBytes (filtersOf (run bytes lengths) options)) out n (flat filterBytes (beside (strings (runFrom (run bytes lengths) i from)) (drop i options)))
     × (n ≤ from + 3 * i) × (from ≤ length bytes)
 
 abbrev μ-loop : tie.MeasureT-loop

@@ -7,19 +7,18 @@ use borrow.Author.Needs.{needs}
 use lib.ListN.{drop, getD}
 use denote.Ref.{now}
 use Rattle.writing.specs.Lists.{beside}
-use Rattle.writing.specs.Handed.{strings}
+use Rattle.writing.specs.Handed.{strings, filtersOf}
 use Rattle.writing.specs.Order.{judge, filter, fieldTests, filterField}
 use Rattle.writing.proofs.ForCode.{runFrom}
 use Rattle.rows.specs.Given.{run}
 use Rattle.row_tests.specs.Tested.{toldTested}
 use Rattle.row_tests.proofs.Laws.{Deciding, field-refused, field-passed, fields-done}
-use Rattle.filters_write.specs.Filters.{filtersOf}
 use Rattle.filters_write.proofs.Laws.{filters-cut, filters-done}
 use Rattle.filters_write.proofs.test_filters.Statement.{statement}
 use Rattle.filters_write.proofs.test_filters.Tie as tie
 
 abbrev Inv-loop : tie.InvT-loop
-Inv-loop bytes lengths options count at₀ i₀ at i = Deciding (map filterField (filtersOf bytes lengths options)) (map filterField (beside (strings (runFrom (run bytes lengths) i at)) (drop i options)))
+Inv-loop bytes lengths options count at₀ i₀ at i = Deciding (map filterField (filtersOf (run bytes lengths) options)) (map filterField (beside (strings (runFrom (run bytes lengths) i at)) (drop i options)))
 
 abbrev μ-loop : tie.MeasureT-loop
 μ-loop bytes lengths options count at₀ i₀ at i = count - i

@@ -1,23 +1,22 @@
 -- A loop over the properties of a block, one law over the row: how it goes on, and what it comes to. Assumes nothing.
 use mathlib.Core.Path.{_≡_, refl, sym, ap, _∙_}
 use mathlib.Core.Logic.{_⊎_, inl, inr}
-use mathlib.Core.Bool.{Bool, true, false, cond}
 use mathlib.Core.Option.{Option, none, some}
 use mathlib.Core.List.{List, [], _∷_}
 use Prim.Native.Nat.{ℕ, suc, _-_, _≤_, _<_}
 use native.Mathlib.Omega.{arith}
-use lib.Dec.{eqb}
 use lib.ListN.{length, drop, getD, length-drop, drop-of-length-le}
 use lib.Seq.{drop-cons}
 use Rattle.grammar.specs.Choice.{lookup}
 use Rattle.grammar.specs.Gram.{forget}
+use Rattle.grammar.specs.Octets.{Each, nil, _&_}
 use Rattle.grammar.specs.Tables.{Form, u8, u16, u32, number, text, bytes, pair, Place, publishPlace, subscribePlace, ackPlace}
 use Rattle.grammar.specs.Record.{Val, PropOf, lastOf, unlessEmpty, publishProps, subscribeProps, ackProps}
 use Rattle.reading.specs.Refusal.{Refusal}
 use Rattle.reading.specs.Reader.{Fit, got, bad, _>>=_, handFit, runFit, chainFit, foldFrom, foldFit}
 use Rattle.reading.specs.Read.{valueAt, propertyOf, propertiesFit}
 use Rattle.reading.specs.Place.{Span, spanOf, asPlaces, onGot}
-use Rattle.reading.proofs.Lists.{eq-of}
+use Rattle.reading.proofs.Lists.{lookup-each}
 use Rattle.reading.proofs.Reading.{bad-got}
 use Rattle.positions.specs.Position.{fromAt}
 use Rattle.positions.proofs.Walk.{fold-nil, fold-bad, fold-next}
@@ -31,20 +30,6 @@ use Rattle.property_value.specs.declared.Value.{Value}
 use Rattle.property_value.specs.declared.GotProperty.{GotProperty}
 use Rattle.property_value.specs.declared.GotProperty.the-variants.{Found, Refused}
 use Rattle.properties.specs.Block.{Row, publishRow, subscribeRow, ackRow, applied, loopFrom, filledAt}
-
--- ---- a rule of every entry of a row holds of what is looked up there
-
-abbrev Every : (ℕ → Form → Type 0) → Place → Type 0
-Every Q [] = Unit {0}
-Every Q (r ∷ rs) = Q (r .0) (r .1) × Every Q rs
-
-looked-up : (Q : ℕ → Form → Type 0) (place : Place) → Every Q place → (k : ℕ) (f : Form) → lookup place k ≡ some f → Q k f
-looked-up Q [] a k f e = absurd (let z : _≡_ {A = ℕ} 0 1 = cc in omega arith)
-looked-up Q (r ∷ rs) a k f e = go (eqb (r .0) k) refl (λ e′. looked-up Q rs (a .1) k f e′) e
-  where
-    go : (b : Bool) → eqb (r .0) k ≡ b → (lookup rs k ≡ some f → Q k f) → cond b (some (r .1)) (lookup rs k) ≡ some f → Q k f
-    go true t ih e′ = let i : r .1 ≡ f = cc in rw (sym (eq-of (r .0) k t), sym i) (a .0)
-    go false t ih e′ = ih e′
 
 -- 01, table of properties: the identifiers of each form
 abbrev pub publishIs : ℕ → Form → Type 0
@@ -74,21 +59,21 @@ ackIs k text = k ≡ 31
 ackIs k bytes = ⊥
 ackIs k pair = k ≡ 38
 
-publish-every : Every publishIs publishPlace
+publish-every : Each (λ r. publishIs (r .0) (r .1)) publishPlace
 unfolding publishPlace
-publish-every = (refl, (refl, (refl, (inl refl, (refl, (refl, (refl, (inr refl, tt))))))))
+publish-every = refl & refl & refl & inl refl & refl & refl & refl & inr refl & nil
 
-subscribe-every : Every subscribeIs subscribePlace
+subscribe-every : Each (λ r. subscribeIs (r .0) (r .1)) subscribePlace
 unfolding subscribePlace
-subscribe-every = (refl, (refl, tt))
+subscribe-every = refl & refl & nil
 
-ack-every : Every ackIs ackPlace
+ack-every : Each (λ r. ackIs (r .0) (r .1)) ackPlace
 unfolding ackPlace
-ack-every = (refl, (refl, tt))
+ack-every = refl & refl & nil
 
 module _ (k : ℕ) {v v′ : Value} (e : v ≡ v′) where
-  is : (Q : ℕ → Form → Type 0) (place : Place) → Every Q place → lookup place k ≡ some (formOf v) → Q k (formOf v′)
-  is Q place a h = rw e at (looked-up Q place a k (formOf v) h)
+  is : (Q : ℕ → Form → Type 0) (place : Place) → Each (λ r. Q (r .0) (r .1)) place → lookup place k ≡ some (formOf v) → Q k (formOf v′)
+  is Q place a h = rw e at (lookup-each (λ r. Q (r .0) (r .1)) a k (formOf v) h)
 
   pub publish-is : lookup publishPlace k ≡ some (formOf v) → publishIs k (formOf v′)
   publish-is = is publishIs publishPlace publish-every
@@ -166,9 +151,9 @@ module _ (w : Row) (W : Lawful w) where
 abbrev Listed : ℕ → Form → Type 0
 Listed k f = (lookup publishPlace k ≡ some f) × ((o : publishRow .Props) (v : Val Span) → applied publishRow o (k, v) ≡ o)
 
-publish-lists : Every Listed publishLists
+publish-lists : Each (λ r. Listed (r .0) (r .1)) publishLists
 unfolding publishPlace
-publish-lists = ((refl, λ o v. refl), ((refl, λ o v. refl), tt))
+publish-lists = (refl, λ o v. refl) & (refl, λ o v. refl) & nil
 
 -- what is read as a property of a list is the same property of the row
 abbrev Same : ℕ → List ℕ → PropOf Span → Type 0
@@ -182,17 +167,17 @@ same end (i ∷ l) y e = go (lookup publishLists i) refl e
     go : (f : Option Form) → lookup publishLists i ≡ f → valueAt asPlaces f i end l ≡ got y → Same end (i ∷ l) (y .0)
     go none j h = absurd (bad-got h)
     go (some f) j h =
-        let (has, still) = looked-up Listed publishLists publish-lists i f j in
+        let (has, still) = lookup-each (λ r. Listed (r .0) (r .1)) publish-lists i f j in
         (rw (j, has), λ o. rw (value-tag (some f) i end l y h) (still o (y .0 .1)))
 
 -- ---- how the loop goes on
 
 -- the property at an index
-abbrev pub propertyAt : Row → List ℕ → ℕ → Fit (PropOf Span × ℕ)
-propertyAt w s at = fromAt (propertyOf asPlaces (w .place) (length s)) s at
+abbrev pub propertyHere : Row → List ℕ → ℕ → Fit (PropOf Span × ℕ)
+propertyHere w s at = fromAt (propertyOf asPlaces (w .place) (length s)) s at
 
 module _ (w : Row) (s : List ℕ) (at : ℕ) (h : at < length s) where
-  module _ (a : PropOf Span) (n : ℕ) (e : got (a, n) ≡ propertyAt w s at) where
+  module _ (a : PropOf Span) (n : ℕ) (e : got (a, n) ≡ propertyHere w s at) where
     pub loop-next : (o : w .Props) → loopFrom w o s at ≡ loopFrom w (applied w o a) s n
     unfolding loopFrom
     loop-next o =
@@ -201,7 +186,7 @@ module _ (w : Row) (s : List ℕ) (at : ℕ) (h : at < length s) where
         (rw length-drop (omega arith))
         (rw (drop-cons s at 0 h) at (property-left (w .place) s at a n e)))
 
-  pub loop-bad : (o : w .Props) (k : Refusal) → bad k ≡ propertyAt w s at → loopFrom w o s at ≡ bad k
+  pub loop-bad : (o : w .Props) (k : Refusal) → bad k ≡ propertyHere w s at → loopFrom w o s at ≡ bad k
   unfolding loopFrom
   loop-bad o k e =
       ap (loopOn w (length s) o) (drop-cons s at 0 h)
@@ -230,13 +215,13 @@ pub filling-start : (w : Row) (s : List ℕ) (o : w .Props) (at : ℕ) → Filli
 filling-start w s o at = record { rest = refl }
 
 module _ {w : Row} {s : List ℕ} {whole : Fit (w .Props)} {o : w .Props} {at : ℕ} (f : Filling w s whole o at) where
-  filling-by : at < length s → (a : PropOf Span) (n : ℕ) → got (a, n) ≡ propertyAt w s at → (o′ : w .Props) → o′ ≡ applied w o a → Filling w s whole o′ n
+  filling-by : at < length s → (a : PropOf Span) (n : ℕ) → got (a, n) ≡ propertyHere w s at → (o′ : w .Props) → o′ ≡ applied w o a → Filling w s whole o′ n
   filling-by h a n e o′ i = record { rest = f .rest ∙ loop-next w s at h a n e o ∙ ap (λ (u : w .Props). loopFrom w u s n) (sym i) }
 
   pub filling-next : at < length s → {k n : ℕ} {v : Value} {r : GotProperty} {o′ : w .Props} → PropertyRead (w .place) s at r → r ≡ Found k v n → o′ ≡ applied w o (k, toldValue v) → Filling w s whole o′ n
   filling-next h {k = k} {n = n} {v = v} {o′ = o′} P e i = filling-by h (k, toldValue v) n (rw e at (P .says)) o′ i
 
-  filling-bad : at < length s → (k : Refusal) → bad k ≡ propertyAt w s at → whole ≡ bad k
+  filling-bad : at < length s → (k : Refusal) → bad k ≡ propertyHere w s at → whole ≡ bad k
   filling-bad h k e = f .rest ∙ loop-bad w s at h o k e
 
   filling-end : length s ≤ at → whole ≡ got o

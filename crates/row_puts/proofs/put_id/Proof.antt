@@ -22,7 +22,7 @@ same-length c = search needs
 returns : tie.Need-returns
 returns c =
     let a = c .before .before .before .before .before .before .args in
-    (c .before .before .before .put-u8 .ensures ∙ ap (λ (l : List ℕ). sets (now (a .out)) (a .at) l) (sym (wide-one (omega arith))), c .after .ensures)
+    record { stores = c .before .before .before .put-u8 .ensures ∙ ap (λ (l : List ℕ). sets (now (a .out)) (a .at) l) (sym (wide-one (omega arith))); place = c .after .ensures }
 
 pub put-id-spec : {M : Type 1} → statement M
 put-id-spec = tie.close (tie.spec put-u8-requires after-requires same-length returns)

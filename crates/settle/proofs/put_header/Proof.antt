@@ -37,7 +37,7 @@ returns : tie.Need-returns
 returns c =
     let a = c .before .before .before .before .before .before .before .before .before .before .args in
     let w = c .before .before .put-length in
-    put-row (now (a .out)) _ _ (short (a .rest)) 0 (a .first) _ _ (c .before .before .before .before .before .before .before .put-u8 .ensures ∙ ap (λ (l : List ℕ). sets (now (a .out)) 0 l) (sym (wide-one (omega arith))), c .before .before .before .before .after .ensures) (w .ensures .0) (ap (λ (k : ℕ). 1 + k) (w .ensures .1))
+    put-row (now (a .out)) _ _ (short (a .rest)) 0 (a .first) _ _ (record { stores = c .before .before .before .before .before .before .before .put-u8 .ensures ∙ ap (λ (l : List ℕ). sets (now (a .out)) 0 l) (sym (wide-one (omega arith))); place = c .before .before .before .before .after .ensures }) (w .ensures .0) (ap (λ (k : ℕ). 1 + k) (w .ensures .1))
 
 pub put-header-spec : {M : Type 1} → statement M
 put-header-spec =

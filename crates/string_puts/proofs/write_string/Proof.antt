@@ -1,4 +1,5 @@
 -- `string_puts::write_string` is right since it tests the room, and puts the string at the front. Assumes nothing.
+use mathlib.Core.Path.{sym}
 use native.Mathlib.Omega.{arith}
 use borrow.Author.Needs.{needs}
 use borrow.Author.Tests.{le-leb}
@@ -6,8 +7,8 @@ use lib.ListN.{length}
 use denote.Ref.{now}
 use Rattle.writing.specs.Spell.{string}
 use Rattle.writing.specs.Order.{fits}
+use Rattle.writing.proofs.Sizes.{length-string}
 use Rattle.number_puts.proofs.Laws.Leaf.{leaf-no-room, leaf-written}
-use Rattle.string_puts.proofs.Laws.{length-string}
 use Rattle.string_puts.proofs.write_string.Statement.{statement}
 use Rattle.string_puts.proofs.write_string.Tie as tie
 
@@ -18,7 +19,7 @@ returns : tie.Need-returns
 returns c =
     let a = c .before .before .before .args in
     let s = now (a .s) in
-    leaf-no-room (fits s) (string s) (now (a .out)) (le-leb (length s) 65535 (omega arith)) _ (length-string s) (omega arith)
+    leaf-no-room (fits s) (string s) (now (a .out)) (le-leb (length s) 65535 (omega arith)) _ (sym (length-string s)) (omega arith)
 
 put-string-requires : tie.Need-put-string-requires
 put-string-requires c κs = search needs
@@ -30,7 +31,7 @@ returns-2 : tie.Need-returns-2
 returns-2 c =
     let a = c .before .before .before .before .before .before .before .args in
     let s = now (a .s) in
-    leaf-written (fits s) (string s) (now (a .out)) (le-leb (length s) 65535 (omega arith)) _ (length-string s) _ (omega arith) (c .before .before .put-string .ensures)
+    leaf-written (fits s) (string s) (now (a .out)) (le-leb (length s) 65535 (omega arith)) _ (sym (length-string s)) _ (omega arith) (c .before .before .put-string .ensures)
 
 pub write-string-spec : {M : Type 1} → statement M
 write-string-spec = tie.close (tie.spec add-size returns put-string-requires same-length returns-2)

@@ -1,8 +1,8 @@
--- `layout_next::store_filter` is right since it returns and stores what the answer tells. Assumes nothing.
+-- `layout_next::store_next_filter` is right since it returns and stores what the answer tells. Assumes nothing.
 use mathlib.Core.Path.{_∙_}
 use borrow.Author.Needs.{needs}
-use Rattle.layout_next.proofs.store_filter.Statement.{statement}
-use Rattle.layout_next.proofs.store_filter.Tie as tie
+use Rattle.layout_next.proofs.store_next_filter.Statement.{statement}
+use Rattle.layout_next.proofs.store_next_filter.Tie as tie
 
 next-filter-numbers-requires : tie.Need-next-filter-numbers-requires
 next-filter-numbers-requires c κs = search needs
@@ -22,7 +22,7 @@ same-length c = search needs
 returns : tie.Need-returns
 returns c = (c .next-filter-number .ensures, c .before .before .before .store .ensures ∙ rw (c .before .before .before .before .before .before .next-filter-numbers .ensures))
 
-pub store-filter-spec : {M : Type 1} → statement M
-store-filter-spec =
+pub store-next-filter-spec : {M : Type 1} → statement M
+store-next-filter-spec =
     tie.close
     (tie.spec next-filter-numbers-requires slice-aggregate-store store-requires next-filter-number-requires same-length returns)
