@@ -34,7 +34,7 @@ never : {X : Type 0} → _≡_ {A = ℕ} 0 1 → X
 never z = absurd (omega arith)
 
 -- where one of two is present, so is the other
-present : {A B : Type 0} {R : A → B → Type 0} {o : Option A} {o′ : Option B} → OnBoth R o o′ → (a : A) → o ≡ some a → (b : B) × (o′ ≡ some b) × R a b
+pub present : {A B : Type 0} {R : A → B → Type 0} {o : Option A} {o′ : Option B} → OnBoth R o o′ → (a : A) → o ≡ some a → (b : B) × (o′ ≡ some b) × R a b
 present neither a e = never (cc)
 present {R = R} (each {a = a′} {b = b} r) a e = let i : a′ ≡ a = cc in (b, refl, subst (λ x. R x b) i r)
 

@@ -2,3 +2,4 @@ pub mod Reading
 pub mod Parts
 pub mod Items
 pub mod Item
+pub mod Walk

@@ -40,7 +40,7 @@ or-like : {A B : Type 0} {R : A → B → Type 0} (m : Fit A) (m′ : Fit B) →
 or-like _ _ (gots r) = gots r
 or-like _ _ bads = bads
 
-again-like : {A B : Type 0} {R : A → B → Type 0} {q : ℕ → Filler A} {q′ : ℕ → Filler B} (s : List ℕ) → ((e : ℕ) → Drops s e R (q e) (q′ e)) → (p : Span) → Like R (again q s p) (again q′ s p)
+pub again-like : {A B : Type 0} {R : A → B → Type 0} {q : ℕ → Filler A} {q′ : ℕ → Filler B} (s : List ℕ) → ((e : ℕ) → Drops s e R (q e) (q′ e)) → (p : Span) → Like R (again q s p) (again q′ s p)
 unfolding again
 again-like {q = q} {q′ = q′} s H p =
     let e : ℕ = p .start + p .len in
@@ -72,7 +72,7 @@ nth-bad n [] k e = cc
 nth-bad zero (a ∷ vs) k e = got-bad e
 nth-bad (suc n) (a ∷ vs) k e = nth-bad n vs k e
 
-all-says : (s : List ℕ) (i : ℕ) (ps : List (PropOf Span)) → map (sayVal s) (allOf i ps) ≡ allOf i (map (sayProp s) ps)
+pub all-says : (s : List ℕ) (i : ℕ) (ps : List (PropOf Span)) → map (sayVal s) (allOf i ps) ≡ allOf i (map (sayProp s) ps)
 unfolding allOf
 all-says s i [] = refl
 all-says s i (p ∷ ps) = one (eqb (p .0) i) (all-says s i ps)
@@ -171,7 +171,7 @@ module _ (h : Shape) (s : List ℕ) (p : Span) (k : Refusal) where
 
 -- ---- what was read of what is present
 
-if-some : {A B : Type 0} {R : A → B → Type 0} (f : A → Fit B) → ((a : A) (b : B) → f a ≡ got b → R a b) → (o : Option A) (z : Option B) → ifSome f o ≡ got z → OnBoth R o z
+pub if-some : {A B : Type 0} {R : A → B → Type 0} (f : A → Fit B) → ((a : A) (b : B) → f a ≡ got b → R a b) → (o : Option A) (z : Option B) → ifSome f o ≡ got z → OnBoth R o z
 if-some {R = R} f h none z e = subst (OnBoth R none) (got-inj e) neither
 if-some {A = A} {B = B} {R = R} f h (some a) z e = go (f a) refl z e
   where

@@ -1,0 +1,40 @@
+-- What a walk from item to item is to give. Assumes nothing.
+use mathlib.Core.Path.{_≡_}
+use mathlib.Core.List.{List, [], _∷_, map}
+use Prim.Native.Nat.{ℕ, _+_, _≤_, _<_}
+use lib.ListN.{length, take}
+use Rattle.grammar.specs.Record.{PropOf, allOf, Filter}
+use Rattle.grammar.specs.Sentence.{Value}
+use Rattle.reading.specs.Reader.{Fit, got}
+use Rattle.reading.specs.Read.{filterOf}
+use Rattle.reading.specs.Place.{Span, asPlaces, sayVal, sayFilter}
+use Rattle.positions.specs.Position.{fromAt}
+use Rattle.given.specs.Kind.{propertyAt}
+
+-- header: "the item begins where the last one ended, and the last one ends at that end"; no item begins there or behind it
+pub data Walked {A : Type 0} (item : ℕ → Fit (A × ℕ)) (end : ℕ) : ℕ → List A → Type 0 where
+  arrived : Walked item end end []
+  onward : {at next : ℕ} {a : A} {vs : List A} → at < end → item at ≡ got (a, next) → Walked item end next vs → Walked item end at (a ∷ vs)
+
+-- header: "hand over the stream up to the end of the block (of the filters) and begin at its start": the stream s has as many bytes
+pub record Walks {A : Type 0} (item : List ℕ → ℕ → Fit (A × ℕ)) (s : List ℕ) (p : Span) (vs : List A) : Type 0 where
+  pub within : p .start + p .len ≤ length s
+  pub walked : Walked (item (take (p .start + p .len) s)) (p .start + p .len) (p .start) vs
+
+-- header, `ecch_next_filter`: "the filter, at index `at` of the stream, whose end is the end of its room"
+abbrev pub nextFilter : List ℕ → ℕ → Fit (Filter Span × ℕ)
+nextFilter s at = fromAt (filterOf asPlaces (length s)) s at
+
+-- ---- header: "To walk what ecch_read found"; what the walk gives, its places looked up in the stream
+
+-- header, `ecch_property`, over the block at p in a kind's row: the user properties are us
+abbrev pub UserWalk : ℕ → List ℕ → Span → List Value → Type 0
+UserWalk kind s p us = (ps : List (PropOf Span)) × Walks (propertyAt kind) s p ps × (map (sayVal s) (allOf 38 ps) ≡ us)
+
+-- header, the same of a Publish: the subscription identifiers are ns
+abbrev pub PublishWalk : List ℕ → Span → List Value → List Value → Type 0
+PublishWalk s p us ns = (ps : List (PropOf Span)) × Walks (propertyAt 3) s p ps × (map (sayVal s) (allOf 38 ps) ≡ us) × (map (sayVal s) (allOf 11 ps) ≡ ns)
+
+-- header, `ecch_next_filter`, over the filters at p: they are fs
+abbrev pub FilterWalk : List ℕ → Span → List (Filter (List ℕ)) → Type 0
+FilterWalk s p fs = (gs : List (Filter Span)) × Walks nextFilter s p gs × (map (sayFilter s) gs ≡ fs)
