@@ -6,13 +6,13 @@ use Prim.Native.Nat.{ℕ, _+_, _-_, _≤_, _<_}
 use native.Mathlib.Omega.{arith}
 use lib.ListN.{length, take, drop, length-append, length-drop, drop-of-length-le}
 use lib.Seq.{length-take-le}
+use borrow.Author.Tests.{le-leb, lt-leb}
 use Rattle.grammar.specs.Record.{Filter}
 use Rattle.grammar.specs.Sentence.{someOf}
 use Rattle.reading.specs.Refusal.{Refusal, nr}
 use Rattle.reading.specs.Reader.{Fit, got, bad, handFit, onlyFit, runFit, chainFit, manyFit}
 use Rattle.reading.specs.Read.{filterOf, filtersFit}
 use Rattle.reading.specs.Place.{Span, asPlaces, noItem, again, nthOf, filterAt}
-use Rattle.reading.proofs.Lists.{leb-yes, leb-no}
 use Rattle.positions.specs.Position.{fromAt}
 use Rattle.positions.proofs.At.{part-slice}
 use Rattle.positions.proofs.Less.{filter-less}
@@ -121,8 +121,8 @@ module _ {s : List ℕ} {at n : ℕ} {item : FilterItem} {turn i : ℕ} (C : Cou
 module _ (s : List ℕ) (p : Span) (n : ℕ) where
   pub filter-outside : length s < p .start + p .len → bad noItem ≡ filterAt asPlaces s p n
   unfolding filterAt again
-  filter-outside h = rw (leb-no (p .start + p .len) (length s) h)
+  filter-outside h = rw (lt-leb (p .start + p .len) (length s) h)
 
   pub filter-within : p .start + p .len ≤ length s → nthFit n (length (take (p .start + p .len) s)) (drop (p .start) (take (p .start + p .len) s)) ≡ filterAt asPlaces s p n
   unfolding filterAt again
-  filter-within h = rw (length-take-le (p .start + p .len) s h, sym (part-slice s (p .len) (p .start) h), leb-yes (p .start + p .len) (length s) h)
+  filter-within h = rw (length-take-le (p .start + p .len) s h, sym (part-slice s (p .len) (p .start) h), le-leb (p .start + p .len) (length s) h)

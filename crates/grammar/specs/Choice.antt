@@ -1,5 +1,5 @@
--- Lookups that compute. Assumes nothing.
-use mathlib.Core.Bool.{Bool, true, false, _||_, cond}
+-- Lookups and tests that compute. Assumes nothing.
+use mathlib.Core.Bool.{Bool, true, false, _&&_, _||_, cond}
 use mathlib.Core.Option.{Option, none, some}
 use mathlib.Core.List.{List, [], _∷_}
 use Prim.Native.Nat.{ℕ}
@@ -19,3 +19,8 @@ lookup (p ∷ ps) i = cond (eqb (p .0) i) (some (p .1)) (lookup ps i)
 abbrev pub isEmpty : {A : Type 0} → List A → Bool
 isEmpty [] = true
 isEmpty (x ∷ l) = false
+
+-- every element passes the test
+abbrev pub all : {A : Type 0} → (A → Bool) → List A → Bool
+all t [] = true
+all t (a ∷ l) = t a && all t l

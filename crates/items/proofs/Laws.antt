@@ -8,7 +8,7 @@ use native.Mathlib.Omega.{arith}
 use lib.Dec.{T}
 use lib.ListN.{length, take, drop, getD, length-drop, drop-of-length-le}
 use lib.Seq.{drop-cons, length-take-le}
-use borrow.Author.Tests.{eq-eqb, ne-eqb}
+use borrow.Author.Tests.{eq-eqb, ne-eqb, le-leb, lt-leb}
 use denote.Enum.Declared.{tagOf}
 use mir.Val.{hasKey}
 use types.Run.{OneOf, miss}
@@ -19,7 +19,6 @@ use Rattle.grammar.specs.Record.{PropOf, allOf}
 use Rattle.reading.specs.Reader.{Fit, got, bad, Reader, _>>=_, chainFit}
 use Rattle.reading.specs.Read.{propertyOf, propertiesFit}
 use Rattle.reading.specs.Place.{Span, asPlaces, orNoItem, again, nthOf, valuesAt}
-use Rattle.reading.proofs.Lists.{leb-yes, leb-no}
 use Rattle.positions.proofs.At.{part-slice}
 use Rattle.positions.proofs.Walk.{Less, chain-nil, chain-bad, chain-next}
 use Rattle.positions.proofs.Less.{property-less}
@@ -121,14 +120,14 @@ module _ (row : Place) (i : ℕ) (s : List ℕ) where
 module _ (row : Place) (i : ℕ) (s : List ℕ) (p : Span) (n : ℕ) where
   pub nth-outside : length s < p .start + p .len → NthRead row i s p n (Left n)
   unfolding valuesAt again
-  nth-outside h = record { says = rw (leb-no (p .start + p .len) (length s) h); formed = tt }
+  nth-outside h = record { says = rw (lt-leb (p .start + p .len) (length s) h); formed = tt }
 
   pub nth-within : (r : Seek) → p .start + p .len ≤ length s → SeekIn row i (take (p .start + p .len) s) (p .start) n r → NthRead row i s p n r
   unfolding valuesAt again soughtIn
   nth-within r h o =
       let e = rw (length-take-le (p .start + p .len) s h, sym (part-slice s (p .len) (p .start) h)) at (o .says) in
       record {
-        says = e ∙ rw (leb-yes (p .start + p .len) (length s) h) (on (orNoItem (propertiesFit asPlaces row (p .start + p .len) (take (p .len) (drop (p .start) s)))));
+        says = e ∙ rw (le-leb (p .start + p .len) (length s) h) (on (orNoItem (propertiesFit asPlaces row (p .start + p .len) (take (p .len) (drop (p .start) s)))));
         formed = o .formed;
       }
     where

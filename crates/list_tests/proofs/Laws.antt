@@ -7,9 +7,9 @@ use native.Mathlib.Omega.{arith}
 use native.Mathlib.Numerals.{add-one}
 use lib.ListN.{length, take, drop, getD, length-take, length-drop, drop-of-length-le}
 use lib.Seq.{drop-cons}
+use borrow.Author.Tests.{le-leb}
 use Rattle.reading.specs.Refusal.{Refusal}
 use Rattle.reading.specs.Reader.{got, bad, _>>_}
-use Rattle.reading.proofs.Lists.{leb-yes}
 use Rattle.writing.specs.Lists.{flat, pieces}
 use Rattle.writing.specs.Order.{judge, word, fieldTests, small}
 use Rattle.writing.proofs.Judge.{judge-append, fields-more}
@@ -44,4 +44,4 @@ run-fine (n ∷ ns) bytes h a =
     let (t, d) = and-both (allAscii (take n bytes)) (allAscii (drop n bytes)) (sym (ascii-split n bytes) ∙ a) in
     let l : length (take n bytes) ≤ 65535 = omega (arith, length-take n bytes) in
     let m : length (drop n bytes) ≤ 65535 = omega (arith, length-drop n bytes) in
-    rw (fields-more (word (take n bytes)) (map word (pieces ns (drop n bytes))), leb-yes (length (take n bytes)) 65535 l, ascii-text (take n bytes) t) (run-fine ns (drop n bytes) m d)
+    rw (fields-more (word (take n bytes)) (map word (pieces ns (drop n bytes))), le-leb (length (take n bytes)) 65535 l, ascii-text (take n bytes) t) (run-fine ns (drop n bytes) m d)

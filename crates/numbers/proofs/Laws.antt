@@ -5,11 +5,11 @@ use Prim.Native.Nat.{ℕ, zero, suc, _+_, _-_, _*_, _≤_, _<_}
 use native.Mathlib.Omega.{arith}
 use lib.Dec.{eqb}
 use lib.ListN.{length, drop, getD, length-drop}
+use borrow.Author.Tests.{le-leb, lt-leb}
 use Rattle.grammar.specs.Number.{bigFrom}
 use Rattle.reading.specs.Refusal.{Refusal}
 use Rattle.reading.specs.Reader.{got, bad}
 use Rattle.reading.specs.Read.{bigOf, byteOf}
-use Rattle.reading.proofs.Lists.{leb-yes, leb-no}
 use Rattle.positions.specs.Position.{fromAt}
 use Rattle.positions.proofs.At.{listAt, big-at}
 use Rattle.positions.proofs.Position.{left-at}
@@ -51,13 +51,13 @@ module _ (c : Refusal) (k at : ℕ) (s : List ℕ) where
 
   pub fixed-cut : length s - at < k → bad c ≡ fromAt (bigOf c k) s at
   unfolding bigOf fromAt
-  fixed-cut h = rw (leb-no k (length (drop at s)) (rw length-drop h))
+  fixed-cut h = rw (lt-leb k (length (drop at s)) (rw length-drop h))
 
 -- one byte is a number of width 1
 byte-big : (c : Refusal) (l : List ℕ) → bigOf c 1 l ≡ byteOf c l
 unfolding byteOf bigOf
 byte-big c [] = refl
-byte-big c (x ∷ l) = let e : 0 + x ≡ x = omega arith in rw (leb-yes 1 (length (x ∷ l)) (omega arith), e)
+byte-big c (x ∷ l) = let e : 0 + x ≡ x = omega arith in rw (le-leb 1 (length (x ∷ l)) (omega arith), e)
 
 pub byte-width : (c : Refusal) (at : ℕ) (s : List ℕ) → fromAt (bigOf c 1) s at ≡ fromAt (byteOf c) s at
 unfolding fromAt

@@ -18,7 +18,7 @@ use Rattle.given_heads.specs.declared.puback_by.GotPubAckHead.{GotPubAckHead}
 use Rattle.given_heads.specs.Head.{publishHanded, ackHanded}
 use Rattle.one_result.specs.OneResult.{OneResult}
 use Rattle.one_result.proofs.Laws.{one-by}
-use Rattle.one_result.proofs.Writers.{backNumber, back-u8, back-u16, back-u32}
+use Rattle.one_result.proofs.Writers.{backNumber, back-number-u8, back-number-u16, back-number-u32}
 
 -- ---- a Publish
 
@@ -38,7 +38,7 @@ backPublish h = record {
 }
 
 back-publish : (m : PublishHead) → backPublish (publishing.handed m [] [] [] [] [] [] [] []) ≡ m
-back-publish m = simp (back-bool, back-qos, back-u8, back-u16, back-u32)
+back-publish m = simp (back-bool, back-qos, back-number-u8, back-number-u16, back-number-u32)
 
 abbrev backPublishHead : Handed → GotPublishHead
 backPublishHead (publish h) = GotPublishHead.Value (backPublish h)
@@ -80,7 +80,7 @@ abbrev backSubscribe : SubscribeHanded → SubscribeHead
 backSubscribe h = record { pkid = h .ident; block = h .block; id = backNumber MaybeU32.Absent MaybeU32.Present (h .subscription) }
 
 back-subscribe : (m : SubscribeHead) → backSubscribe (subscribing.handed m [] [] [] [] []) ≡ m
-back-subscribe m = simp back-u32
+back-subscribe m = simp back-number-u32
 
 pub subscribe-head-same : OneResult (λ (m : SubscribeHead). subscribing.handed m [] [] [] [] [])
 subscribe-head-same = one-by (λ (m : SubscribeHead). subscribing.handed m [] [] [] [] []) backSubscribe back-subscribe

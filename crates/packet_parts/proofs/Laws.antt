@@ -5,8 +5,7 @@ use mathlib.Core.List.{List, [], _∷_, _++_}
 use Prim.Native.Nat.{ℕ}
 use lib.Dec.{eqb}
 use lib.ListN.{length}
-use Rattle.grammar.specs.Choice.{isEmpty}
-use Rattle.writing.specs.Lists.{all}
+use Rattle.grammar.specs.Choice.{isEmpty, all}
 use Rattle.writing.proofs.Tests.{eq-when, eq-not}
 use Rattle.row_belongs.proofs.Laws.{empty-length}
 

@@ -6,8 +6,7 @@ use crate::head::PacketHead;
 use row_belongs::both;
 ghost use mathlib.Core.Path.{_≡_};
 ghost use mathlib.Core.List.{[], _∷_};
-ghost use Rattle.grammar.specs.Choice.{isEmpty};
-ghost use Rattle.writing.specs.Lists.{all};
+ghost use Rattle.grammar.specs.Choice.{isEmpty, all};
 ghost use Rattle.packet_parts.specs.Parts.{Parts, parts, publishParts, ackParts, subscribeParts, userParts, foreign};
 
 // Nothing that only a Publish has.

@@ -4,10 +4,9 @@ use mathlib.Core.Bool.{true, false}
 use mathlib.Core.Option.{Option}
 use mathlib.Core.List.{List, []}
 use Prim.Native.Nat.{ℕ}
-use Rattle.grammar.specs.Choice.{isEmpty}
+use Rattle.grammar.specs.Choice.{isEmpty, all}
 use Rattle.reading.specs.Refusal.{nr}
 use Rattle.reading.specs.Reader.{Fit, got, bad}
-use Rattle.writing.specs.Lists.{all}
 use Rattle.writing.specs.Write.{sizeOf, outOf, Written, sizedBehind, answeredBehind, outBehind, WrittenBehind}
 use Rattle.packet_parts.specs.Parts.{Parts, foreign}
 use Rattle.packet_parts.specs.declared.head.PacketHead.{PacketHead}

@@ -1,9 +1,8 @@
 -- A packet handed over in the lent parts of every kind: what belongs to its kind, if nothing else is handed over. Assumes nothing.
 use mathlib.Core.List.{[]}
-use Rattle.grammar.specs.Choice.{isEmpty}
+use Rattle.grammar.specs.Choice.{isEmpty, all}
 use Rattle.reading.specs.Refusal.{nr}
 use Rattle.reading.specs.Reader.{Fit, got, _>>_, guard}
-use Rattle.writing.specs.Lists.{all}
 use Rattle.writing.specs.Handed.{Handed, publish, ack, subscribe, ping}
 use Rattle.puback_write.specs.Handed as puback
 use Rattle.subscribe_write.specs.Handed as subscribe-of

@@ -6,12 +6,12 @@ use native.Mathlib.Omega.{arith}
 use native.Mathlib.Numerals.{add-one}
 use lib.ListN.{length, take, drop, getD, length-drop, drop-of-length-le}
 use lib.Seq.{drop-cons, drop-drop, length-take-le, take-add, drop-at}
+use borrow.Author.Tests.{le-leb, lt-leb, lt-ltb, le-ltb}
 use Rattle.grammar.specs.Number.{bigFrom}
 use Rattle.reading.specs.Refusal.{Refusal}
 use Rattle.reading.specs.Reader.{Fit, got, bad, Reader, Filler, _>>=_, sizedOf}
 use Rattle.reading.specs.Read.{bigOf, groupOf, numOf}
 use Rattle.reading.specs.Place.{spanOf}
-use Rattle.reading.proofs.Lists.{leb-yes, leb-no, ltb-yes, ltb-no}
 
 -- k elements from index at
 abbrev pub listAt : ℕ → ℕ → List ℕ → List ℕ
@@ -24,7 +24,7 @@ take-at (suc k) at s h = rw (drop-cons s at 0 (omega arith)) (ap (λ (l : List �
 
 pub big-at : (c : Refusal) (k at : ℕ) (s : List ℕ) → at + k ≤ length s → bigOf c k (drop at s) ≡ got (bigFrom 0 (listAt k at s), drop (at + k) s)
 unfolding bigOf
-big-at c k at s h = rw (leb-yes k (length (drop at s)) (rw length-drop (omega arith)), take-at k at s h, drop-drop k at s)
+big-at c k at s h = rw (le-leb k (length (drop at s)) (rw length-drop (omega arith)), take-at k at s h, drop-drop k at s)
 
 -- what is read of a number so far, and what follows it
 abbrev pub scale : ℕ → ℕ → Fit (ℕ × List ℕ) → Fit (ℕ × List ℕ)
@@ -37,11 +37,11 @@ module _ (c : Refusal) (k at : ℕ) (s : List ℕ) where
 
   pub num-last : at < length s → getD s at 0 < 128 → numOf c (suc k) (drop at s) ≡ got (getD s at 0, drop (at + 1) s)
   unfolding numOf groupOf
-  num-last h l = rw (drop-cons s at 0 h, add-one at, ltb-yes (getD s at 0) 128 l)
+  num-last h l = rw (drop-cons s at 0 h, add-one at, lt-ltb (getD s at 0) 128 l)
 
   pub num-next : at < length s → 128 ≤ getD s at 0 → numOf c (suc k) (drop at s) ≡ scale (getD s at 0 - 128) 128 (numOf c k (drop (at + 1) s))
   unfolding numOf groupOf
-  num-next h l = rw (drop-cons s at 0 h, add-one at, ltb-no (getD s at 0) 128 l)
+  num-next h l = rw (drop-cons s at 0 h, add-one at, le-ltb (getD s at 0) 128 l)
 
 pub scale-scale : (a m b n : ℕ) (t : Fit (ℕ × List ℕ)) → scale a m (scale b n t) ≡ scale (a + b * m) (m * n) t
 scale-scale a m b n (got z) = ap (λ (i : ℕ). got (i, z .1)) (omega arith)
@@ -60,14 +60,14 @@ module _ {A : Type 0} (n : Reader ℕ) (k : ℕ → List ℕ → Refusal) (q : �
   module _ (l m : ℕ) (e : n (drop at s) ≡ got (l, drop m s)) (h : m ≤ length s) where
     pub sized-crossed : length s < m + l → sizedOf n k q end (drop at s) ≡ bad (k l (drop m s))
     unfolding sizedOf
-    sized-crossed o = rw (e, leb-no l (length (drop m s)) (rw length-drop (omega arith)))
+    sized-crossed o = rw (e, lt-leb l (length (drop m s)) (rw length-drop (omega arith)))
 
     -- of a slice s that is read to its end, the part ends at m + l
     pub sized-at : m + l ≤ length s → end ≡ length s → sizedOf n k q end (drop at s) ≡ (q (m + l) (take l (drop m s)) >>= λ a. got (a, drop (m + l) s))
     unfolding sizedOf
     sized-at o i =
         let j : end - length (drop (m + l) s) ≡ m + l = rw length-drop (omega arith) in
-        rw (e, leb-yes l (length (drop m s)) (rw length-drop (omega arith)), drop-drop l m s, j)
+        rw (e, le-leb l (length (drop m s)) (rw length-drop (omega arith)), drop-drop l m s, j)
 
 -- ---- spans: l bytes from index m
 

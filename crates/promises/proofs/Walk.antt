@@ -9,6 +9,7 @@ use native.Mathlib.Omega.{arith}
 use lib.Dec.{leb, leb→le}
 use lib.ListN.{length, take, drop}
 use lib.Seq.{length-take-le}
+use borrow.Author.Tests.{leb-false}
 use Rattle.grammar.specs.Choice.{lookup}
 use Rattle.grammar.specs.Tables.{Place, publishPlace, subscribePlace, ackPlace}
 use Rattle.grammar.specs.Record.{PropOf, allOf, PublishProps, SubscribeProps, AckProps, publish, ack, subscribe}
@@ -18,7 +19,7 @@ use Rattle.reading.specs.Refusal.{accepted}
 use Rattle.reading.specs.Reader.{Fit, got, bad, Reader, Filler, _>>_, guard, manyFit, onlyFit}
 use Rattle.reading.specs.Read.{asBytes, propertyOf, propertiesFit, filterOf, filtersFit}
 use Rattle.reading.specs.Place.{Span, partOf, liesIn, asPlaces, noItem, orNoItem, again, valuesAt, ifSome, sayVal, sayPublishProps, saySubscribeProps, sayAckProps, say, OnBoth}
-use Rattle.reading.proofs.Lists.{T-of, leb-false}
+use Rattle.reading.proofs.Lists.{T-of}
 use Rattle.reading.proofs.Reading.{bad-got, got-inj, from-got, from-bind, from-guard}
 use Rattle.reading.proofs.Forget.{Like, gots, bads, Reading}
 use Rattle.reading.proofs.Places.{properties-says, filters-says}

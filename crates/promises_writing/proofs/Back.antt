@@ -7,7 +7,7 @@ use Prim.Native.Nat.{ℕ, _<_}
 use native.Mathlib.Omega.{arith}
 use lib.Dec.{eqb}
 use lib.ListN.{drop}
-use Rattle.grammar.specs.Choice.{isIn, isEmpty}
+use Rattle.grammar.specs.Choice.{isIn, isEmpty, all}
 use Rattle.grammar.specs.Tables.{publishPlace, subscribePlace, ackPlace, reasons, kinds}
 use Rattle.grammar.specs.Record.{num, mkFilter, PublishProps, SubscribeProps, AckProps}
 use Rattle.grammar.specs.Record as record-of
@@ -18,7 +18,6 @@ use Rattle.reading.specs.Place.{say}
 use Rattle.reading.specs.Demand.{Begins}
 use Rattle.reading.proofs.Reading.{got-inj}
 use Rattle.reading.proofs.Items.{say-items}
-use Rattle.writing.specs.Lists.{all}
 use Rattle.writing.specs.Handed.{Handed, PublishHanded, SubscribeHanded, AckHanded, publish, ack, subscribe, strings, duos, filters}
 use Rattle.writing.specs.Write.{frameBytes, WrittenBehind}
 use Rattle.writing.specs.Meant.{meant, said, publishSet, subscribeSet, ackSet, thePublish, theAck, theSubscribe, nonePublish, noneSubscribe, noneAck, Typed, Plain}

@@ -1,20 +1,18 @@
 -- Demands 1 and 2 for the writers, on one page: of every answer and output that meets the contract of `packet_write::write`, or of a kind's
 -- own `write`. Each theorem of `writing` is cited. Assumes nothing.
 use mathlib.Core.Path.{_≡_, refl, sym, ap, subst, _∙_}
-use mathlib.Core.Bool.{Bool, true, false}
+use mathlib.Core.Bool.{Bool, true, false, false≢true}
 use mathlib.Core.Option.{Option}
 use mathlib.Core.Logic.{_↔_}
 use mathlib.Core.List.{List, [], _++_}
 use Prim.Native.Nat.{ℕ}
 use lib.ListN.{length, drop}
-use Rattle.grammar.specs.Choice.{isIn, isEmpty}
+use Rattle.grammar.specs.Choice.{isIn, isEmpty, all}
 use Rattle.grammar.specs.Sentence.{Sentence}
 use Rattle.grammar.specs.Octets.{Octets}
 use Rattle.reading.specs.Refusal.{Refusal, nr}
 use Rattle.reading.specs.Reader.{Fit, got, bad}
 use Rattle.reading.proofs.Reading.{bad-got}
-use Rattle.reading.proofs.Lists.{no-way}
-use Rattle.writing.specs.Lists.{all}
 use Rattle.writing.specs.Handed.{Handed}
 use Rattle.writing.specs.Order.{Field}
 use Rattle.writing.specs.Size.{sizeIs}
@@ -108,7 +106,7 @@ module _ (limit : Limit) (h : Handed) (before after : List ℕ) (w : Written) wh
   accepted true m n =
       let u = answered-when (limitOf limit) (length before) h n in
       (λ i. let (a, l) = u .0 (sym (m .answer) ∙ ap toldWritten i) in (refl, a, l), λ (t, a, l). written-injective (m .answer ∙ u .1 (a, l)))
-  accepted false m n = (λ i. absurd (bad-got (sym (m .answer) ∙ ap toldWritten i)), λ (t, a, l). absurd (no-way t))
+  accepted false m n = (λ i. absurd (bad-got (sym (m .answer) ∙ ap toldWritten i)), λ (t, a, l). absurd (false≢true t))
 
   -- demand 1: a refusal of 01's writing order, and no other
   pub refused-row : (alone : Bool) → Obeys limit alone h before after w → (e : Error) → w ≡ Written.Refused e → isIn (rowOf (toldError e)) writerRows ≡ true
@@ -191,4 +189,4 @@ module _ (h : Handed) (z : Sized) where
   counted true c n =
       let u = sized-when h n in
       (λ i. let (a, l) = u .0 (sym c ∙ ap toldSized i) in (refl, a, l), λ (t, a, l). sized-injective (c ∙ u .1 (a, l)))
-  counted false c n = (λ i. absurd (bad-got (sym c ∙ ap toldSized i)), λ (t, a, l). absurd (no-way t))
+  counted false c n = (λ i. absurd (bad-got (sym c ∙ ap toldSized i)), λ (t, a, l). absurd (false≢true t))

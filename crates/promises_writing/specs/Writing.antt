@@ -10,7 +10,7 @@ use Rattle.reading.specs.Reader.{got, _>>_, guard}
 use Rattle.writing.specs.Handed.{Handed}
 use Rattle.writing.specs.Meant.{Below}
 use Rattle.reading.specs.Place.{say, Items}
-use Rattle.records.specs.Told.{limitOf}
+use Rattle.records.specs.Told.{limitOf, numberU8, numberU16, numberU32}
 use Rattle.records.specs.Said.{toldPacket}
 use Rattle.records.specs.Answered.{toldSized, toldWritten}
 use Rattle.records.specs.declared.answer.Limit.{Limit}
@@ -18,7 +18,6 @@ use Rattle.records.specs.declared.answer.Read.{Read}
 use Rattle.records.specs.declared.answer.Sized.{Sized}
 use Rattle.records.specs.declared.answer.Written.{Written}
 use Rattle.records.specs.declared.packet_record.Packet as code
-use Rattle.rows.specs.Given.{numberU8, numberU16, numberU32}
 use Rattle.publish_plan.specs.declared.head.PublishHead.{PublishHead}
 use Rattle.packet_parts.specs.Parts.{Parts}
 use Rattle.writing.specs.Write.{sizedBehind, WrittenBehind}

@@ -15,7 +15,7 @@ use Rattle.reading.specs.Read.{bigOf, byteOf, numOf, bytesOf, textOf, valueOf, 
 use Rattle.reading.specs.Place.{Span, asPlaces}
 use Rattle.reading.proofs.Reading.{bad-got, from-got, from-bind}
 use Rattle.reading.proofs.Refusing.{got-bad}
-use Rattle.positions.specs.Position.{fromAt}
+use Rattle.positions.specs.Position.{fromAt, nextOr}
 use Rattle.positions.proofs.Less.{property-less}
 use Rattle.positions.proofs.Trails.{Trails, trails-map, trails-then, trails-byte, trails-big, trails-num, trails-bytes, trails-text, trails-property}
 use Rattle.positions.proofs.Position.{got-left, bad-left, left-bad}
@@ -23,7 +23,7 @@ use Rattle.positions.proofs.Fill.{then-bad, map-bad, then-got, map-got}
 use Rattle.records.specs.Told.{toldError, toldSpan}
 use Rattle.records.specs.declared.error.Error.{Error}
 use Rattle.records.specs.declared.span.Span as records
-use Rattle.property_value.specs.Told.{toldValue, formOf, toldProperty, OfForm, ValueRead, PropertyRead, nextOr, ValuePassed, PropertyPassed}
+use Rattle.property_value.specs.Told.{toldValue, formOf, toldProperty, OfForm, ValueRead, PropertyRead, ValuePassed, PropertyPassed}
 use Rattle.property_value.specs.declared.Value.{Value}
 use Rattle.property_value.specs.declared.Value.the-variants.{Pair}
 use Rattle.property_value.specs.declared.GotProperty.{GotProperty}

@@ -11,7 +11,7 @@ use Rattle.reading.specs.Reader.{Fit, got, bad}
 use Rattle.reading.specs.Read.{valueAt, propertyOf}
 use Rattle.reading.specs.Place.{asPlaces}
 use Rattle.reading.specs.Place as place
-use Rattle.positions.specs.Position.{fromAt}
+use Rattle.positions.specs.Position.{fromAt, nextOr}
 use Rattle.records.specs.Told.{toldError, toldSpan}
 use Rattle.property_value.specs.declared.Value.{Value}
 use Rattle.property_value.specs.declared.Value.the-variants.{U8, U16, U32, Number, Text, Bytes, Pair}
@@ -61,11 +61,6 @@ pub record PropertyRead (row : tables.Place) (s : List ℕ) (at : ℕ) (r : GotP
 -- 01, grammar: "38, and 11 in Publish, are lists kept in order": their entries in row Publish
 abbrev pub publishLists : tables.Place
 publishLists = (38, tables.pair) ∷ (11, tables.number) ∷ []
-
--- the index after what was read; `at` if it was refused
-abbrev pub nextOr : {A : Type 0} → ℕ → Fit (A × ℕ) → ℕ
-nextOr at (got z) = z .1
-nextOr at (bad k) = at
 
 -- the index after a value of the form f at `start`; `at` if none stands there
 pub record ValuePassed (f : tables.Form) (k : ℕ) (s : List ℕ) (at start r : ℕ) : Type 0 where

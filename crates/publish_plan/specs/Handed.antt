@@ -2,8 +2,8 @@
 use mathlib.Core.List.{List}
 use Prim.Native.Nat.{ℕ}
 use Rattle.writing.specs.Handed.{PublishHanded}
-use Rattle.records.specs.Told.{toldBool, toldQoS}
-use Rattle.rows.specs.Given.{numberU8, numberU16, numberU32, run}
+use Rattle.records.specs.Told.{toldBool, toldQoS, numberU8, numberU16, numberU32}
+use Rattle.rows.specs.Given.{run}
 use Rattle.publish_plan.specs.declared.head.PublishHead.{PublishHead}
 
 -- 01, "What must change shape": numbers and presence in the head, strings and lists beside it in the order of the arguments

@@ -1,12 +1,13 @@
 -- Each reader refuses just where its bytes have the fault, and every stream has one verdict, which is the reader's answer. Assumes nothing.
 use mathlib.Core.Path.{_≡_, refl, sym, ap, _∙_, subst}
-use mathlib.Core.Bool.{true, false, not, _||_}
+use mathlib.Core.Bool.{true, false, not, _||_, false≢true}
 use mathlib.Core.Option.{Option, none, some}
 use mathlib.Core.Logic.{_↔_}
 use mathlib.Core.List.{List, [], _∷_, _++_}
 use Prim.Native.Nat.{ℕ, zero, suc, _-_}
 use native.Mathlib.Omega.{arith}
 use lib.ListN.{length, length-append}
+use borrow.Author.Tests.{not-false, not-true}
 use Rattle.grammar.specs.Choice.{isIn, lookup, isEmpty}
 use Rattle.grammar.specs.Gram.{done, more, Many}
 use Rattle.grammar.specs.Text.{Utf8}
@@ -17,7 +18,7 @@ use Rattle.reading.specs.Refusal.{Refusal, nr, Answer, cut, crossed, lac
 use Rattle.reading.specs.Fault.{Sound, ManyFault, ExactFault, BytesFault, TextFault, ValueFault, PropertyFault, noId, unknown, value, BlockFault, AckFault, reason, block, IdentFault, FilterFault, FiltersFault, noFilters, filter, MessageFault, PublishFault, qos, fields, FieldsFault, BodyFault, kind, noBytes, foreign, content, FrameFault, Passing, Verdict, says, breaks, noFrame}
 use Rattle.reading.specs.Reader.{Fit, got, bad, isFit, onlyFit, exactFit, runFit, chainFit, manyFit}
 use Rattle.reading.specs.Read.{identOf, isText, anyBytes, asBytes, frameOf, bodyAnswer, stringFit, bytesOf, textOf, valueOf, valueAt, propertyOf, propertiesFit, blockOf, publishAs, subscribeAs, ackAs, ackBlockFit, ackRestFit, filterOf, filtersFit, messageFit, fieldsFit, layoutFit, bodyFit, wholeAnswer, frameAnswer, readAs, readOf}
-use Rattle.reading.proofs.Lists.{no-way, not-false, not-true, none-left}
+use Rattle.reading.proofs.Lists.{none-left}
 use Rattle.reading.proofs.Reading.{reads-only, fills-many}
 use Rattle.reading.proofs.Fields.{reads-byte, reads-big, reads-num, text-fine, reads-bytes, reads-text, reads-property, property-solid}
 use Rattle.reading.proofs.Packets.{reads-ack, reads-ident, reads-filter, filter-solid, reads-publish-block, reads-subscribe-block, kind-fine, fills-body}
@@ -111,7 +112,7 @@ module _ (end : ℕ) where
 
   empty-run : (fs : List (Filter (List ℕ))) (s : List ℕ) → someOf fs ≡ false → Many FilterOf fs s → s ≡ []
   empty-run _ _ h done = refl
-  empty-run _ _ h (more g m) = absurd (no-way (sym h))
+  empty-run _ _ h (more g m) = absurd (false≢true (sym h))
 
   filters-fault : (s : List ℕ) (k : Refusal) → filtersFit asBytes end s ≡ bad k → FiltersFault s k
   unfolding filtersFit onlyFit
@@ -166,7 +167,7 @@ module _ (x end : ℕ) where
   -- ---- rows 4, 5 and 6
 
   foreign-fault : (b : List ℕ) (k : Refusal) → isIn (kindOf x) reserved ≡ false → lookup kinds (kindOf x) ≡ none → (false || not (isEmpty b)) ≡ true → nr 6 (kindOf x ∷ []) ≡ k → BodyFault x b k
-  foreign-fault [] k h e h′ i = absurd (no-way h′)
+  foreign-fault [] k h e h′ i = absurd (false≢true h′)
   foreign-fault (y ∷ b) k h e h′ i = subst (BodyFault x (y ∷ b)) i (foreign h e)
 
   layout-fault : (b : List ℕ) (k : Refusal) (o : Option Layout) → isIn (kindOf x) reserved ≡ false → lookup kinds (kindOf x) ≡ o → (isPing o || not (isEmpty b)) ≡ true → layoutFit asBytes o x end b ≡ bad k → BodyFault x b k

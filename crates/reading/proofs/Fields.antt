@@ -1,6 +1,6 @@
 -- The readers of numbers, strings and properties read their grammars. Assumes nothing.
 use mathlib.Core.Path.{_≡_, refl, ap}
-use mathlib.Core.Bool.{Bool, true, false}
+use mathlib.Core.Bool.{Bool, true, false, false≢true}
 use mathlib.Core.Option.{Option, none, some}
 use mathlib.Core.List.{List, [], _∷_, _++_}
 use Prim.Native.Nat.{ℕ, zero, suc, _+_, _-_, _*_}
@@ -9,6 +9,7 @@ use lib.ListN.{length, take, drop, length-append, take-append-drop}
 use lib.Seq.{take-at, drop-at, length-take-le}
 use lib.Dec.{leb, ltb, leb→le, ltb→lt}
 use mathlib.Core.Logic.{_↔_}
+use borrow.Author.Tests.{le-leb, lt-ltb, ltb-false, le-ltb}
 use Rattle.grammar.specs.Choice.{lookup}
 use Rattle.grammar.specs.Gram.{Many, Is, Solid}
 use Rattle.grammar.specs.Number.{Byte, byte, bigFrom, Big, big, Groups, last, next}
@@ -19,7 +20,7 @@ use Rattle.grammar.specs.Sentence.{Any, Bytes, Text, Prop, duoOf, Spelt, Proper
 use Rattle.reading.specs.Refusal.{Refusal, cut, crossed}
 use Rattle.reading.specs.Reader.{Fit, got, bad, manyFit, isGot}
 use Rattle.reading.specs.Read.{bigOf, byteOf, groupOf, numOf, followOf, restOf, charOf, isText, anyBytes, asBytes, stringFit, bytesOf, textOf, valueOf, valueAt, propertyOf, propertiesFit, blockOf}
-use Rattle.reading.proofs.Lists.{no-way, T-of, leb-yes, ltb-yes, ltb-false, ltb-no}
+use Rattle.reading.proofs.Lists.{T-of}
 use Rattle.reading.proofs.Reading.{bad-got, from-got, from-bind, from-guard, Cut, Reads, Fills, reads-none, reads-map, reads-only, reads-then, reads-sized, fills-hand, fills-as, fills-many, fills-is, reads-never, solid-map, solid-then, solid-sized}
 
 -- ---- numbers
@@ -44,7 +45,7 @@ module _ (c : Refusal) (k : ℕ) where
   big-whole : (n : ℕ) (b r : List ℕ) → Big k n b → bigOf c k (b ++ r) ≡ got (n, r)
   unfolding bigOf
   big-whole _ b r (big e) =
-      rw (leb-yes k (length (b ++ r)) (rw length-append (omega arith)), take-at b r k e, drop-at b r k e)
+      rw (le-leb k (length (b ++ r)) (rw length-append (omega arith)), take-at b r k e, drop-at b r k e)
 
   big-split : (s : List ℕ) (z : ℕ × List ℕ) → bigOf c k s ≡ got z → Cut (Big k) s z
   unfolding bigOf
@@ -58,8 +59,8 @@ module _ (c : Refusal) (k : ℕ) where
 module _ (c : Refusal) where
   num-whole : (k n : ℕ) (b r : List ℕ) → Groups k n b → numOf c k (b ++ r) ≡ got (n, r)
   unfolding numOf groupOf
-  num-whole _ _ _ r (last {k = k} {x = x} h) = rw (ltb-yes x 128 h)
-  num-whole _ _ _ r (next {k = k} {x = x} {n = n} {b = b} h g) = rw (ltb-no x 128 h, num-whole k n b r g)
+  num-whole _ _ _ r (last {k = k} {x = x} h) = rw (lt-ltb x 128 h)
+  num-whole _ _ _ r (next {k = k} {x = x} {n = n} {b = b} h g) = rw (le-ltb x 128 h, num-whole k n b r g)
 
   num-step : (k x : ℕ) (s : List ℕ) → ((z : ℕ × List ℕ) → numOf c k s ≡ got z → Cut (Groups k) s z)
       → (t : Bool) → ltb x 128 ≡ t → (z : ℕ × List ℕ) → groupOf t x s (numOf c k s) ≡ got z → Cut (Groups (suc k)) (x ∷ s) z
@@ -110,7 +111,7 @@ text-fine b = (go (manyFit charOf b) refl, λ t. rw (fills-chars .whole (t .0) b
   where
     go : (m : Fit (List (List ℕ))) → manyFit charOf b ≡ m → isGot m ≡ true → Utf8 b
     go (got cs) e h = (cs, fills-chars .back b cs e)
-    go (bad k) e h = absurd (no-way h)
+    go (bad k) e h = absurd (false≢true h)
 
 pub any-fine : (b : List ℕ) → (anyBytes b ≡ true) ↔ Any b
 any-fine b = (λ _. tt, λ _. refl)

@@ -7,12 +7,13 @@ use native.Mathlib.Omega.{arith}
 use lib.Dec.{leb, leb→le}
 use lib.ListN.{length, take, drop, length-append, take-append-drop}
 use lib.Seq.{take-append-seam, drop-at}
+use borrow.Author.Tests.{le-leb}
 use Rattle.grammar.specs.Choice.{isEmpty}
 use Rattle.grammar.specs.Gram.{Gram, forget}
 use Rattle.reading.specs.Refusal.{Refusal}
 use Rattle.reading.specs.Reader.{Fit, got, bad, Reader, Filler, _>>=_, _>>_, guard, mapOf, thenOf, sizedOf, mapFit, handFit, onlyFit, thenFit, exactFit, runFit, chainFit, manyFit}
 use Rattle.reading.specs.Place.{spanOf, partOf, heldOf}
-use Rattle.reading.proofs.Lists.{T-of, leb-yes}
+use Rattle.reading.proofs.Lists.{T-of}
 use Rattle.reading.proofs.Reading.{Reads}
 
 -- ---- two answers: the same refusal, or values that R relates
@@ -103,7 +104,7 @@ module _ {s : List ℕ} {end : ℕ} where
   unfolding heldOf
   stands-held l w =
       let (h, i) = stands-within l w in
-      rw (i, leb-yes end (length s) h) (stands-span l w)
+      rw (i, le-leb end (length s) h) (stands-span l w)
 
 -- ---- readers and fillers of lists that end at `end` of s, whose values R relates
 

@@ -5,6 +5,7 @@ use mathlib.Core.Option.{Option, none, some}
 use mathlib.Core.List.{List, [], _∷_}
 use Prim.Native.Nat.{ℕ, zero, suc}
 use lib.Dec.{eqb}
+use borrow.Author.Tests.{eqb-true}
 use Rattle.grammar.specs.Choice.{isIn, lookup, isEmpty}
 use Rattle.grammar.specs.Gram.{Gram, Only, only, Many, Solid}
 use Rattle.grammar.specs.Tables.{publishPlace, subscribePlace, ackPlace, Layout, aPublish, anAck, aSubscribe, aPing, kinds, reserved, isPing}
@@ -13,7 +14,6 @@ use Rattle.grammar.specs.Sentence.{Any, Block, publishOf, subscribeOf, ackOf, n
 use Rattle.reading.specs.Refusal.{Refusal, cut}
 use Rattle.reading.specs.Reader.{got, Filler, _>>=_, _>>_, guard}
 use Rattle.reading.specs.Read.{identOf, anyBytes, asBytes, blockOf, publishAs, subscribeAs, ackAs, ackBlockFit, ackRestFit, filterOf, filtersFit, messageFit, fieldsFit, layoutFit, bodyFit}
-use Rattle.reading.proofs.Lists.{eq-of}
 use Rattle.reading.proofs.Reading.{bad-got, from-got, from-bind, from-guard, Reads, Fills, reads-none, reads-map, reads-only, reads-then, fills-map, fills-as, fills-many, fills-then, fills-exact, fills-only, fills-is, solid-map, solid-then, solid-sized, solid-only}
 use Rattle.reading.proofs.Fields.{reads-byte, reads-big, big-solid, any-fine, fills-string, reads-bytes, reads-text, reads-block, block-solid}
 
@@ -123,11 +123,11 @@ unfolding kinds
 kind-fine k f e = first (eqb k 0) refl
   where
     second : (t : Bool) → eqb k 15 ≡ t → not (t || false) ≡ true
-    second true h = let i : k ≡ 15 = eq-of k 15 h in let z : none ≡ some f = rw i at e in cc
+    second true h = let i : k ≡ 15 = eqb-true k 15 h in let z : none ≡ some f = rw i at e in cc
     second false h = refl
 
     first : (t : Bool) → eqb k 0 ≡ t → not (t || (eqb k 15 || false)) ≡ true
-    first true h = let i : k ≡ 0 = eq-of k 0 h in let z : none ≡ some f = rw i at e in cc
+    first true h = let i : k ≡ 0 = eqb-true k 0 h in let z : none ≡ some f = rw i at e in cc
     first false h = second (eqb k 15) refl
 
 module _ (x end : ℕ) where

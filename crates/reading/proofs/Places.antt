@@ -9,6 +9,7 @@ use Prim.Native.Nat.{ℕ, _+_, _-_, _≤_}
 use native.Mathlib.Omega.{arith}
 use lib.Dec.{eqb, leb, leb→le}
 use lib.ListN.{length, length-append}
+use borrow.Author.Tests.{le-leb}
 use Rattle.grammar.specs.Choice.{isIn, lookup, isEmpty}
 use Rattle.grammar.specs.Gram.{Gram, Only, both, sized, Many, is}
 use Rattle.grammar.specs.Number.{byte}
@@ -19,7 +20,7 @@ use Rattle.reading.specs.Refusal.{Refusal, nr, Answer, accepted, refused
 use Rattle.reading.specs.Reader.{Fit, got, bad, Filler, _>>_, guard, isFit}
 use Rattle.reading.specs.Read.{bigOf, byteOf, numOf, identOf, isText, anyBytes, asBytes, frameOf, bodyAnswer, stringFit, bytesOf, textOf, valueOf, valueAt, propertyOf, propertiesFit, blockOf, publishAs, subscribeAs, ackAs, ackBlockFit, ackRestFit, filterOf, filtersFit, messageFit, fieldsFit, layoutFit, bodyFit, wholeAnswer, frameAnswer, readAs, readOf}
 use Rattle.reading.specs.Place.{Span, spanOf, partOf, heldOf, asPlaces, Placed, readPlacedOf, noItem, orNoItem, again, valuesAt, onGot, onSome, ifSome, sayVal, sayProp, sayFilter, sayPublishProps, saySubscribeProps, sayAckProps, say, sayAnswer}
-use Rattle.reading.proofs.Lists.{T-of, leb-yes}
+use Rattle.reading.proofs.Lists.{T-of}
 use Rattle.reading.proofs.Reading.{bad-got, got-inj, from-got, from-guard, Fills}
 use Rattle.reading.proofs.Fields.{reads-big, reads-num, reads-bytes, reads-text, reads-property, fills-properties}
 use Rattle.reading.proofs.Packets.{reads-ident, reads-filter, fills-filters, reads-publish-block, reads-subscribe-block}
@@ -43,7 +44,7 @@ module _ {A : Type 0} {q : ℕ → Filler A} {G : Gram A} (S : (e : ℕ) → Fil
   unfolding again
   again-iff = (
     fills-there (leb (p .start + p .len) (length s)) refl,
-    λ t. rw (leb-yes (p .start + p .len) (length s) (t .0), S (p .start + p .len) .whole v (partOf s p) (t .1)),
+    λ t. rw (le-leb (p .start + p .len) (length s) (t .0), S (p .start + p .len) .whole v (partOf s p) (t .1)),
   )
 
 pub block-iff : (place : Place) (s : List ℕ) (p : Span) (ps : List Prop) → (again (propertiesFit asBytes place) s p ≡ got ps) ↔ ((p .start + p .len ≤ length s) × Many (Property place) ps (partOf s p))

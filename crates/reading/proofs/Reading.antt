@@ -9,11 +9,12 @@ use native.Mathlib.Omega.{arith}
 use lib.ListN.{length, take, drop, length-append, take-append-drop}
 use lib.Seq.{take-append-seam, drop-append-seam, length-take-le}
 use lib.Dec.{leb, leb→le}
+use borrow.Author.Tests.{le-leb}
 use Rattle.grammar.specs.Choice.{isEmpty}
 use Rattle.grammar.specs.Gram.{Gram, Nothing, nothing, Map, mapped, Only, only, Then, both, Sized, sized, Chain, done, more, forget, Many, Is, is, Never, Solid}
 use Rattle.reading.specs.Refusal.{Refusal}
 use Rattle.reading.specs.Reader.{Fit, got, bad, Reader, Filler, _>>=_, _>>_, guard, noneOf, neverOf, mapOf, onlyOf, thenOf, sizedOf, isFit, mapFit, handFit, onlyFit, thenFit, exactFit, runFit, chainFit, manyFit}
-use Rattle.reading.proofs.Lists.{T-of, leb-yes, nil-of, left-nil}
+use Rattle.reading.proofs.Lists.{T-of, nil-of, left-nil}
 
 -- ---- taking an accepted answer apart
 
@@ -118,7 +119,7 @@ module _ {A : Type 0} {n : Reader ℕ} {q : ℕ → Filler A} {N : Gram ℕ} {H 
       rw (
         append-assoc c b r,
         R .whole (length b) c (b ++ r) l,
-        leb-yes (length b) (length (b ++ r)) (rw length-append (omega arith)),
+        le-leb (length b) (length (b ++ r)) (rw length-append (omega arith)),
         take-append-seam b r,
         drop-append-seam b r,
         S (end - length r) .whole a b h,

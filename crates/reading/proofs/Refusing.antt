@@ -1,6 +1,6 @@
 -- When a reader refuses: just where its bytes have the fault, and with that refusal. One law for each way to build a reader. Assumes nothing.
 use mathlib.Core.Path.{_≡_, refl, sym, _∙_, subst}
-use mathlib.Core.Bool.{Bool, true, false}
+use mathlib.Core.Bool.{Bool, true, false, false≢true}
 use mathlib.Core.Logic.{_↔_}
 use mathlib.Core.List.{List, [], _∷_, _++_}
 use Prim.Native.Nat.{ℕ, zero, suc, _-_, _≤_, _<_}
@@ -8,13 +8,14 @@ use native.Mathlib.Omega.{arith}
 use lib.Dec.{leb, ltb, leb→le}
 use lib.ListN.{length, take, drop, length-append, take-append-drop}
 use lib.Seq.{take-append-seam, drop-append-seam, length-take-le}
+use borrow.Author.Tests.{le-leb, lt-leb, leb-false, ltb-false, le-ltb}
 use Rattle.grammar.specs.Choice.{isEmpty}
 use Rattle.grammar.specs.Gram.{Gram, forget, Solid}
 use Rattle.reading.specs.Refusal.{Refusal, nr}
 use Rattle.reading.specs.Fault.{Fault, Sound, OnlyFault, under, fails, ThenFault, first, second, SizedFault, sizes, crosses, fills, ManyFault, now, later, ExactFault, before, follows, IsFault, isnt, ByteFault, noByte, BigFault, fewer, Tops, noTops, aTop, NumFault, endless, long}
 use Rattle.reading.specs.Reader.{Fit, got, bad, Reader, Filler, _>>=_, _>>_, guard, noneOf, mapOf, onlyOf, thenOf, sizedOf, isFit, mapFit, handFit, thenFit, exactFit, runFit, chainFit, manyFit}
 use Rattle.reading.specs.Read.{bigOf, byteOf, groupOf, numOf}
-use Rattle.reading.proofs.Lists.{no-way, T-of, leb-yes, leb-no, leb-false, ltb-false, ltb-no}
+use Rattle.reading.proofs.Lists.{T-of}
 use Rattle.reading.proofs.Reading.{bad-got, Reads, less}
 
 -- ---- taking a refusal apart
@@ -58,7 +59,7 @@ module _ (c : Refusal) where
 
     big-refuse : (s : List ℕ) (k : Refusal) → BigFault c n s k → bigOf c n s ≡ bad k
     unfolding bigOf
-    big-refuse s _ (fewer h) = rw (leb-no n (length s) h)
+    big-refuse s _ (fewer h) = rw (lt-leb n (length s) h)
 
     pub refuses-big : RefusesBy (bigOf c n) (BigFault c n)
     refuses-big = record { fault = big-fault; refuse = big-refuse }
@@ -83,14 +84,14 @@ module _ (c : Refusal) where
   unfolding numOf groupOf
   tops-end zero s t h = absurd (omega arith)
   tops-end (suc n) _ noTops h = refl
-  tops-end (suc n) _ (aTop {x = x} {b = b} g t) h = rw (ltb-no x 128 g, tops-end n b t (omega arith))
+  tops-end (suc n) _ (aTop {x = x} {b = b} g t) h = rw (le-ltb x 128 g, tops-end n b t (omega arith))
 
   tops-long : (n : ℕ) (b r : List ℕ) → Tops b → length b ≡ n → numOf c n (b ++ r) ≡ bad (nr 2 [])
   unfolding numOf groupOf
   tops-long zero _ r noTops h = refl
   tops-long (suc n) _ r noTops h = absurd (omega arith)
   tops-long zero _ r (aTop g t) h = absurd (omega arith)
-  tops-long (suc n) _ r (aTop {x = x} {b = b} g t) h = rw (ltb-no x 128 g, tops-long n b r t (omega arith))
+  tops-long (suc n) _ r (aTop {x = x} {b = b} g t) h = rw (le-ltb x 128 g, tops-long n b r t (omega arith))
 
   num-refuse : (n : ℕ) (s : List ℕ) (k : Refusal) → NumFault c n s k → numOf c n s ≡ bad k
   num-refuse n s _ (endless t h) = tops-end n s t h
@@ -168,7 +169,7 @@ module _ {A : Type 0} {p : Reader A} {F : Fault} (P : RefusesBy p F) where
 
     module _ (c : Refusal) where
       after : (b r : List ℕ) (k : Refusal) (a : A) → G a b → isEmpty r ≡ false → c ≡ k → ExactFault G F c (b ++ r) k
-      after b [] k a g h i = absurd (no-way (sym h))
+      after b [] k a g h i = absurd (false≢true (sym h))
       after b (y ∷ r) k a g h i = subst (ExactFault G F c (b ++ (y ∷ r))) i (follows y r g)
 
       exact-fault : (s : List ℕ) (k : Refusal) → exactFit p c s ≡ bad k → ExactFault G F c s k
@@ -246,11 +247,11 @@ module _ {A : Type 0} {n : Reader ℕ} {q : ℕ → Filler A} {N : Gram ℕ} {F 
   sized-refuse : (s : List ℕ) (k : Refusal) → SizedFault N F c H s k → sizedOf n c q end s ≡ bad k
   unfolding sizedOf
   sized-refuse s k (sizes h) = rw (P .refuse s k h)
-  sized-refuse _ _ (crosses {l = l} {b = b} r g h) = rw (R .whole l b r g, leb-no l (length r) h)
+  sized-refuse _ _ (crosses {l = l} {b = b} r g h) = rw (R .whole l b r g, lt-leb l (length r) h)
   sized-refuse _ k (fills {b = b} {d = d} r g h) =
       rw (
         R .whole (length b) d (b ++ r) g,
-        leb-yes (length b) (length (b ++ r)) (rw length-append (omega arith)),
+        le-leb (length b) (length (b ++ r)) (rw length-append (omega arith)),
         take-append-seam b r,
         drop-append-seam b r,
         Q (end - length r) .refuse b k h,
@@ -264,7 +265,7 @@ module _ {A : Type 0} {n : Reader ℕ} {q : ℕ → Filler A} {N : Gram ℕ} {F 
 module _ (t : List ℕ → Bool) (P : List ℕ → Type 0) (c : Refusal) (D : (b : List ℕ) → (t b ≡ true) ↔ P b) where
   is-fault : (s : List ℕ) (k : Refusal) → isFit t c s ≡ bad k → IsFault P c s k
   unfolding isFit
-  is-fault s k = of-guard (t s) c _ k (λ h i. subst (IsFault P c s) i (isnt (λ g. no-way (sym h ∙ D s .1 g)))) (λ _ e. got-bad e)
+  is-fault s k = of-guard (t s) c _ k (λ h i. subst (IsFault P c s) i (isnt (λ g. false≢true (sym h ∙ D s .1 g)))) (λ _ e. got-bad e)
 
   fails-test : (s : List ℕ) → (P s → ⊥) → (b : Bool) → t s ≡ b → t s ≡ false
   fails-test s h true e = absurd (h (D s .0 e))

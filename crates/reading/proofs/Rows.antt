@@ -1,7 +1,7 @@
 -- Rows 1 to 6 are given just when 01's words hold, and the rest just when the fields of a whole frame break; each number comes from one
 -- of the two. Assumes nothing.
 use mathlib.Core.Path.{_≡_, refl, sym, ap, _∙_, subst}
-use mathlib.Core.Bool.{Bool, true, false, _||_, cond}
+use mathlib.Core.Bool.{Bool, true, false, _||_, cond, false≢true}
 use mathlib.Core.Option.{Option, none, some}
 use mathlib.Core.Logic.{_↔_, _⊎_, inl, inr}
 use mathlib.Core.List.{List, [], _∷_, _++_}
@@ -9,6 +9,7 @@ use Prim.Native.Nat.{ℕ, _+_, _-_, _<_}
 use native.Mathlib.Omega.{arith}
 use lib.Dec.{eqb}
 use lib.ListN.{length, length-append}
+use borrow.Author.Tests.{lt-leb, leb-false}
 use Rattle.grammar.specs.Choice.{isIn}
 use Rattle.grammar.specs.Gram.{Only, only, both}
 use Rattle.grammar.specs.Number.{Byte, byte, Spells}
@@ -18,7 +19,6 @@ use Rattle.reading.specs.Fault.{Sound, OnlyFault, under, fails, first, s
 use Rattle.reading.specs.Read.{readOf}
 use Rattle.reading.specs.Rows.{Incomplete, underTwo, noEnd, partly, Overlong, overlong, Above, above, Holds, holds, Framing, insufficient, malformed, exceeded, invalid, required, notCarried, rowNumber, FramingGiven, Breaks}
 use Rattle.reading.specs.Demand.{ofFields, Taken, nothing-yet, own-length, whole-frame}
-use Rattle.reading.proofs.Lists.{no-way, leb-no, leb-false}
 use Rattle.reading.proofs.Faults.{answered}
 use Rattle.reading.proofs.Numbers.{field-numbers}
 
@@ -41,7 +41,7 @@ module _ (limit : Option ℕ) where
 
 over-row : (limit : Option ℕ) (x l : ℕ) (b r : List ℕ) → Spells l b → within limit l ≡ false → Shown limit (x ∷ (b ++ r)) (over limit l) 0
 unfolding within over
-over-row none x l b r g h = absurd (no-way (sym h))
+over-row none x l b r g h = absurd (false≢true (sym h))
 over-row (some m) x l b r g h = (exceeded, refl, (l, m, refl, above r g (leb-false l m h), refl, refl))
 
 module _ (limit : Option ℕ) where
@@ -94,7 +94,7 @@ module _ (limit : Option ℕ) where
 
 above-limit : (limit : Option ℕ) (l m : ℕ) → limit ≡ some m → m < l → (within limit l ≡ false) × (over limit l ≡ nr 3 (l ∷ m ∷ []))
 unfolding within over
-above-limit limit l m e h = (rw e (leb-no l m h), rw e)
+above-limit limit l m e h = (rw e (lt-leb l m h), rw e)
 
 module _ (limit : Option ℕ) where
   fault-verdict : (s : List ℕ) (k : Refusal) → FrameFault limit s k → Verdict limit s (refusedAs k 0)
@@ -185,7 +185,7 @@ module _ (limit : Option ℕ) (s vs : List ℕ) where
       go (inr w) = absurd (h w)
 
   not-field : (k t : ℕ) → isIn k ofFields ≡ false → Breaks limit s (nr k vs) t → ⊥
-  not-field k t h w = no-way (sym h ∙ field-numbers limit s k t vs w)
+  not-field k t h w = false≢true (sym h ∙ field-numbers limit s k t vs w)
 
   -- 01, row 1: given exactly when the frame is incomplete, with n
   pub row-1 : (t : ℕ) → (readOf limit s ≡ refused 1 vs t) ↔ FramingGiven limit insufficient s vs t
@@ -216,7 +216,7 @@ module _ (limit : Option ℕ) (s vs : List ℕ) where
   field-rows k t h = (λ e. go (refused-rows k t .0 e), λ w. refused-rows k t .1 (inr w))
     where
       go : Some limit s k vs t ⊎ Breaks limit s (nr k vs) t → Breaks limit s (nr k vs) t
-      go (inl (r, e, g)) = absurd (no-way (sym (other r k e) ∙ h))
+      go (inl (r, e, g)) = absurd (false≢true (sym (other r k e) ∙ h))
       go (inr w) = w
 
   -- 01, row 2, with bytes taken: a number inside the frame

@@ -8,6 +8,7 @@ use Prim.Native.Nat.{ℕ, _+_, _-_, _≤_, _<_}
 use native.Mathlib.Omega.{arith}
 use lib.Dec.{leb, leb→le}
 use lib.ListN.{length, length-append}
+use borrow.Author.Tests.{le-leb, lt-leb, leb-false, le-ltb}
 use Rattle.grammar.specs.Gram.{Only, only, both, sized, is}
 use Rattle.grammar.specs.Number.{byte, Groups, last, next, Spells}
 use Rattle.grammar.specs.Sentence.{Packet, Frame, framed, Sentence}
@@ -17,7 +18,7 @@ use Rattle.reading.specs.Reader.{Fit, got, bad, onlyOf, thenOf, sizedOf}
 use Rattle.reading.specs.Read.{byteOf, numOf, Shape, frameOf, frameAnswer, readAs, readOf}
 use Rattle.reading.specs.Rows.{Incomplete, underTwo, noEnd, partly, Above, above, allTops, lacks}
 use Rattle.reading.specs.Demand.{Limited}
-use Rattle.reading.proofs.Lists.{T-of, leb-yes, leb-no, leb-false, ltb-no, Cuts, cut-in}
+use Rattle.reading.proofs.Lists.{T-of, Cuts, cut-in}
 use Rattle.reading.proofs.Reading.{bad-got, got-inj}
 use Rattle.reading.proofs.Fields.{reads-num}
 use Rattle.reading.proofs.Demand.{all-within, whole-answer}
@@ -50,7 +51,7 @@ module _ (h : Shape) where
   -- a whole header whose R is above the limit: 3, with R and the limit, and nothing taken
   limit-refuses : (m x l : ℕ) (c r : List ℕ) → Spells l c → m < l → readAs h (some m) (x ∷ (c ++ r)) ≡ refused 3 (l ∷ m ∷ []) 0
   unfolding within over
-  limit-refuses m x l c r g o = too-large (some m) x l c r g (leb-no l m o)
+  limit-refuses m x l c r g o = too-large (some m) x l c r g (lt-leb l m o)
 
 -- every length number that s begins with, after its first byte, is at most m
 abbrev AtMost : ℕ → List ℕ → Type 0
@@ -65,7 +66,7 @@ same-frame m end (x ∷ s) h = go (numOf (nr 1 (1 ∷ [])) 4 s) refl
     go (bad k) e = rw e
     go (got z) e =
         let (c, e₁, g) = reads-num (nr 1 (1 ∷ [])) 4 .split s z e in
-        rw (e, leb-yes (z .0) m (h x (z .0) c (z .1) (ap (λ (l : List ℕ). x ∷ l) e₁) g))
+        rw (e, le-leb (z .0) m (h x (z .0) c (z .1) (ap (λ (l : List ℕ). x ∷ l) e₁) g))
 
 -- otherwise the answer is that with no limit
 limit-passes : (h : Shape) (m : ℕ) (s : List ℕ) → AtMost m s → readAs h (some m) s ≡ readAs h none s
@@ -107,12 +108,12 @@ module _ (h : Shape) (m : ℕ) where
 
 top-test : (b : List ℕ) → Tops b → allTops b ≡ true
 top-test _ noTops = refl
-top-test _ (aTop {x = x} {b = b} h t) = rw (leb-yes 128 x h) (top-test b t)
+top-test _ (aTop {x = x} {b = b} h t) = rw (le-leb 128 x h) (top-test b t)
 
 -- what ends a number is no byte with its top bit set
 no-top : (k l : ℕ) (c r : List ℕ) → Groups k l c → allTops (c ++ r) ≡ false
-no-top _ _ _ r (last {x = x} h) = rw (leb-no 128 x h)
-no-top _ _ _ r (next {k = k} {x = x} {n = n} {b = b} h g) = rw (leb-yes 128 x h) (no-top k n b r g)
+no-top _ _ _ r (last {x = x} h) = rw (lt-leb 128 x h)
+no-top _ _ _ r (next {k = k} {x = x} {n = n} {b = b} h g) = rw (le-leb 128 x h) (no-top k n b r g)
 
 -- a strict front of a number: tops, and fewer than it may have
 front-tops : (k l : ℕ) (c u w : List ℕ) (y : ℕ) → Groups k l c → c ≡ u ++ (y ∷ w) → Tops u × (length u < k)
@@ -138,14 +139,14 @@ module _ (limit : Option ℕ) where
         go : Cuts c b (z ∷ u) w y → readOf limit (x ∷ z ∷ u) ≡ refused 1 (lacks (x ∷ z ∷ u) (length (x ∷ (c ++ b))) ∷ []) 0
         go (inl t) =
             let (d, l) = front-tops 4 (length b) c (z ∷ u) (t .0) y g (t .1) in
-            rw (ltb-no (length (x ∷ z ∷ u)) 2 (omega arith), top-test (z ∷ u) d) (answer-of (x ∷ z ∷ u) 1 (noEnd d l))
+            rw (le-ltb (length (x ∷ z ∷ u)) 2 (omega arith), top-test (z ∷ u) d) (answer-of (x ∷ z ∷ u) 1 (noEnd d l))
         go (inr t) =
             let (v, e₁, e₂) = t in
             let l : length v < length b = omega (arith, ap length e₂, length-append v (y ∷ w)) in
             let n : allTops (z ∷ u) ≡ false = ap allTops e₁ ∙ no-top 4 (length b) c v g in
             let a : 1 + length c + length b - length (x ∷ (c ++ v)) ≡ length (x ∷ (c ++ b)) - length (x ∷ z ∷ u) = omega (arith, length-append c b, length-append c v, ap length e₁) in
             let q : readOf limit (x ∷ (c ++ v)) ≡ refused 1 ((1 + length c + length b - length (x ∷ (c ++ v))) ∷ []) 0 = answer-of (x ∷ (c ++ v)) _ (partly v g i l) in
-            rw (ltb-no (length (x ∷ z ∷ u)) 2 (omega arith), n, ← a, e₁) q
+            rw (le-ltb (length (x ∷ z ∷ u)) 2 (omega arith), n, ← a, e₁) q
 
   first-byte : (x y : ℕ) (c b u w : List ℕ) → Only (within limit) Spells (length b) c → x ∷ (c ++ b) ≡ u ++ (y ∷ w) → readOf limit u ≡ refused 1 (lacks u (length (x ∷ (c ++ b))) ∷ []) 0
   unfolding lacks

@@ -7,7 +7,7 @@ use mathlib.Core.List.{List, [], _∷_, _++_}
 use Prim.Native.Nat.{ℕ, _+_, _-_, _<_}
 use lib.Dec.{leb, ltb}
 use lib.ListN.{length, drop}
-use Rattle.grammar.specs.Choice.{isIn, lookup, isEmpty}
+use Rattle.grammar.specs.Choice.{isIn, lookup, isEmpty, all}
 use Rattle.grammar.specs.Number.{Spells}
 use Rattle.grammar.specs.Tables.{Layout, kinds, reserved, isPing}
 use Rattle.grammar.specs.Record.{kindOf}
@@ -75,8 +75,7 @@ Breaks limit s k t = (x : ℕ) × (l : Layout) × (b : List ℕ) × Holds limit 
 
 -- each byte has its top bit set
 abbrev pub allTops : List ℕ → Bool
-allTops [] = true
-allTops (x ∷ b) = cond (leb 128 x) (allTops b) false
+allTops = all (leb 128)
 
 -- of the front s of a frame of F bytes
 unfoldable pub lacks : List ℕ → ℕ → ℕ

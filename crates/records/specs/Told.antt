@@ -5,6 +5,7 @@ use mathlib.Core.List.{List, [], _∷_}
 use Prim.Native.Nat.{ℕ}
 use Rattle.grammar.specs.Record.{Val, num, str}
 use Rattle.reading.specs.Refusal.{Refusal, nr}
+use Rattle.reading.specs.Place.{onSome}
 use Rattle.reading.specs.Place as place
 use Rattle.records.specs.declared.answer.Limit.{Limit}
 use Rattle.records.specs.declared.error.Error.{Error}
@@ -105,19 +106,31 @@ abbrev pub backSpan : place.Span → Span
 backSpan p = record { start = p .start; len = p .len }
 
 -- 01, table of properties: a u8, if it is given
-abbrev pub toldU8 : MaybeU8 → Option (Val place.Span)
-toldU8 MaybeU8.Absent = none
-toldU8 (MaybeU8.Present n) = some (num n)
+abbrev pub numberU8 : MaybeU8 → Option ℕ
+numberU8 MaybeU8.Absent = none
+numberU8 (MaybeU8.Present n) = some n
 
 -- 01, table of properties: a u16, if it is given
-abbrev pub toldU16 : MaybeU16 → Option (Val place.Span)
-toldU16 MaybeU16.Absent = none
-toldU16 (MaybeU16.Present n) = some (num n)
+abbrev pub numberU16 : MaybeU16 → Option ℕ
+numberU16 MaybeU16.Absent = none
+numberU16 (MaybeU16.Present n) = some n
 
 -- 01, table of properties: a u32 or a variable length number, if it is given
+abbrev pub numberU32 : MaybeU32 → Option ℕ
+numberU32 MaybeU32.Absent = none
+numberU32 (MaybeU32.Present n) = some n
+
+-- 01, table of properties: the value of a u8, if it is given
+abbrev pub toldU8 : MaybeU8 → Option (Val place.Span)
+toldU8 m = onSome num (numberU8 m)
+
+-- 01, table of properties: the value of a u16, if it is given
+abbrev pub toldU16 : MaybeU16 → Option (Val place.Span)
+toldU16 m = onSome num (numberU16 m)
+
+-- 01, table of properties: the value of a u32 or a variable length number, if it is given
 abbrev pub toldU32 : MaybeU32 → Option (Val place.Span)
-toldU32 MaybeU32.Absent = none
-toldU32 (MaybeU32.Present n) = some (num n)
+toldU32 m = onSome num (numberU32 m)
 
 -- 01, table of properties: text or bytes, if they are given
 abbrev pub toldString : MaybeSpan → Option (Val place.Span)

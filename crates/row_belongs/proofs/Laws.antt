@@ -1,12 +1,11 @@
 -- What belongs together, test by test. Assumes nothingGiven.
 use mathlib.Core.Path.{_≡_, refl, sym, _∙_}
-use mathlib.Core.Bool.{Bool, true, false, _&&_, _||_, or-true}
+use mathlib.Core.Bool.{Bool, true, false, _&&_, _||_, or-true, false≢true}
 use mathlib.Core.List.{List, [], _∷_}
 use Prim.Native.Nat.{ℕ, _%_}
 use lib.Dec.{eqb, eqb·zero-suc, eqb·suc-zero}
 use lib.ListN.{length}
 use Rattle.grammar.specs.Choice.{isEmpty}
-use Rattle.reading.proofs.Lists.{no-way}
 use Rattle.writing.specs.Lists.{sum}
 use Rattle.writing.specs.Handed.{Run, pairs, addsUp, nothingGiven, rowBelongs}
 use Rattle.writing.proofs.Tests.{eq-when, eq-not}
@@ -44,6 +43,6 @@ module _ (block : Bool) (r : Run) (e : addsUp r ≡ true) where
       where
         go : (ns s : List ℕ) → eqb (sum ns) (length s) ≡ true → eqb (length ns) 0 ≡ (isEmpty s && isEmpty ns)
         go [] [] i = refl
-        go [] (x ∷ s) i = absurd (no-way (sym (eqb·zero-suc (length s)) ∙ i))
+        go [] (x ∷ s) i = absurd (false≢true (sym (eqb·zero-suc (length s)) ∙ i))
         go (n ∷ ns) [] i = eqb·suc-zero (length ns)
         go (n ∷ ns) (x ∷ s) i = eqb·suc-zero (length ns)

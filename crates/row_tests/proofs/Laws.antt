@@ -3,10 +3,10 @@ use mathlib.Core.Path.{_≡_, refl, sym, ap, _∙_}
 use mathlib.Core.Bool.{true, false}
 use mathlib.Core.List.{List, [], _∷_, append-nil}
 use Prim.Native.Nat.{ℕ, _≤_, _<_}
+use borrow.Author.Tests.{le-leb, lt-leb}
 use Rattle.reading.specs.Refusal.{Refusal, nr}
 use Rattle.reading.specs.Reader.{Fit, got, bad, _>>_}
 use Rattle.reading.specs.Read.{isText}
-use Rattle.reading.proofs.Lists.{leb-yes, leb-no}
 use Rattle.reading.proofs.Reading.{bad-got}
 use Rattle.writing.specs.Lists.{flat}
 use Rattle.writing.specs.Size.{most}
@@ -65,8 +65,8 @@ module _ {whole left : List Field} (d : Deciding whole left) where
 
 pub number-large : (n : ℕ) → most < n → bad (nr 17 []) ≡ judge (small n ∷ [])
 unfolding judge
-number-large n h = rw (leb-no n most h)
+number-large n h = rw (lt-leb n most h)
 
 pub number-fine : (n : ℕ) → n ≤ most → got tt ≡ judge (small n ∷ [])
 unfolding judge
-number-fine n h = rw (leb-yes n most h)
+number-fine n h = rw (le-leb n most h)

@@ -12,7 +12,8 @@ ghost use Rattle.grammar.specs.Tables.{text, bytes as bytesForm};
 ghost use Rattle.reading.specs.Reader.{_>>_ as first};
 ghost use Rattle.writing.specs.Lists.{flat};
 ghost use Rattle.writing.specs.Order.{judge, raw, word, fieldTests, givenFields, small, orNone};
-ghost use Rattle.rows.specs.Given.{numberU32, givenLent};
+ghost use Rattle.records.specs.Told.{numberU32};
+ghost use Rattle.rows.specs.Given.{givenLent};
 ghost use Rattle.row_tests.specs.Tested.{toldTested};
 
 pub enum Tested {

@@ -1,27 +1,12 @@
 -- What is handed over, from the arguments of a function. Assumes nothing.
 use mathlib.Core.Bool.{Bool}
-use mathlib.Core.Option.{Option, none, some}
 use mathlib.Core.List.{List}
 use Prim.Native.Nat.{ℕ}
 use Rattle.writing.specs.Handed.{Run, Given, one, lent, pairs}
+use Rattle.records.specs.Told.{numberU8, numberU16, numberU32}
 use Rattle.records.specs.declared.span.MaybeU8.{MaybeU8}
 use Rattle.records.specs.declared.span.MaybeU16.{MaybeU16}
 use Rattle.records.specs.declared.span.MaybeU32.{MaybeU32}
-
--- 01, table of properties: a u8, if it is given
-abbrev pub numberU8 : MaybeU8 → Option ℕ
-numberU8 MaybeU8.Absent = none
-numberU8 (MaybeU8.Present n) = some n
-
--- 01, table of properties: a u16, if it is given
-abbrev pub numberU16 : MaybeU16 → Option ℕ
-numberU16 MaybeU16.Absent = none
-numberU16 (MaybeU16.Present n) = some n
-
--- 01, table of properties: a u32 or a variable length number, if it is given
-abbrev pub numberU32 : MaybeU32 → Option ℕ
-numberU32 MaybeU32.Absent = none
-numberU32 (MaybeU32.Present n) = some n
 
 -- 01, table of properties: a row of a u8
 abbrev pub givenU8 : MaybeU8 → Given

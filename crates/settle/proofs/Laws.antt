@@ -9,9 +9,9 @@ use native.Mathlib.Omega.{arith}
 use lib.Dec.{leb}
 use lib.ListN.{length}
 use lib.Seq.{sets}
+use borrow.Author.Tests.{le-leb, lt-leb, leb-false}
 use Rattle.reading.specs.Refusal.{Refusal, nr}
 use Rattle.reading.specs.Reader.{Fit, got, bad, _>>_, guard}
-use Rattle.reading.proofs.Lists.{leb-yes, leb-no, leb-false}
 use Rattle.reading.proofs.Reading.{bad-got}
 use Rattle.writing.specs.Lists.{flat}
 use Rattle.writing.specs.Handed.{Handed, belongs}
@@ -55,7 +55,7 @@ sized-found h t m e r = go (le-or m most)
   where
     go : (m ≤ most) ⊎ (most < m) → sizeAlone t m ≡ (guard (belongs h) (nr 20 []) >> (guard (leb (restIs h) most) (nr 17 []) >> got (1 + withLength (restIs h))))
     go (inl l) = let i : m ≡ restIs h = rest-small (restIs h) m r l in rw (e, i)
-    go (inr l) = rw (e, leb-no m most l, leb-no (restIs h) most (rest-large (restIs h) m r l))
+    go (inr l) = rw (e, lt-leb m most l, lt-leb (restIs h) most (rest-large (restIs h) m r l))
 
 -- what does not belong together is refused before any field is tested
 pub early-foreign : (h : Handed) (b : Bool) → b ≡ belongs h → b ≡ false → bad (nr 20 []) ≡ earlyOf h
@@ -75,11 +75,11 @@ module _ (limit : Option ℕ) (room : ℕ) (early late : Fit (Unit {0})) (m : �
 
   module _ (e : early ≡ got tt) where
     pub rest-long : most < m → bad (nr 17 []) ≡ settledOf early m limit late room
-    rest-long l = rw (e, leb-no m most l)
+    rest-long l = rw (e, lt-leb m most l)
 
     module _ (l : m ≤ most) (n : ℕ) (s : n ≡ 1 + withLength m) where
       then-ending : settledOf early m limit late room ≡ ending limit room n late
-      then-ending = rw (e, leb-yes m most l, s)
+      then-ending = rw (e, le-leb m most l, s)
 
       pub limit-bad : (k : Refusal) → bad k ≡ judge (limitTests limit n) → bad k ≡ settledOf early m limit late room
       limit-bad k j = sym (then-ending ∙ rw (← j))
@@ -103,7 +103,7 @@ module _ (limit : Option ℕ) (room : ℕ) (h : Handed) where
     where
       go : (m ≤ most) ⊎ (most < m) → settledOf early m limit late room ≡ answerOf limit room h
       go (inl l) = let i : m ≡ restIs h = rest-small (restIs h) m (f .rest) l in rw (f .early, f .late, i) (sym in-order)
-      go (inr l) = rw (f .early, leb-no m most l) (sym (in-order ∙ rw (leb-no (restIs h) most (rest-large (restIs h) m (f .rest) l))))
+      go (inr l) = rw (f .early, lt-leb m most l) (sym (in-order ∙ rw (lt-leb (restIs h) most (rest-large (restIs h) m (f .rest) l))))
 
 -- ---- the answer decides what is written
 

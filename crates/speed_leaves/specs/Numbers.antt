@@ -7,11 +7,6 @@ use Rattle.reading.specs.Reader.{Fit, got, bad, foldFit}
 use Rattle.reading.specs.Read.{numOf}
 use Rattle.positions.specs.Count.{wrapped, orZero}
 
--- the index after the number, or 0
-abbrev pub nextOf : Fit (ℕ × ℕ) → ℕ
-nextOf (got (n, next)) = next
-nextOf (bad k) = 0
-
 -- the number, or what stood there before
 abbrev pub numberOr : ℕ → Fit (ℕ × ℕ) → ℕ
 numberOr old (got (n, next)) = n

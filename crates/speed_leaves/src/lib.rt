@@ -5,8 +5,8 @@ use var_length;
 ghost use mathlib.Core.Path.{_≡_};
 ghost use Rattle.reading.specs.Refusal.{cut};
 ghost use Rattle.reading.specs.Read.{isText, numOf};
-ghost use Rattle.positions.specs.Position.{fromAt};
-ghost use Rattle.speed_leaves.specs.Numbers.{numberOr, nextOf, numbersSum};
+ghost use Rattle.positions.specs.Position.{fromAt, nextOr};
+ghost use Rattle.speed_leaves.specs.Numbers.{numberOr, numbersSum};
 
 // Is s well-formed UTF-8?
 #[no_mangle]
@@ -19,7 +19,7 @@ pub extern "C" fn speed_leaves_is_utf8(s: &[u8]) -> bool
 // The index after the variable length number at `at`, whose value is stored; 0, and nothing is stored, if there is none.
 #[no_mangle]
 pub extern "C" fn speed_leaves_length(s: &[u8], at: usize, value: &mut u32) -> usize
-    ensures { λ r. ⌜ (r ≡ nextOf (fromAt (numOf cut 4) (now (s .entry)) at)) × (now (value .exit) ≡ numberOr (now (value .entry)) (fromAt (numOf cut 4) (now (s .entry)) at)) ⌝ }
+    ensures { λ r. ⌜ (r ≡ nextOr 0 (fromAt (numOf cut 4) (now (s .entry)) at)) × (now (value .exit) ≡ numberOr (now (value .entry)) (fromAt (numOf cut 4) (now (s .entry)) at)) ⌝ }
 {
     match var_length::read_length(s, at) {
         GotU32::Value(n, next) => {

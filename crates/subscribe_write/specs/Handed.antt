@@ -2,7 +2,8 @@
 use mathlib.Core.List.{List}
 use Prim.Native.Nat.{ℕ}
 use Rattle.writing.specs.Handed.{SubscribeHanded}
-use Rattle.rows.specs.Given.{numberU32, run}
+use Rattle.records.specs.Told.{numberU32}
+use Rattle.rows.specs.Given.{run}
 use Rattle.subscribe_write.specs.declared.SubscribeHead.{SubscribeHead}
 
 -- 01, grammar: "Subscribe (8)": the numbers and presence, the user properties and their lengths, the filters, their lengths and options

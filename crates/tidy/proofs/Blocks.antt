@@ -1,18 +1,19 @@
 -- A block that was read, handed over to be written: row by row it belongs together, can be written, and is no longer. Assumes nothing.
 use mathlib.Core.Path.{_≡_, refl, sym, ap}
-use mathlib.Core.Bool.{Bool, true, false, not, cond}
+use mathlib.Core.Bool.{Bool, true, false, not, cond, false≢true}
 use mathlib.Core.Option.{none, some}
 use mathlib.Core.List.{List, [], _∷_, _++_}
 use Prim.Native.Nat.{ℕ, _+_, _≤_}
 use native.Mathlib.Omega.{arith}
 use lib.Dec.{eqb, eqb-refl}
-use Rattle.grammar.specs.Choice.{lookup, isEmpty}
+use borrow.Author.Tests.{eqb-true, not-true}
+use Rattle.grammar.specs.Choice.{lookup, isEmpty, all}
 use Rattle.grammar.specs.Tables.{Form, Place}
 use Rattle.grammar.specs.Record.{allOf, unlessEmpty}
 use Rattle.grammar.specs.Sentence.{Value, Prop}
 use Rattle.grammar.specs.Octets.{Each, nil, _&_}
-use Rattle.reading.proofs.Lists.{no-way, T-true, eq-of, not-true, lookup-each}
-use Rattle.writing.specs.Lists.{flat, all, total}
+use Rattle.reading.proofs.Lists.{T-true, lookup-each}
+use Rattle.writing.specs.Lists.{flat, total}
 use Rattle.writing.specs.Handed.{Givens, items, tag, entries}
 use Rattle.writing.specs.Size.{most, withLength, propsSize}
 use Rattle.writing.specs.Order.{propsFields}
@@ -54,7 +55,7 @@ module _ (p : Prop) (ps : List Prop) where
       go : (t : Bool) → eqb (p .0) (r .0) ≡ t → allSize rs (p ∷ ps) ≤ propSize rs p + allSize rs ps
           → weigh (r .1) (cond t (p .1 ∷ allOf (r .0) ps) (allOf (r .0) ps)) + allSize rs (p ∷ ps) ≤ propSize (r ∷ rs) p + (weigh (r .1) (allOf (r .0) ps) + allSize rs ps)
       go true e ih =
-          let i : p .0 ≡ r .0 = eq-of (p .0) (r .0) e in
+          let i : p .0 ≡ r .0 = eqb-true (p .0) (r .0) e in
           let n = other-rows rs (rw i (d .0)) in
           rw (eq-when (r .0) (p .0) .1 (sym i)) (omega arith)
       go false e ih =
@@ -106,7 +107,7 @@ module _ {place : Place} (g : Givens) (ps : List Prop) (rows : Each (λ r. RowGi
     where
       go : (ps : List Prop) → not (isEmpty ps) ≡ false → ps ≡ []
       go [] e = refl
-      go (p ∷ ps) e = absurd (no-way (sym e))
+      go (p ∷ ps) e = absurd (false≢true (sym e))
 
   pub rows-sound : Each Writable (propsFields place g)
   unfolding propsFields
@@ -128,7 +129,7 @@ module _ {place : Place} (g : Givens) (ps : List Prop) (rows : Each (λ r. RowGi
   rows-filled ss t e = go ps ss t (each-imp (λ r w. w .0 .whole (w .1)) (each-both rows (no-items g place (nil-when _ .0 e))))
     where
       go : (qs : List Prop) → Each (SuitsIn place) qs → not (isEmpty qs) ≡ true → Each (λ r. allOf (r .0) qs ≡ []) place → ⊥
-      go [] ss t w = no-way t
+      go [] ss t w = false≢true t
       go (p ∷ qs) (s & ss) t w = some-row place p qs s w
 
 -- ---- the set, by the list that it comes from

@@ -1,6 +1,6 @@
 -- A packet that a sentence says, handed over to be written: the write is accepted, and what it means is that packet. Assumes nothing.
 use mathlib.Core.Path.{_≡_, refl, sym, ap, _∙_, subst}
-use mathlib.Core.Bool.{Bool, true, false, not, cond}
+use mathlib.Core.Bool.{Bool, true, false, not, cond, false≢true}
 use mathlib.Core.Option.{Option, none, some}
 use mathlib.Core.List.{List, [], _∷_, map}
 use Prim.Native.Nat.{ℕ, _+_, _*_, _/_, _%_, _≤_, _<_}
@@ -12,7 +12,6 @@ use Rattle.grammar.specs.Record.{num, str, lastOf, allOf, PublishProps, publish
 use Rattle.grammar.specs.Sentence.{Value, Prop, asList, qosFine, ruleFine, someOf, Packet}
 use Rattle.grammar.specs.Record as g
 use Rattle.grammar.specs.Octets.{Each, nil, _&_, Octets}
-use Rattle.reading.proofs.Lists.{no-way}
 use Rattle.writing.specs.Lists.{flat, total, beside}
 use Rattle.writing.specs.Handed.{PublishHanded, SubscribeHanded, AckHanded, Handed, publish, ack, subscribe, ping, publishGiven, subscribeGiven, ackGiven, filters}
 use Rattle.writing.specs.Size.{most, withLength, propsSize, isPlain, restIs, sizeIs}
@@ -309,7 +308,7 @@ filters-back (_&_ {a = f} {l = fs} w ws) =
     }
 
 some-filters : (fs : List (Filter (List ℕ))) → someOf fs ≡ true → beside (pathsOf fs) (map optionsByte fs) ≡ [] → ⊥
-some-filters [] t e = no-way t
+some-filters [] t e = false≢true t
 some-filters (f ∷ fs) t e = let z : _≡_ {A = ℕ} 0 1 = cc in omega arith
 
 subscribe-good : (p : Subscribe (List ℕ) List) (w : SubscribeSaid p) → Good (g.subscribe p) (subscribe (subscribeIt p (w .props .list) (w .props .suits)))

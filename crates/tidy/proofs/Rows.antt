@@ -1,7 +1,7 @@
 -- A row of a set that was read, handed over to be written: it belongs together, can be written, and takes no more bytes than the block
 -- that it was read from. Assumes nothing.
 use mathlib.Core.Path.{_≡_, refl, sym, ap, _∙_, subst}
-use mathlib.Core.Bool.{Bool, true, false, cond}
+use mathlib.Core.Bool.{Bool, true, false, cond, false≢true}
 use mathlib.Core.Option.{Option, none, some}
 use mathlib.Core.List.{List, [], _∷_, map}
 use Prim.Native.Nat.{ℕ, _+_, _%_, _≤_}
@@ -9,12 +9,12 @@ use native.Mathlib.Omega.{arith}
 use lib.Dec.{eqb}
 use lib.ListN.{length, length-append}
 use lib.Seq.{take-append-seam, drop-append-seam}
+use borrow.Author.Tests.{eqb-true}
 use Rattle.grammar.specs.Choice.{lookup}
 use Rattle.grammar.specs.Tables.{Form, number, bytes, pair, Place}
 use Rattle.grammar.specs.Record.{num, str, duo, lastFrom, lastOf, allOf}
 use Rattle.grammar.specs.Sentence.{Value, Prop}
 use Rattle.grammar.specs.Octets.{Each, nil, _&_, Octets}
-use Rattle.reading.proofs.Lists.{no-way, eq-of}
 use Rattle.writing.specs.Lists.{flat}
 use Rattle.writing.specs.Handed.{Given, one, lent, pairs, several, strings, duos, items}
 use Rattle.writing.specs.Size.{givenSize}
@@ -37,7 +37,7 @@ pub data Perhaps {A : Type 0} (P : A → Type 0) : Option A → Type 0 where
 module _ (place : Place) (i : ℕ) (f : Form) (e : lookup place i ≡ some f) where
   of-row : (p : Prop) → SuitsIn place p → eqb (p .0) i ≡ true → Suits f (p .1)
   of-row p (f′, (e′, s)) q =
-      let j : p .0 ≡ i = eq-of (p .0) i q in
+      let j : p .0 ≡ i = eqb-true (p .0) i q in
       let m : f′ ≡ f = cc in
       subst (λ (c : Form). Suits c (p .1)) m s
 
@@ -169,7 +169,7 @@ row-one i f ps e =
 lent-sorted : (o : Option Value) → Sorted (lent (lentIn o))
 lent-sorted none e = refl
 lent-sorted (some (num n)) e = refl
-lent-sorted (some (str s)) e = absurd (no-way (sym e))
+lent-sorted (some (str s)) e = absurd (false≢true (sym e))
 lent-sorted (some (duo a b)) e = refl
 
 lent-items : (o : Option Value) → stringOf (lentIn o) ≡ o → items (lent (lentIn o)) ≡ orNone o

@@ -1,6 +1,6 @@
 -- What holds of every packet that a sentence says. Assumes nothing.
 use mathlib.Core.Path.{_≡_, refl, sym, ap, _∙_}
-use mathlib.Core.Bool.{Bool, true, false, not, _||_, cond}
+use mathlib.Core.Bool.{Bool, true, false, not, _||_, cond, false≢true}
 use mathlib.Core.Option.{Option, none, some}
 use mathlib.Core.List.{List, [], _++_}
 use Prim.Native.Nat.{ℕ, zero, suc, _+_, _≤_, _<_}
@@ -16,7 +16,7 @@ use Rattle.grammar.specs.Record.{AckProps, Publish, Filter, Subscribe, Ack, kin
 use Rattle.grammar.specs.Sentence.{Any, publishOf, subscribeOf, ackOf, notThree, notZero, Ident, qosFine, ruleFine, FilterOf, someOf, AckRest, plain, coded, full, Packet, Fields, body, framed, Sentence}
 use Rattle.grammar.specs.Record as g
 use Rattle.grammar.specs.Octets.{Each, nil, Octets}
-use Rattle.reading.proofs.Lists.{no-way, lookup-each}
+use Rattle.reading.proofs.Lists.{lookup-each}
 use Rattle.writing.specs.Lists.{total}
 use Rattle.writing.specs.Size.{most, identSize}
 use Rattle.writing.specs.Refuse.{Short}
@@ -94,7 +94,7 @@ has-ident : (q i : ℕ) (b : List ℕ) → Ident q i b → Octets b → Named q 
 has-ident zero _ _ nothing o = record { small = omega arith; unnamed = λ _. refl; named = λ n _. n refl; light = omega arith }
 has-ident (suc q) i b (only t g) o =
     let (h, e) = has-big 2 i b g o in
-    record { small = omega arith; unnamed = λ z. absurd (omega arith); named = λ _ z. no-way (ap notZero (sym z) ∙ t); light = omega (arith, two (eqb (suc q) 0 || eqb i 0)) }
+    record { small = omega arith; unnamed = λ z. absurd (omega arith); named = λ _ z. false≢true (ap notZero (sym z) ∙ t); light = omega (arith, two (eqb (suc q) 0 || eqb i 0)) }
   where
     two : (t : Bool) → cond t 0 2 ≤ 2
     two true = omega arith
@@ -104,7 +104,7 @@ not-three : (q : ℕ) → notThree q ≡ true → q < 4 → q < 3
 not-three q e h = go (eqb q 3) refl e
   where
     go : (t : Bool) → eqb q 3 ≡ t → not t ≡ true → q < 3
-    go true c n = absurd (no-way n)
+    go true c n = absurd (false≢true n)
     go false c n = let m = eq-not q 3 .0 c in omega arith
 
 publish-said : (x : ℕ) (v : Packet) (b : List ℕ) → Fields aPublish x v b → Octets b → length b ≤ most → Said v

@@ -1,11 +1,12 @@
 -- What the steps of the validator tell of the text that is left. Assumes nothing.
 use mathlib.Core.Path.{_≡_}
-use mathlib.Core.Bool.{Bool, true, false, _&&_}
+use mathlib.Core.Bool.{Bool, true, false}
 use mathlib.Core.Option.{Option, none, some}
 use mathlib.Core.List.{List, [], _∷_}
 use Prim.Native.Nat.{ℕ, zero, suc, _+_, _≤_, _<_}
 use lib.Dec.{ltb}
 use lib.ListN.{length, drop, replicate}
+use Rattle.grammar.specs.Choice.{all}
 use Rattle.grammar.specs.Text.{Range}
 use Rattle.reading.specs.Reader.{thenFit, manyFit, isGot}
 use Rattle.reading.specs.Read.{followOf, charOf, isText}
@@ -41,5 +42,4 @@ pub record Passed (s : List ℕ) (at r : ℕ) : Type 0 where
 
 -- whether every byte is ASCII
 abbrev pub allAscii : List ℕ → Bool
-allAscii [] = true
-allAscii (b ∷ s) = ltb b 128 && allAscii s
+allAscii = all (λ b. ltb b 128)

@@ -1,16 +1,16 @@
 -- 20, 12 and 13 are given exactly when their rows say; what a plain success is; an absent block has nothingGiven in it. Assumes nothingGiven.
 use mathlib.Core.Path.{_≡_, refl, sym}
-use mathlib.Core.Bool.{Bool, true, false, not, _||_}
+use mathlib.Core.Bool.{Bool, true, false, not, _||_, false≢true}
 use mathlib.Core.Option.{none, some}
 use mathlib.Core.Logic.{_↔_}
 use mathlib.Core.List.{List, [], _∷_}
 use Prim.Native.Nat.{ℕ, _%_}
 use lib.Dec.{eqb}
 use lib.ListN.{length}
+use borrow.Author.Tests.{eqb-true}
 use Rattle.grammar.specs.Choice.{isEmpty}
 use Rattle.grammar.specs.Tables.{Place, publishPlace, subscribePlace, ackPlace}
 use Rattle.grammar.specs.Octets.{Each, nil, _&_}
-use Rattle.reading.proofs.Lists.{no-way, eq-of}
 use Rattle.writing.specs.Lists.{flat, sum}
 use Rattle.writing.specs.Handed.{AckHanded, Handed, publish, ack, subscribe, ping, Given, one, lent, pairs, several, Givens, publishGiven, subscribeGiven, ackGiven, items, tag, entries, filters, addsUp, sorted, nothingGiven, blockBelongs, filtersBelong, belongs}
 use Rattle.writing.specs.Size.{isPlain}
@@ -29,7 +29,7 @@ sorted-when (several ns) = (λ _. tt, λ _. refl)
 
 nothing-when : (g : Given) → (nothingGiven g ≡ true) ↔ NothingGiven g
 nothing-when (one none) = (λ _. refl, λ _. refl)
-nothing-when (one (some n)) = (λ e. absurd (no-way e), λ e. cc)
+nothing-when (one (some n)) = (λ e. absurd (false≢true e), λ e. cc)
 nothing-when (lent l) = and-when (not (l .on)) (isEmpty (l .bytes)) (not-when (l .on)) (nil-when (l .bytes))
 nothing-when (pairs r) = and-when (isEmpty (r .bytes)) (isEmpty (r .lengths)) (nil-when (r .bytes)) (nil-when (r .lengths))
 nothing-when (several ns) = nil-when ns
@@ -51,18 +51,18 @@ belongs-when (ping k) = (λ _. tt, λ _. refl)
 -- ---- 12 and 13
 
 unnamed : (a b : Bool) → ((a || not b) ≡ false) ↔ ((a ≡ false) × (b ≡ true))
-unnamed true b = (λ e. absurd (no-way (sym e)), λ t. absurd (no-way (sym (t .0))))
+unnamed true b = (λ e. absurd (false≢true (sym e)), λ t. absurd (false≢true (sym (t .0))))
 unnamed false true = (λ e. (refl, refl), λ t. refl)
-unnamed false false = (λ e. absurd (no-way (sym e)), λ t. absurd (no-way (t .1)))
+unnamed false false = (λ e. absurd (false≢true (sym e)), λ t. absurd (false≢true (t .1)))
 
 never : (true ≡ false) ↔ ⊥
-never = (λ e. no-way (sym e), λ f. absurd f)
+never = (λ e. false≢true (sym e), λ f. absurd f)
 
 -- 01, row 12
 pub unnamed-when : (h : Handed) → (named h ≡ false) ↔ Unnamed h
 unnamed-when (publish h) =
     let w = unnamed (eqb (h .qos) 0) (eqb (h .ident) 0) in
-    (λ e. let p = w .0 e in (eq-not (h .qos) 0 .0 (p .0), eq-of (h .ident) 0 (p .1)), λ t. w .1 (eq-not (h .qos) 0 .1 (t .0), eq-when (h .ident) 0 .1 (t .1)))
+    (λ e. let p = w .0 e in (eq-not (h .qos) 0 .0 (p .0), eqb-true (h .ident) 0 (p .1)), λ t. w .1 (eq-not (h .qos) 0 .1 (t .0), eq-when (h .ident) 0 .1 (t .1)))
 unnamed-when (ack k h) = never
 unnamed-when (subscribe h) = never
 unnamed-when (ping k) = never
@@ -75,7 +75,7 @@ unasked-when (subscribe h) = go (filters h)
   where
     go : (fs : List (List ℕ × ℕ)) → (not (isEmpty fs) ≡ false) ↔ (fs ≡ [])
     go [] = (λ _. refl, λ _. refl)
-    go (f ∷ fs) = (λ e. absurd (no-way (sym e)), λ e. cc)
+    go (f ∷ fs) = (λ e. absurd (false≢true (sym e)), λ e. cc)
 unasked-when (ping k) = never
 
 -- ---- a plain success

@@ -10,6 +10,7 @@ use native.Mathlib.Nat.{zero-add}
 use lib.Dec.{eqb}
 use lib.ListN.{length, drop, length-append, length-drop}
 use lib.Seq.{sets, sets-eq}
+use borrow.Author.Tests.{eqb-true}
 use Rattle.grammar.specs.Choice.{isEmpty}
 use Rattle.grammar.specs.Tables.{Place, publishPlace, subscribePlace, ackPlace}
 use Rattle.grammar.specs.Sentence.{Sentence}
@@ -17,7 +18,6 @@ use Rattle.grammar.specs.Octets.{Each}
 use Rattle.reading.specs.Refusal.{Refusal, accepted}
 use Rattle.reading.specs.Reader.{Fit, got, bad}
 use Rattle.reading.specs.Read.{readOf}
-use Rattle.reading.proofs.Lists.{eq-of}
 use Rattle.reading.proofs.Demand.{reads-sentence}
 use Rattle.writing.specs.Handed.{PublishHanded, SubscribeHanded, AckHanded, Handed, publish, ack, subscribe, ping, Givens, publishGiven, subscribeGiven, ackGiven, entries}
 use Rattle.writing.specs.Size.{sizeIs}
@@ -63,7 +63,7 @@ ident-same : (q i : ℕ) → (q ≡ 0 → i ≡ 0) → cond (eqb q 0) 0 i ≡ i
 ident-same q i f = go (eqb q 0) refl
   where
     go : (t : Bool) → eqb q 0 ≡ t → cond t 0 i ≡ i
-    go true e = sym (f (eq-of q 0 e))
+    go true e = sym (f (eqb-true q 0 e))
     go false e = refl
 
 set-same : {A : Type 0} (place : Place) (block : Bool) (g : Givens) → Each (InBlock block g) place → Filled block (isEmpty (entries place g)) → (a : A)

@@ -11,10 +11,10 @@ use native.Mathlib.Numerals.{add-one}
 use lib.Dec.{eqb, leb}
 use lib.ListN.{length, take, drop, getD, drop-of-length-le}
 use lib.Seq.{drop-cons, drop-drop, sets}
+use borrow.Author.Tests.{le-leb, lt-leb, eqb-true}
 use Rattle.grammar.specs.Tables.{u8, u16, u32, number, text, bytes, pair, publishPlace, subscribePlace, ackPlace}
 use Rattle.reading.specs.Refusal.{Refusal}
 use Rattle.reading.specs.Reader.{Fit, got, bad, _>>_}
-use Rattle.reading.proofs.Lists.{leb-yes, leb-no, eq-of}
 use Rattle.writing.specs.Lists.{flat, sum}
 use Rattle.writing.specs.Handed.{Run, PublishHanded, SubscribeHanded, AckHanded, Handed, publish, ack, subscribe, ping, one, lent, pairs, several, publishGiven, subscribeGiven, ackGiven, strings, filters, rowBelongs, blockBelongs, filtersBelong, belongs}
 use Rattle.writing.specs.Spell.{wide, short, string, propsBytes, counted, block, filterBytes}
@@ -200,21 +200,21 @@ pub adds-more : (n : ℕ) (ns : List ℕ) (m : ℕ) → eqb (sum (n ∷ ns)) m �
 adds-more n ns m = go (le-or n m)
   where
     go : (n ≤ m) ⊎ (m < n) → eqb (n + sum ns) m ≡ (leb n m && eqb (sum ns) (m - n))
-    go (inl h) = rw (leb-yes n m h) (same-test (eqb (n + sum ns) m) (eqb (sum ns) (m - n)) left right)
+    go (inl h) = rw (le-leb n m h) (same-test (eqb (n + sum ns) m) (eqb (sum ns) (m - n)) left right)
       where
         left : eqb (n + sum ns) m ≡ true → eqb (sum ns) (m - n) ≡ true
-        left e = let i : n + sum ns ≡ m = eq-of (n + sum ns) m e in eq-when (sum ns) (m - n) .1 (omega arith)
+        left e = let i : n + sum ns ≡ m = eqb-true (n + sum ns) m e in eq-when (sum ns) (m - n) .1 (omega arith)
 
         right : eqb (sum ns) (m - n) ≡ true → eqb (n + sum ns) m ≡ true
-        right e = let i : sum ns ≡ m - n = eq-of (sum ns) (m - n) e in eq-when (n + sum ns) m .1 (omega arith)
-    go (inr h) = rw (leb-no n m h) (eq-not (n + sum ns) m .1 (λ e. omega arith))
+        right e = let i : sum ns ≡ m - n = eqb-true (sum ns) (m - n) e in eq-when (n + sum ns) m .1 (omega arith)
+    go (inr h) = rw (lt-leb n m h) (eq-not (n + sum ns) m .1 (λ e. omega arith))
 
 -- the sum is cut off exactly if it is too large
 pub cap-small : (n : ℕ) → n ≤ most → cap n ≡ n
-cap-small n h = rw (leb-yes n most h)
+cap-small n h = rw (le-leb n most h)
 
 pub cap-large : (n : ℕ) → most < n → cap n ≡ most + 1
-cap-large n h = rw (leb-no n most h)
+cap-large n h = rw (lt-leb n most h)
 
 -- what was cut off stays so, whatever is added
 pub cap-add : (m n : ℕ) → cap (cap m + n) ≡ cap (m + n)

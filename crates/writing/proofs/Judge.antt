@@ -6,12 +6,12 @@ use mathlib.Core.List.{List, [], _∷_, _++_, map}
 use Prim.Native.Nat.{ℕ, _<_}
 use lib.Dec.{leb}
 use lib.ListN.{length}
+use borrow.Author.Tests.{le-leb, lt-leb}
 use Rattle.grammar.specs.Text.{Utf8}
 use Rattle.grammar.specs.Octets.{Each, nil, _&_}
 use Rattle.reading.specs.Refusal.{Refusal, nr}
 use Rattle.reading.specs.Reader.{got, bad, _>>_, guard}
 use Rattle.reading.specs.Read.{isText}
-use Rattle.reading.proofs.Lists.{leb-yes, leb-no}
 use Rattle.reading.proofs.Fields.{text-fine}
 use Rattle.writing.specs.Lists.{flat}
 use Rattle.writing.specs.Size.{most}
@@ -37,19 +37,19 @@ text-no s = fails-when (isText s) (text-fine s)
 
 pub field-fault : {f : Field} {k : Refusal} → Faulty f k → judge (fieldTests f) ≡ bad k
 unfolding judge
-field-fault (long-raw {s} h) = rw (leb-no (length s) 65535 h)
-field-fault (long-word {s} h) = rw (leb-no (length s) 65535 h)
-field-fault (long-filter {s} h) = rw (leb-no (length s) 65535 h)
-field-fault (bad-word {s} h n) = rw (leb-yes (length s) 65535 h, text-no s n)
-field-fault (bad-filter {s} h n) = rw (leb-yes (length s) 65535 h, text-no s n)
-field-fault (bad-rule {s} h u p) = rw (leb-yes (length s) 65535 h, text-fine s .1 u, p)
-field-fault (bad-qos {s} h u p q) = rw (leb-yes (length s) 65535 h, text-fine s .1 u, p, q)
+field-fault (long-raw {s} h) = rw (lt-leb (length s) 65535 h)
+field-fault (long-word {s} h) = rw (lt-leb (length s) 65535 h)
+field-fault (long-filter {s} h) = rw (lt-leb (length s) 65535 h)
+field-fault (bad-word {s} h n) = rw (le-leb (length s) 65535 h, text-no s n)
+field-fault (bad-filter {s} h n) = rw (le-leb (length s) 65535 h, text-no s n)
+field-fault (bad-rule {s} h u p) = rw (le-leb (length s) 65535 h, text-fine s .1 u, p)
+field-fault (bad-qos {s} h u p q) = rw (le-leb (length s) 65535 h, text-fine s .1 u, p, q)
 
 pub field-pass : (f : Field) → Writable f → judge (fieldTests f) ≡ got tt
 unfolding judge
-field-pass (raw s) h = rw (leb-yes (length s) 65535 h)
-field-pass (word s) (h, u) = rw (leb-yes (length s) 65535 h, text-fine s .1 u)
-field-pass (filter s o) (h, u, p, q) = rw (leb-yes (length s) 65535 h, text-fine s .1 u, p, q)
+field-pass (raw s) h = rw (le-leb (length s) 65535 h)
+field-pass (word s) (h, u) = rw (le-leb (length s) 65535 h, text-fine s .1 u)
+field-pass (filter s o) (h, u, p, q) = rw (le-leb (length s) 65535 h, text-fine s .1 u, p, q)
 
 -- the first field, and then the others
 pub fields-more : (f : Field) (fs : List Field) → judge (flat fieldTests (f ∷ fs)) ≡ (judge (fieldTests f) >> judge (flat fieldTests fs))
@@ -69,11 +69,11 @@ fields-fault (r.FirstFault.later {f = f} {fs = fs} p ps) = rw (fields-more f fs,
 pub numbers-pass : {ns : List ℕ} → Each Small ns → judge (map small ns) ≡ got tt
 unfolding judge
 numbers-pass nil = refl
-numbers-pass (_&_ {a = n} p ps) = rw (leb-yes n most p) (numbers-pass ps)
+numbers-pass (_&_ {a = n} p ps) = rw (le-leb n most p) (numbers-pass ps)
 
 pub numbers-fault : {ns : List ℕ} → TooLarge ns → judge (map small ns) ≡ bad (nr 17 [])
 unfolding judge
-numbers-fault (r.TooLarge.here {n = n} p) = rw (leb-no n most p)
+numbers-fault (r.TooLarge.here {n = n} p) = rw (lt-leb n most p)
 numbers-fault (r.TooLarge.later {n = n} {ns = ns} p) = go (leb n most) (numbers-fault p)
   where
     go : (t : Bool) → judge (map small ns) ≡ bad (nr 17 []) → (guard t (nr 17 []) >> judge (map small ns)) ≡ bad (nr 17 [])
@@ -83,8 +83,8 @@ numbers-fault (r.TooLarge.later {n = n} {ns = ns} p) = go (leb n most) (numbers-
 pub limit-pass : (limit : Option ℕ) (n : ℕ) → Within limit n → judge (limitTests limit n) ≡ got tt
 unfolding judge
 limit-pass none n h = refl
-limit-pass (some m) n h = rw (leb-yes n m h)
+limit-pass (some m) n h = rw (le-leb n m h)
 
 pub limit-fault : (m n : ℕ) → m < n → judge (limitTests (some m) n) ≡ bad (nr 16 (n ∷ m ∷ []))
 unfolding judge
-limit-fault m n h = rw (leb-no n m h)
+limit-fault m n h = rw (lt-leb n m h)

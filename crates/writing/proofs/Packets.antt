@@ -1,21 +1,22 @@
 -- What each kind writes fills a frame as its grammar says. Assumes nothing.
 use mathlib.Core.Path.{_≡_, refl, ap, _∙_}
-use mathlib.Core.Bool.{Bool, true, false, not, _&&_, _||_, cond}
+use mathlib.Core.Bool.{Bool, true, false, not, _&&_, _||_, cond, false≢true}
 use mathlib.Core.Option.{Option, some}
 use mathlib.Core.List.{List, [], _∷_, map}
 use Prim.Native.Nat.{ℕ, zero, suc, _+_, _*_, _/_, _%_, _≤_, _<_}
 use native.Mathlib.Omega.{arith}
 use lib.Dec.{eqb, ltb, ltb→lt, eqb·suc-zero}
 use lib.ListN.{length, length-append}
-use Rattle.grammar.specs.Choice.{isIn, lookup, isEmpty}
+use borrow.Author.Tests.{lt-ltb, eqb-true}
+use Rattle.grammar.specs.Choice.{isIn, lookup, isEmpty, all}
 use Rattle.grammar.specs.Gram.{Only, both, sized, is}
 use Rattle.grammar.specs.Number.{byte, Big}
 use Rattle.grammar.specs.Tables.{publishPlace, subscribePlace, ackPlace, reasons, Layout, aPublish, anAck, aSubscribe, aPing, kinds}
 use Rattle.grammar.specs.Record.{kindOf, flagQos, mkPublish, mkAck, mkFilter, mkSubscribe, mkPing}
 use Rattle.grammar.specs.Sentence.{Any, publishOf, subscribeOf, ackOf, notThree, notZero, Ident, publishGood, someOf, AckRest, plain, full, Packet, Fields, body, framed, Sentence}
 use Rattle.grammar.specs.Octets.{Each, nil, _&_, Octet, Octets}
-use Rattle.reading.proofs.Lists.{no-way, T-of, ltb-yes, eq-of, lookup-each}
-use Rattle.writing.specs.Lists.{flat, all, beside}
+use Rattle.reading.proofs.Lists.{T-of, lookup-each}
+use Rattle.writing.specs.Lists.{flat, beside}
 use Rattle.writing.specs.Handed.{PublishHanded, SubscribeHanded, AckHanded, Handed, publish, ack, subscribe, ping, publishGiven, subscribeGiven, ackGiven, strings, propOf, entries, filters}
 use Rattle.writing.specs.Spell.{wide, propsBytes, counted, block}
 use Rattle.writing.specs.Size.{most, isPlain}
@@ -61,21 +62,21 @@ unfolding firstFine
 first-of k e =
     let a : Bool = eqb (kindOf (firstOf k)) k in
     let b : Bool = ltb (firstOf k) 256 in
-    record { kind = eq-of (kindOf (firstOf k)) k (and-left a b e); octet = octet-of (firstOf k) (and-right a b e) }
+    record { kind = eqb-true (kindOf (firstOf k)) k (and-left a b e); octet = octet-of (firstOf k) (and-right a b e) }
 
 -- what an acknowledgement's row says
 ack-fine : (k : ℕ) (rs : List ℕ) → lookup kinds k ≡ some (anAck rs) → First k × Octets rs
 ack-fine k rs e =
     let f = kinds-fine k (anAck rs) e in
     let r = and-right (firstFine k) (all (λ x. ltb x 256) rs) f in
-    (first-of k (and-left (firstFine k) (all (λ x. ltb x 256) rs) f), all-when (λ x. ltb x 256) (λ x. (octet-of x, ltb-yes x 256)) rs .0 r)
+    (first-of k (and-left (firstFine k) (all (λ x. ltb x 256) rs) f), all-when (λ x. ltb x 256) (λ x. (octet-of x, lt-ltb x 256)) rs .0 r)
 
 is-in : (P : ℕ → Type 0) (x : ℕ) {l : List ℕ} → Each P l → isIn x l ≡ true → P x
-is-in P x nil e = absurd (no-way e)
+is-in P x nil e = absurd (false≢true e)
 is-in P x (_&_ {a = y} {l = l} p ps) e = go (is-in P x ps) (eqb x y) refl e
   where
     go : (isIn x l ≡ true → P x) → (t : Bool) → eqb x y ≡ t → (t || isIn x l) ≡ true → P x
-    go ih true q e′ = rw (eq-of x y q) p
+    go ih true q e′ = rw (eqb-true x y q) p
     go ih false q e′ = ih e′
 
 -- ---- the frame around a body
@@ -115,14 +116,14 @@ says-ident zero i h e = says-nothing 0
 says-ident (suc q) i h e = rw (eqb·suc-zero q) (go (eqb i 0) refl (rw (eqb·suc-zero q) at e))
   where
     go : (t : Bool) → eqb i 0 ≡ t → not t ≡ true → Says (Only notZero (Big 2)) i (cond (eqb i 0) [] (wide 2 i))
-    go true p n = absurd (no-way n)
+    go true p n = absurd (false≢true n)
     go false p n = rw p (says-only notZero (ap not p) (says-wide 2 i (omega arith)))
 
 not-three : (q : ℕ) → q < 3 → notThree q ≡ true
 not-three q h = ap not (go (eqb q 3) refl)
   where
     go : (t : Bool) → eqb q 3 ≡ t → eqb q 3 ≡ false
-    go true e = absurd (omega (arith, eq-of q 3 e))
+    go true e = absurd (omega (arith, eqb-true q 3 e))
     go false e = e
 
 -- the flags of the first byte

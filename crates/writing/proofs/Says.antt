@@ -7,10 +7,11 @@ use native.Mathlib.Omega.{arith}
 use native.Mathlib.Nat.{pow-suc}
 use lib.Dec.{ltb, ltb→lt}
 use lib.ListN.{length, length-append}
+use borrow.Author.Tests.{ltb-false}
 use Rattle.grammar.specs.Gram.{Gram, Nothing, nothing, Map, mapped, Only, only, Then, both, Sized, sized, done, more, Many, Is, is}
 use Rattle.grammar.specs.Number.{Byte, byte, bigFrom, Big, big, Groups, last, next, Spells}
 use Rattle.grammar.specs.Octets.{Each, nil, _&_, Octets}
-use Rattle.reading.proofs.Lists.{T-of, ltb-false}
+use Rattle.reading.proofs.Lists.{T-of}
 use Rattle.writing.specs.Lists.{flat}
 use Rattle.writing.specs.Spell.{wide, spellStep, spell, short, counted}
 use Rattle.writing.specs.Size.{most}

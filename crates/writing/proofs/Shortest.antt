@@ -7,9 +7,10 @@ use native.Mathlib.Omega.{arith}
 use native.Mathlib.Nat.{pow-suc}
 use lib.Dec.{ltb, ltb→lt}
 use lib.ListN.{length}
+use borrow.Author.Tests.{ltb-false}
 use Rattle.grammar.specs.Number.{Groups, last, next, Spells}
 use Rattle.grammar.specs.Octets.{Octets}
-use Rattle.reading.proofs.Lists.{T-of, ltb-false}
+use Rattle.reading.proofs.Lists.{T-of}
 use Rattle.reading.proofs.Fields.{num-solid}
 use Rattle.writing.specs.Spell.{spell, short}
 use Rattle.writing.proofs.Each.{each-head, each-tail}

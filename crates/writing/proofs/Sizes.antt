@@ -8,11 +8,12 @@ use native.Mathlib.Omega.{arith}
 use lib.Dec.{eqb, ltb, ltb→lt}
 use lib.ListN.{length, take, drop, length-append, length-drop}
 use lib.Seq.{length-take-le}
+use borrow.Author.Tests.{lt-ltb, ltb-false, le-ltb}
 use Rattle.grammar.specs.Tables.{Form, u8, u16, u32, number, text, bytes, pair, Place, publishPlace, subscribePlace, ackPlace}
 use Rattle.grammar.specs.Record.{str}
 use Rattle.grammar.specs.Sentence.{Value}
 use Rattle.grammar.specs.Octets.{Each, nil, _&_}
-use Rattle.reading.proofs.Lists.{T-of, ltb-yes, ltb-false, ltb-no}
+use Rattle.reading.proofs.Lists.{T-of}
 use Rattle.writing.specs.Lists.{flat, total, sum, pieces, beside}
 use Rattle.writing.specs.Handed.{SubscribeHanded, Handed, publish, ack, subscribe, ping, Given, one, lent, pairs, several, Givens, publishGiven, subscribeGiven, ackGiven, strings, duos, items, tag, filters}
 use Rattle.writing.specs.Spell.{wide, spellStep, spell, short, string, numeral, value, entry, rowBytes, propsBytes, counted, block, filterBytes}
@@ -25,11 +26,11 @@ use Rattle.writing.proofs.Says.{length-wide}
 
 pub spell-less : (k n : ℕ) → n < 128 → length (spell (suc k) n) ≡ 1
 unfolding spell spellStep
-spell-less k n h = rw (ltb-yes n 128 h)
+spell-less k n h = rw (lt-ltb n 128 h)
 
 pub spell-more : (k n : ℕ) → 128 ≤ n → length (spell (suc k) n) ≡ suc (length (spell k (n / 128)))
 unfolding spell spellStep
-spell-more k n h = rw (ltb-no n 128 h)
+spell-more k n h = rw (le-ltb n 128 h)
 
 spell-one : (n : ℕ) → length (spell 1 n) ≡ 1
 unfolding spell spellStep

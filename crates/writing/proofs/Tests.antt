@@ -1,14 +1,14 @@
 -- Tests, and what they say. Assumes nothing.
 use mathlib.Core.Path.{_≡_, refl, sym, _∙_}
-use mathlib.Core.Bool.{Bool, true, false, not, _&&_, _||_}
+use mathlib.Core.Bool.{Bool, true, false, not, _&&_, _||_, false≢true}
 use mathlib.Core.Logic.{_↔_, _⊎_, inl, inr}
 use mathlib.Core.List.{List, [], _∷_}
 use Prim.Native.Nat.{ℕ, _≤_, _<_}
 use lib.Dec.{eqb, leb, eqb-refl, leb→le}
-use Rattle.grammar.specs.Choice.{isEmpty}
+use borrow.Author.Tests.{leb-false, eqb-true, not-true}
+use Rattle.grammar.specs.Choice.{isEmpty, all}
 use Rattle.grammar.specs.Octets.{Each, nil, _&_}
-use Rattle.reading.proofs.Lists.{no-way, T-true, T-of, leb-false, eq-of, not-true, nil-of}
-use Rattle.writing.specs.Lists.{all}
+use Rattle.reading.proofs.Lists.{T-true, T-of, nil-of}
 use Rattle.writing.proofs.Each.{each-head, each-tail}
 
 pub and-left : (a b : Bool) → (a && b) ≡ true → a ≡ true
@@ -17,13 +17,13 @@ and-left false b e = e
 
 pub and-right : (a b : Bool) → (a && b) ≡ true → b ≡ true
 and-right true b e = e
-and-right false b e = absurd (no-way e)
+and-right false b e = absurd (false≢true e)
 
 pub and-when : {P Q : Type 0} (a b : Bool) → (a ≡ true) ↔ P → (b ≡ true) ↔ Q → ((a && b) ≡ true) ↔ (P × Q)
 and-when a b p q = (λ e. (p .0 (and-left a b e), q .0 (and-right a b e)), λ t. rw (p .1 (t .0), q .1 (t .1)))
 
 pub or-when : {Q : Type 0} (a b : Bool) → (b ≡ true) ↔ Q → ((a || b) ≡ true) ↔ (a ≡ false → Q)
-or-when true b q = (λ e n. absurd (no-way (sym n)), λ _. refl)
+or-when true b q = (λ e n. absurd (false≢true (sym n)), λ _. refl)
 or-when false b q = (λ e _. q .0 e, λ f. q .1 (f refl))
 
 pub not-when : (a : Bool) → (not a ≡ true) ↔ (a ≡ false)
@@ -33,13 +33,13 @@ pub nil-when : {A : Type 0} (l : List A) → (isEmpty l ≡ true) ↔ (l ≡ [])
 nil-when l = (nil-of l, λ e. rw e)
 
 pub eq-when : (m n : ℕ) → (eqb m n ≡ true) ↔ (m ≡ n)
-eq-when m n = (eq-of m n, λ e. rw e (T-true (eqb n n) (eqb-refl n)))
+eq-when m n = (eqb-true m n, λ e. rw e (T-true (eqb n n) (eqb-refl n)))
 
 pub eq-not : (m n : ℕ) → (eqb m n ≡ false) ↔ (m ≡ n → ⊥)
-eq-not m n = (λ e q. no-way (sym e ∙ eq-when m n .1 q), go (eqb m n) refl)
+eq-not m n = (λ e q. false≢true (sym e ∙ eq-when m n .1 q), go (eqb m n) refl)
   where
     go : (t : Bool) → eqb m n ≡ t → (m ≡ n → ⊥) → eqb m n ≡ false
-    go true e f = absurd (f (eq-of m n e))
+    go true e f = absurd (f (eqb-true m n e))
     go false e f = e
 
 pub all-when : {A : Type 0} {P : A → Type 0} (t : A → Bool) → ((a : A) → (t a ≡ true) ↔ P a) → (l : List A) → (all t l ≡ true) ↔ Each P l
@@ -53,7 +53,7 @@ all-when t f (a ∷ l) =
 -- of a test that fails exactly when P holds
 module _ {P : Type 0} (t : Bool) (w : (t ≡ false) ↔ P) where
   pub passes-when : (t ≡ true) ↔ (P → ⊥)
-  passes-when = (λ e p. no-way (sym (w .1 p) ∙ e), go t refl)
+  passes-when = (λ e p. false≢true (sym (w .1 p) ∙ e), go t refl)
     where
       go : (b : Bool) → t ≡ b → (P → ⊥) → t ≡ true
       go true e n = e

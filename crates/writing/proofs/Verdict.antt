@@ -1,18 +1,18 @@
 -- A write is accepted or refused exactly as 01's rows and its writing order say. Assumes nothing.
 use mathlib.Core.Path.{_≡_, refl, sym, ap, _∙_, subst}
-use mathlib.Core.Bool.{Bool, true, false}
+use mathlib.Core.Bool.{Bool, true, false, false≢true}
 use mathlib.Core.Option.{Option, none, some}
 use mathlib.Core.Logic.{_↔_, _⊎_, inl, inr}
 use mathlib.Core.List.{List, [], _∷_}
 use Prim.Native.Nat.{ℕ, _≤_, _<_}
 use lib.ListN.{length}
+use borrow.Author.Tests.{le-leb, lt-leb}
 use Rattle.grammar.specs.Text.{Utf8}
 use Rattle.grammar.specs.Sentence.{qosFine, ruleFine}
 use Rattle.grammar.specs.Octets.{Each, nil, _&_}
 use Rattle.reading.specs.Refusal.{Refusal, nr}
 use Rattle.reading.specs.Reader.{Fit, got, bad, _>>_}
 use Rattle.reading.specs.Read.{isText}
-use Rattle.reading.proofs.Lists.{no-way, leb-yes, leb-no}
 use Rattle.reading.proofs.Reading.{bad-got, got-inj}
 use Rattle.reading.proofs.Fields.{text-fine}
 use Rattle.writing.specs.Handed.{Handed, belongs}
@@ -32,7 +32,7 @@ either t = decide-by t (λ e. e) (λ e. e)
 
 -- of a test that holds exactly when P does
 holds-or : {P : Type 0} (t : Bool) → (t ≡ true) ↔ P → P ⊎ (P → ⊥)
-holds-or t w = decide-by t (w .0) (λ e p. no-way (sym e ∙ w .1 p))
+holds-or t w = decide-by t (w .0) (λ e p. false≢true (sym e ∙ w .1 p))
 
 -- of one that fails exactly when P does
 fails-or : {P : Type 0} (t : Bool) → (t ≡ false) ↔ P → (P → ⊥) ⊎ P
@@ -124,23 +124,23 @@ module _ (limit : Option ℕ) (room : ℕ) (h : Handed) where
 
   go-on : Countable h → permit limit room h ≡ permitLate limit room h
   unfolding permit
-  go-on c = rw (belongs-when h .1 (c .belongs), fields-pass (c .fields), leb-yes (restIs h) most (c .rest))
+  go-on c = rw (belongs-when h .1 (c .belongs), fields-pass (c .fields), le-leb (restIs h) most (c .rest))
 
   accepts-got : Accepts limit room h → permit limit room h ≡ got tt
   accepts-got p =
       go-on (p .countable)
-      ∙ rw (limit-pass limit (sizeIs h) (p .within), unnamed-not (p .named), numbers-pass (p .numbers), unasked-not (p .asked), leb-yes (sizeIs h) room (p .fits))
+      ∙ rw (limit-pass limit (sizeIs h) (p .within), unnamed-not (p .named), numbers-pass (p .numbers), unasked-not (p .asked), le-leb (sizeIs h) room (p .fits))
 
   refuses-bad : (k : Refusal) → Refuses limit room h k → permit limit room h ≡ bad k
   unfolding permit
   refuses-bad _ (r.Refuses.mismatch w) = rw (fails-when (belongs h) (belongs-when h) w)
   refuses-bad _ (field w f) = rw (belongs-when h .1 w, fields-fault f)
-  refuses-bad _ (r.Refuses.too-long w f l) = rw (belongs-when h .1 w, fields-pass f, leb-no (restIs h) most l)
+  refuses-bad _ (r.Refuses.too-long w f l) = rw (belongs-when h .1 w, fields-pass f, lt-leb (restIs h) most l)
   refuses-bad _ (too-large {m} c e l) = go-on c ∙ rw (e, limit-fault m (sizeIs h) l)
   refuses-bad _ (no-name c m i) = go-on c ∙ rw (limit-pass limit (sizeIs h) m, unnamed-when h .1 i)
   refuses-bad _ (number c m i n) = go-on c ∙ rw (limit-pass limit (sizeIs h) m, unnamed-not i, numbers-fault n)
   refuses-bad _ (none-asked c m i n s) = go-on c ∙ rw (limit-pass limit (sizeIs h) m, unnamed-not i, numbers-pass n, unasked-when h .1 s)
-  refuses-bad _ (no-room c m i n s o) = go-on c ∙ rw (limit-pass limit (sizeIs h) m, unnamed-not i, numbers-pass n, unasked-not s, leb-no (sizeIs h) room o)
+  refuses-bad _ (no-room c m i n s o) = go-on c ∙ rw (limit-pass limit (sizeIs h) m, unnamed-not i, numbers-pass n, unasked-not s, lt-leb (sizeIs h) room o)
 
 -- ---- the verdict
 
@@ -221,12 +221,12 @@ module _ (h : Handed) where
 
   sized-got : HasSize h → sizeOf h ≡ got (sizeIs h)
   unfolding sizeOf
-  sized-got (w, l) = rw (belongs-when h .1 w, leb-yes (restIs h) most l)
+  sized-got (w, l) = rw (belongs-when h .1 w, le-leb (restIs h) most l)
 
   unsized-bad : (k : Refusal) → Unsized h k → sizeOf h ≡ bad k
   unfolding sizeOf
   unsized-bad _ (r.Unsized.mismatch w) = rw (fails-when (belongs h) (belongs-when h) w)
-  unsized-bad _ (r.Unsized.too-long w l) = rw (belongs-when h .1 w, leb-no (restIs h) most l)
+  unsized-bad _ (r.Unsized.too-long w l) = rw (belongs-when h .1 w, lt-leb (restIs h) most l)
 
   -- the size is told exactly when what is handed over belongs together and R can be written
   pub sized-when : (n : ℕ) → (sizeOf h ≡ got n) ↔ (HasSize h × (sizeIs h ≡ n))

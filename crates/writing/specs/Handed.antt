@@ -6,11 +6,11 @@ use mathlib.Core.List.{List, [], _∷_, map}
 use Prim.Native.Nat.{ℕ, _%_}
 use lib.Dec.{eqb}
 use lib.ListN.{length}
-use Rattle.grammar.specs.Choice.{lookup, isEmpty}
+use Rattle.grammar.specs.Choice.{lookup, isEmpty, all}
 use Rattle.grammar.specs.Tables.{Form, Place, publishPlace, subscribePlace, ackPlace}
 use Rattle.grammar.specs.Record.{num, str, duo}
 use Rattle.grammar.specs.Sentence.{Value, Prop}
-use Rattle.writing.specs.Lists.{flat, all, sum, pieces, beside}
+use Rattle.writing.specs.Lists.{flat, sum, pieces, beside}
 
 -- a string that may be absent
 pub record Lent : Type 0 where

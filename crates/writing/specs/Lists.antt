@@ -1,5 +1,4 @@
 -- Lists: one after the other, sums, a run cut by lengths, side by side. Assumes nothing.
-use mathlib.Core.Bool.{Bool, true, _&&_}
 use mathlib.Core.List.{List, [], _∷_, _++_}
 use Prim.Native.Nat.{ℕ, _+_}
 use lib.ListN.{take, drop}
@@ -8,11 +7,6 @@ use lib.ListN.{take, drop}
 abbrev pub flat : {A B : Type 0} → (A → List B) → List A → List B
 flat f [] = []
 flat f (a ∷ l) = f a ++ flat f l
-
--- every element passes the test
-abbrev pub all : {A : Type 0} → (A → Bool) → List A → Bool
-all t [] = true
-all t (a ∷ l) = t a && all t l
 
 -- the sum of what f makes of each element
 abbrev pub total : {A : Type 0} → (A → ℕ) → List A → ℕ

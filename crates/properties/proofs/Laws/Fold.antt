@@ -18,13 +18,13 @@ use Rattle.reading.specs.Read.{valueAt, propertyOf, propertiesFit}
 use Rattle.reading.specs.Place.{Span, spanOf, asPlaces, onGot}
 use Rattle.reading.proofs.Lists.{lookup-each}
 use Rattle.reading.proofs.Reading.{bad-got}
-use Rattle.positions.specs.Position.{fromAt}
+use Rattle.positions.specs.Position.{fromAt, nextOr}
 use Rattle.positions.proofs.Walk.{fold-nil, fold-bad, fold-next}
 use Rattle.positions.proofs.Less.{property-less}
 use Rattle.positions.proofs.Position.{bad-left}
 use Rattle.records.specs.Told.{toldError}
 use Rattle.records.specs.declared.error.Error.{Error}
-use Rattle.property_value.specs.Told.{toldValue, formOf, publishLists, nextOr, PropertyRead, PropertyPassed}
+use Rattle.property_value.specs.Told.{toldValue, formOf, publishLists, PropertyRead, PropertyPassed}
 use Rattle.property_value.proofs.Laws.{value-tag, property-left, property-ahead}
 use Rattle.property_value.specs.declared.Value.{Value}
 use Rattle.property_value.specs.declared.GotProperty.{GotProperty}

@@ -1,7 +1,7 @@
 -- `puback_write::early` is right since the fields are tested in the order of the table. Assumes nothing.
 use borrow.Author.Needs.{needs}
 use denote.Ref.{now}
-use Rattle.reading.proofs.Lists.{not-true, not-false}
+use borrow.Author.Tests.{not-true, not-false}
 use Rattle.writing.specs.Handed.{ack}
 use Rattle.settle.proofs.Laws.{early-foreign}
 use Rattle.puback_write.specs.Handed.{handed}

@@ -2,7 +2,7 @@
 use mathlib.Core.Path.{sym, _∙_}
 use borrow.Author.Needs.{needs}
 use denote.Ref.{now}
-use Rattle.reading.proofs.Lists.{not-true, not-false}
+use borrow.Author.Tests.{not-true, not-false}
 use Rattle.puback_write.specs.Handed.{handed}
 use Rattle.puback_write.proofs.Laws.{length-small, put-plain, put-full}
 use Rattle.puback_write.proofs.put.Statement.{statement}

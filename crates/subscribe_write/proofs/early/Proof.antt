@@ -1,7 +1,7 @@
 -- `subscribe_write::early` is right since the fields are tested in the order in which they are written. Assumes nothing.
 use borrow.Author.Needs.{needs}
 use denote.Ref.{now}
-use Rattle.reading.proofs.Lists.{not-true, not-false}
+use borrow.Author.Tests.{not-true, not-false}
 use Rattle.writing.specs.Handed.{subscribe}
 use Rattle.settle.proofs.Laws.{early-foreign}
 use Rattle.subscribe_write.specs.Handed.{handed}

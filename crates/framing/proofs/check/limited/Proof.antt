@@ -1,7 +1,7 @@
 -- `framing::check::limited` is right since R is refused above the limit alone. Assumes nothing.
 use borrow.Author.Needs.{needs}
+use borrow.Author.Tests.{le-leb, lt-leb}
 use Rattle.reading.specs.Refusal.{within, over}
-use Rattle.reading.proofs.Lists.{leb-yes, leb-no}
 use Rattle.framing.proofs.check.limited.Statement.{statement}
 use Rattle.framing.proofs.check.limited.Tie as tie
 
@@ -10,14 +10,14 @@ enum-known-limit c = search needs
 
 returns : tie.Need-returns
 unfolding within over
-returns c = rw (c .before .before .limit .given .1, leb-no _ _ (c .if1 .taken))
+returns c = rw (c .before .before .limit .given .1, lt-leb _ _ (c .if1 .taken))
 
 enum-told : tie.Need-enum-told
 enum-told c = search needs
 
 returns-2 : tie.Need-returns-2
 unfolding within over
-returns-2 c = rw (c .before .before .limit .given .1, leb-yes _ _ (c .if1 .left))
+returns-2 c = rw (c .before .before .limit .given .1, le-leb _ _ (c .if1 .left))
 
 returns-3 : tie.Need-returns-3
 unfolding within

@@ -2,7 +2,7 @@
 use mathlib.Core.Path.{_∙_}
 use borrow.Author.Needs.{needs}
 use denote.Ref.{now}
-use Rattle.reading.proofs.Lists.{not-true, not-false}
+use borrow.Author.Tests.{not-true, not-false}
 use Rattle.writing.specs.Handed.{publish}
 use Rattle.settle.proofs.Laws.{early-foreign, early-fields}
 use Rattle.publish_plan.specs.Handed.{handed}

@@ -1,7 +1,7 @@
 -- `publish_plan::test::late` is right since 12 comes first, then the identifiers. Assumes nothing.
 use borrow.Author.Needs.{needs}
 use denote.Ref.{now}
-use Rattle.reading.proofs.Lists.{not-true, not-false}
+use borrow.Author.Tests.{not-true, not-false}
 use Rattle.publish_plan.specs.Handed.{handed}
 use Rattle.publish_plan.proofs.Laws.{late-unnamed, late-named}
 use Rattle.publish_plan.proofs.test.late.Statement.{statement}
