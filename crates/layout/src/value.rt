@@ -5,7 +5,7 @@ ghost use Rattle.records.specs.Told.{toldBool, toldValues};
 ghost use Rattle.layout.specs.Value.{valueOrZero};
 
 // 1 if true, else 0.
-pub fn flag(b: bool) -> u64
+pub fn bit(b: bool) -> u64
     ensures { λ r. ⌜ r ≡ toldBool b ⌝ }
 {
     if b { 1 } else { 0 }

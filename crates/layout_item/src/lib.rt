@@ -2,7 +2,7 @@
 use codes::qos_number;
 use codes::rule_number;
 use layout::store::store;
-use layout::value::flag;
+use layout::value::bit;
 use records::answer::FilterItem;
 use records::answer::IdentifierItem;
 use records::answer::UserItem;
@@ -68,8 +68,8 @@ fn filter_numbers(item: FilterItem) -> [u64; 6]
                 f.path.start as u64,
                 f.path.len as u64,
                 qos_number(qos) as u64,
-                flag(f.nolocal),
-                flag(f.preserve_retain),
+                bit(f.nolocal),
+                bit(f.preserve_retain),
                 rule_number(rule) as u64,
             ]
         }

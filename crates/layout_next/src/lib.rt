@@ -3,8 +3,8 @@ use codes::qos_number;
 use codes::rule_number;
 use filters::GotFilter;
 use layout::store::store;
+use layout::value::bit;
 use layout::value::first_value;
-use layout::value::flag;
 use property_value::GotProperty;
 use property_value::Value;
 use records::error::Error;
@@ -88,8 +88,8 @@ fn next_filter_numbers(filter: GotFilter) -> [u64; 7]
                 f.path.start as u64,
                 f.path.len as u64,
                 qos_number(qos) as u64,
-                flag(f.nolocal),
-                flag(f.preserve_retain),
+                bit(f.nolocal),
+                bit(f.preserve_retain),
                 rule_number(rule) as u64,
             ]
         }

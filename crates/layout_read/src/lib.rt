@@ -4,8 +4,8 @@ use codes::reason_code;
 use layout::place::Head;
 use layout::place::numbers;
 use layout::store::store;
+use layout::value::bit;
 use layout::value::first_value;
-use layout::value::flag;
 use layout::value::second_value;
 use layout_properties::no_block;
 use layout_properties::puback_block;
@@ -70,9 +70,9 @@ fn publish_head(taken: usize, m: Publish) -> Head
         second: 0,
         kind: 3,
         pkid: m.pkid as u64,
-        dup: flag(m.dup),
+        dup: bit(m.dup),
         qos: qos_number(qos) as u64,
-        retain: flag(m.retain),
+        retain: bit(m.retain),
         reason: 0,
         topic,
         payload,

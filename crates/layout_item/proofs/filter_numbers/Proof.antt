@@ -12,11 +12,11 @@ qos-number-requires c κs = search needs
 cast-t9 : tie.Need-cast-t9
 cast-t9 c = search needs
 
-flag-requires : tie.Need-flag-requires
-flag-requires c κs = search needs
+bit-requires : tie.Need-bit-requires
+bit-requires c κs = search needs
 
-flag-requires-2 : tie.Need-flag-requires-2
-flag-requires-2 c κs = search needs
+bit-requires-2 : tie.Need-bit-requires-2
+bit-requires-2 c κs = search needs
 
 rule-number-requires : tie.Need-rule-number-requires
 rule-number-requires c κs = search needs
@@ -28,7 +28,7 @@ enum-told : tie.Need-enum-told
 enum-told c = search needs
 
 returns : tie.Need-returns
-returns c = rw (c .before .before .before .before .before .item .given .1, c .before .before .before .qos-number .ensures, c .before .before .flag .ensures, c .before .flag2 .ensures, c .rule-number .ensures)
+returns c = rw (c .before .before .before .before .before .item .given .1, c .before .before .before .qos-number .ensures, c .before .before .bit .ensures, c .before .bit2 .ensures, c .rule-number .ensures)
 
 returns-2 : tie.Need-returns-2
 returns-2 c = search needs
@@ -40,8 +40,8 @@ filter-numbers-spec =
     enum-known-item
     qos-number-requires
     cast-t9
-    flag-requires
-    flag-requires-2
+    bit-requires
+    bit-requires-2
     rule-number-requires
     cast-t13
     enum-told

@@ -13,11 +13,11 @@ qos-number-requires c κs = search needs
 cast-t12 : tie.Need-cast-t12
 cast-t12 c = search needs
 
-flag-requires : tie.Need-flag-requires
-flag-requires c κs = search needs
+bit-requires : tie.Need-bit-requires
+bit-requires c κs = search needs
 
-flag-requires-2 : tie.Need-flag-requires-2
-flag-requires-2 c κs = search needs
+bit-requires-2 : tie.Need-bit-requires-2
+bit-requires-2 c κs = search needs
 
 rule-number-requires : tie.Need-rule-number-requires
 rule-number-requires c κs = search needs
@@ -32,7 +32,7 @@ bad-numbers-requires : tie.Need-bad-numbers-requires
 bad-numbers-requires c κs = search needs
 
 returns : tie.Need-returns
-returns c = rw (c .before .before .before .before .before .filter .given .1, c .before .before .before .qos-number .ensures, c .before .before .flag .ensures, c .before .flag2 .ensures, c .rule-number .ensures)
+returns c = rw (c .before .before .before .before .before .filter .given .1, c .before .before .before .qos-number .ensures, c .before .before .bit .ensures, c .before .bit2 .ensures, c .rule-number .ensures)
 
 returns-2 : tie.Need-returns-2
 returns-2 c = c .bad-numbers .ensures ∙ rw (c .before .before .filter2 .given .1)
@@ -44,8 +44,8 @@ next-filter-numbers-spec =
     enum-known-filter
     qos-number-requires
     cast-t12
-    flag-requires
-    flag-requires-2
+    bit-requires
+    bit-requires-2
     rule-number-requires
     cast-t16
     enum-known-filter-2

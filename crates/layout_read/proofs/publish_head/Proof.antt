@@ -9,8 +9,8 @@ no-span-requires c κs = search needs
 cast-t8 : tie.Need-cast-t8
 cast-t8 c = search needs
 
-flag-requires : tie.Need-flag-requires
-flag-requires c κs = search needs
+bit-requires : tie.Need-bit-requires
+bit-requires c κs = search needs
 
 qos-number-requires : tie.Need-qos-number-requires
 qos-number-requires c κs = search needs
@@ -18,11 +18,11 @@ qos-number-requires c κs = search needs
 cast-t11 : tie.Need-cast-t11
 cast-t11 c = search needs
 
-flag-requires-2 : tie.Need-flag-requires-2
-flag-requires-2 c κs = search needs
+bit-requires-2 : tie.Need-bit-requires-2
+bit-requires-2 c κs = search needs
 
 returns : tie.Need-returns
-returns c = rw (c .before .before .before .before .before .before .no-span .ensures, c .before .before .flag .ensures, c .before .qos-number .ensures, c .flag2 .ensures)
+returns c = rw (c .before .before .before .before .before .before .no-span .ensures, c .before .before .bit .ensures, c .before .qos-number .ensures, c .bit2 .ensures)
 
 pub publish-head-spec : {M : Type 1} → statement M
 publish-head-spec =
@@ -30,8 +30,8 @@ publish-head-spec =
     (tie.spec
     no-span-requires
     cast-t8
-    flag-requires
+    bit-requires
     qos-number-requires
     cast-t11
-    flag-requires-2
+    bit-requires-2
     returns)
