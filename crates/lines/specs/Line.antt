@@ -32,7 +32,7 @@ takenText n = (codesOf " taken=" ++ decimalOf n) ++ (10 ∷ [])
 abbrev pub refusedLine : ℕ → Error → ℕ → List ℕ
 refusedLine offset e taken = ((refusedStart offset e ++ nameOf e) ++ valuesText (valuesOf (toldError e))) ++ takenText taken
 
--- docs/DESK.md: "A frame longer than the buffer .. is said so there with its offset and size"
+-- docs/DESK.md: "A frame that fills the buffer .. and still lacks bytes is said so there with its offset and size"
 abbrev pub tooLongAt : ℕ → ℕ → List ℕ
 tooLongAt offset size = (codesOf "desk: the frame at offset " ++ decimalOf offset) ++ (codesOf " has " ++ decimalOf size)
 

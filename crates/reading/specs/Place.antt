@@ -44,7 +44,7 @@ asPlaces = record { Str = Span; Run = λ A. Span; string = spanOf; run = λ A vs
 abbrev pub Placed : Type 0
 Placed = PacketOf Span (λ A. Span)
 
--- 01, Taken: the answer, with every number and place in it
+-- 01, "What must change shape": the answer, with every number and place in it
 abbrev pub readPlacedOf : Option ℕ → List ℕ → Answer Placed
 readPlacedOf = readAs asPlaces
 

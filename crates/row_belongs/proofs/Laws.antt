@@ -1,4 +1,4 @@
--- What belongs together, test by test. Assumes nothingGiven.
+-- What belongs together, test by test. Assumes nothing.
 use mathlib.Core.Path.{_≡_, refl, sym, _∙_}
 use mathlib.Core.Bool.{Bool, true, false, _&&_, _||_, or-true, false≢true}
 use mathlib.Core.List.{List, [], _∷_}
@@ -10,7 +10,7 @@ use Rattle.writing.specs.Lists.{sum}
 use Rattle.writing.specs.Handed.{Run, pairs, addsUp, nothingGiven, rowBelongs}
 use Rattle.writing.proofs.Tests.{eq-when, eq-not}
 
--- ---- nothingGiven handed over
+-- ---- nothing handed over
 
 pub empty-length : {A : Type 0} (l : List A) → eqb (length l) 0 ≡ isEmpty l
 empty-length [] = refl

@@ -1,4 +1,4 @@
--- 20, 12 and 13 are given exactly when their rows say; what a plain success is; an absent block has nothingGiven in it. Assumes nothingGiven.
+-- 20, 12 and 13 are given exactly when their rows say; what a plain success is; an absent block has nothing in it. Assumes nothing.
 use mathlib.Core.Path.{_≡_, refl, sym}
 use mathlib.Core.Bool.{Bool, true, false, not, _||_, false≢true}
 use mathlib.Core.Option.{none, some}

@@ -17,7 +17,7 @@ use Rattle.reading.proofs.Reading.{bad-got, got-inj}
 use Rattle.reading.proofs.Fields.{text-fine}
 use Rattle.writing.specs.Handed.{Handed, belongs}
 use Rattle.writing.specs.Size.{most, restIs, sizeIs}
-use Rattle.writing.specs.Order.{Field, raw, word, filter, fieldsOf, numbersOf, named, asked, permitLate, permit}
+use Rattle.writing.specs.Order.{Field, raw, word, filter, fieldsOf, numbersOf, named, asked, permitSized, permit}
 use Rattle.writing.specs.Write.{frameBytes, sizeOf, writeOf, answerOf}
 use Rattle.writing.specs.Refuse.{Belongs, Short, Writable, Faulty, long-raw, long-word, long-filter, bad-word, bad-filter, bad-rule, bad-qos, FirstFault, Small, TooLarge, Unnamed, Unasked, Within, Countable, Refuses, field, too-large, no-name, number, none-asked, no-room, Accepts, Unsized, HasSize}
 use Rattle.writing.proofs.Tests.{passes-when, fails-when, decide-by, le-or}
@@ -122,7 +122,7 @@ module _ (limit : Option ℕ) (room : ℕ) (h : Handed) where
   unasked-not : (Unasked h → ⊥) → asked h ≡ true
   unasked-not = passes-when (asked h) (unasked-when h) .1
 
-  go-on : Countable h → permit limit room h ≡ permitLate limit room h
+  go-on : Countable h → permit limit room h ≡ permitSized limit room h
   unfolding permit
   go-on c = rw (belongs-when h .1 (c .belongs), fields-pass (c .fields), le-leb (restIs h) most (c .rest))
 

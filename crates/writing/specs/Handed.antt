@@ -1,5 +1,5 @@
 -- What a caller hands over to have a packet written (01, "What must change shape"): numbers and presence by value, each string as a list
--- of bytes, a list of strings as one run of bytes and the lengths. Assumes nothingGiven.
+-- of bytes, a list of strings as one run of bytes and the lengths. Assumes nothing.
 use mathlib.Core.Bool.{Bool, true, false, not, _&&_, _||_, cond}
 use mathlib.Core.Option.{Option, none, some}
 use mathlib.Core.List.{List, [], _∷_, map}
@@ -77,7 +77,7 @@ pub data Given : Type 0 where
 abbrev pub Givens : Type 0
 Givens = ℕ → Given
 
--- nothingGiven for an identifier that is none of the record's
+-- nothing for an identifier that is none of the record's
 abbrev orNothing : Option Given → Given
 orNothing none = several []
 orNothing (some g) = g
@@ -161,7 +161,7 @@ sorted (lent l) = l .on || isEmpty (l .bytes)
 sorted (pairs r) = addsUp r && eqb (length (r .lengths) % 2) 0
 sorted (several ns) = true
 
--- nothingGiven at all
+-- nothing at all
 abbrev pub nothingGiven : Given → Bool
 nothingGiven (one none) = true
 nothingGiven (one (some n)) = false

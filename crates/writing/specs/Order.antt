@@ -118,8 +118,8 @@ limitTests none n = []
 limitTests (some m) n = (leb n m, nr 16 (n ∷ m ∷ [])) ∷ []
 
 -- 01, writing order: "..; 16; 12; 17 for identifiers in order; 13; 19"
-abbrev pub permitLate : Option ℕ → ℕ → Handed → Fit (Unit {0})
-permitLate limit room h = do
+abbrev pub permitSized : Option ℕ → ℕ → Handed → Fit (Unit {0})
+permitSized limit room h = do
   judge (limitTests limit (sizeIs h))
   guard (named h) (nr 12 [])
   judge (map small (numbersOf h))
@@ -132,4 +132,4 @@ permit limit room h = do
   guard (belongs h) (nr 20 [])
   judge (flat fieldTests (fieldsOf h))
   guard (leb (restIs h) most) (nr 17 [])
-  permitLate limit room h
+  permitSized limit room h

@@ -81,7 +81,7 @@ abbrev pub leaves : List ℕ → Fit (List ℕ) → List ℕ
 leaves out (got b) = b ++ drop (length b) out
 leaves out (bad k) = out
 
--- 01, demand 1: the output after the write
+-- 01, writing order: the output after the write, refused or accepted
 unfoldable pub outOf : Option ℕ → List ℕ → Handed → List ℕ
 outOf limit out h = leaves out (writeOf limit (length out) h)
 
