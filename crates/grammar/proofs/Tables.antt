@@ -5,7 +5,7 @@ use mathlib.Core.Option.{Option, none, some}
 use mathlib.Core.List.{List, [], _∷_}
 use Prim.Native.Nat.{ℕ, zero, suc}
 use Rattle.grammar.specs.Choice.{isIn, lookup}
-use Rattle.grammar.specs.Tables.{u8, u16, u32, number, text, bytes, pair, publishPlace, subscribePlace, ackPlace, reasons, Layout, aPublish, anAck, aSubscribe, aPing, kinds, reserved, isPing}
+use Rattle.grammar.specs.Tables.{u8, u16, u32, number, text, bytes, pair, publishPlace, subscribePlace, ackPlace, unsubscribePlace, reasons, releaseReasons, subAckReasons, unsubAckReasons, Layout, aPublish, anAck, aSubscribe, aReply, anUnsubscribe, aPing, kinds, reserved, isPing}
 
 -- k numbers from n on
 abbrev pub count : ℕ → ℕ → List ℕ
@@ -45,20 +45,39 @@ ack-row : known (lookup ackPlace) (count 256 0) ≡ (31, text) ∷ (38, pair) �
 unfolding ackPlace
 ack-row = refl
 
+unsubscribe-row : known (lookup unsubscribePlace) (count 256 0) ≡ (38, pair) ∷ []
+unfolding unsubscribePlace
+unsubscribe-row = refl
+
 -- 01, PubAck: of all 256 bytes, the nine reasons
 nine-reasons : chosen (λ c. isIn c reasons) (count 256 0) ≡ 0 ∷ 16 ∷ 128 ∷ 131 ∷ 135 ∷ 144 ∷ 145 ∷ 151 ∷ 153 ∷ []
 unfolding reasons
 nine-reasons = refl
 
--- 01, grammar: of all 16 kinds, those that are carried
-five-kinds : known (lookup kinds) (count 16 0) ≡ (3, aPublish) ∷ (4, anAck reasons) ∷ (8, aSubscribe) ∷ (12, aPing) ∷ (13, aPing) ∷ []
-unfolding kinds
-five-kinds = refl
+-- 02, P1: PubRel and PubComp; SubAck; UnsubAck
+two-reasons : chosen (λ c. isIn c releaseReasons) (count 256 0) ≡ 0 ∷ 146 ∷ []
+unfolding releaseReasons
+two-reasons = refl
 
--- 01, row 6: "kind 1, 2, 5-7, 9-11, 14": the rest, but for row 4's
-nine-others : chosen (λ k. isNone (lookup kinds k) && not (isIn k reserved)) (count 16 0) ≡ 1 ∷ 2 ∷ 5 ∷ 6 ∷ 7 ∷ 9 ∷ 10 ∷ 11 ∷ 14 ∷ []
+twelve-reasons : chosen (λ c. isIn c subAckReasons) (count 256 0) ≡ 0 ∷ 1 ∷ 2 ∷ 128 ∷ 131 ∷ 135 ∷ 143 ∷ 145 ∷ 151 ∷ 158 ∷ 161 ∷ 162 ∷ []
+unfolding subAckReasons
+twelve-reasons = refl
+
+seven-reasons : chosen (λ c. isIn c unsubAckReasons) (count 256 0) ≡ 0 ∷ 17 ∷ 128 ∷ 131 ∷ 135 ∷ 143 ∷ 145 ∷ []
+unfolding unsubAckReasons
+seven-reasons = refl
+
+-- 01, grammar, and 02, P1: of all 16 kinds, those that are carried
+eleven-kinds : known (lookup kinds) (count 16 0)
+    ≡ (3, aPublish) ∷ (4, anAck reasons) ∷ (5, anAck reasons) ∷ (6, anAck releaseReasons) ∷ (7, anAck releaseReasons)
+    ∷ (8, aSubscribe) ∷ (9, aReply subAckReasons) ∷ (10, anUnsubscribe) ∷ (11, aReply unsubAckReasons) ∷ (12, aPing) ∷ (13, aPing) ∷ []
 unfolding kinds
-nine-others = refl
+eleven-kinds = refl
+
+-- 01, row 6, as 02's P1 leaves it: "no longer names 5, 6, 7, 9, 10 or 11": the rest, but for row 4's
+three-others : chosen (λ k. isNone (lookup kinds k) && not (isIn k reserved)) (count 16 0) ≡ 1 ∷ 2 ∷ 14 ∷ []
+unfolding kinds
+three-others = refl
 
 -- 01, row 4: "k is 0 or 15"; row 5: the pings
 zero-and-last : chosen (λ k. isIn k reserved) (count 16 0) ≡ 0 ∷ 15 ∷ []

@@ -79,6 +79,14 @@ pub record AckProps (S : Type 0) (L : Type 0 → Type 0) : Type 0 where
 unfoldable pub ackProps : (S : Type 0) (L : Type 0 → Type 0) (keep : List (Val S) → L (Val S)) → List (PropOf S) → AckProps S L
 ackProps S L keep ps = record { reason = lastOf 31 ps; user = keep (allOf 38 ps) }
 
+-- 02, P1: row Unsubscribe
+pub record UnsubscribeProps (S : Type 0) (L : Type 0 → Type 0) : Type 0 where
+  pub user : L (Val S)
+
+-- 02, P1: row Unsubscribe
+unfoldable pub unsubscribeProps : (S : Type 0) (L : Type 0 → Type 0) (keep : List (Val S) → L (Val S)) → List (PropOf S) → UnsubscribeProps S L
+unsubscribeProps S L keep ps = record { user = keep (allOf 38 ps) }
+
 -- ---- the records
 
 -- 01, grammar: "Publish (3)"; ident is 0 where QoS is 0
@@ -111,11 +119,26 @@ pub record Ack (S : Type 0) (L : Type 0 → Type 0) : Type 0 where
   pub reason : ℕ
   pub props : Option (AckProps S L)
 
--- 01, modules: "Publish, Subscribe, PubAck, PingReq, PingResp"; an acknowledgement and a ping by the number of their kind
+-- 02, P1: SubAck and UnsubAck, a reason for each filter or topic
+pub record Reply (S : Type 0) (L : Type 0 → Type 0) : Type 0 where
+  pub ident : ℕ
+  pub props : Option (AckProps S L)
+  pub reasons : L ℕ
+
+-- 02, P1: Unsubscribe
+pub record Unsubscribe (S : Type 0) (L : Type 0 → Type 0) : Type 0 where
+  pub ident : ℕ
+  pub props : Option (UnsubscribeProps S L)
+  pub topics : L S
+
+-- 01, modules: "Publish, Subscribe, PubAck, PingReq, PingResp"; 02, P1: the other acknowledgements, and Unsubscribe; acknowledgements,
+-- replies and pings by the number of their kind
 pub data PacketOf (S : Type 0) (L : Type 0 → Type 0) : Type 0 where
   publish : Publish S L → PacketOf S L
   ack : ℕ → Ack S L → PacketOf S L
   subscribe : Subscribe S L → PacketOf S L
+  reply : ℕ → Reply S L → PacketOf S L
+  unsubscribe : Unsubscribe S L → PacketOf S L
   ping : ℕ → PacketOf S L
 
 -- ---- records from their fields, in the order in which these are spelled; x is the frame's first byte
@@ -167,6 +190,14 @@ mkFilter v = record { path = v .0; qos = optionQos (v .1); noLocal = optionNoLoc
 -- 01, grammar, Subscribe: identifier, block, filters
 abbrev pub mkSubscribe : {S : Type 0} {L : Type 0 → Type 0} → ℕ × (Option (SubscribeProps S L) × L (Filter S)) → PacketOf S L
 mkSubscribe v = subscribe (record { ident = v .0; props = v .1 .0; filters = v .1 .1 })
+
+-- 02, P1, SubAck and UnsubAck: identifier, block, reasons
+abbrev pub mkReply : {S : Type 0} {L : Type 0 → Type 0} → ℕ → ℕ × (Option (AckProps S L) × L ℕ) → PacketOf S L
+mkReply x v = reply (kindOf x) (record { ident = v .0; props = v .1 .0; reasons = v .1 .1 })
+
+-- 02, P1, Unsubscribe: identifier, block, topics
+abbrev pub mkUnsubscribe : {S : Type 0} {L : Type 0 → Type 0} → ℕ × (Option (UnsubscribeProps S L) × L S) → PacketOf S L
+mkUnsubscribe v = unsubscribe (record { ident = v .0; props = v .1 .0; topics = v .1 .1 })
 
 -- 01, grammar, PingReq and PingResp: "flags and any R bytes ignored"
 abbrev pub mkPing : {S : Type 0} {L : Type 0 → Type 0} → ℕ → List ℕ → PacketOf S L

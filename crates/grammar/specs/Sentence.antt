@@ -9,8 +9,8 @@ use Rattle.grammar.specs.Choice.{isIn, lookup, isEmpty}
 use Rattle.grammar.specs.Number.{Byte, Big, Spells}
 use Rattle.grammar.specs.Text.{Utf8}
 use Rattle.grammar.specs.Gram.{Gram, Nothing, Map, Only, Then, Sized, Many, Is}
-use Rattle.grammar.specs.Tables.{Form, u8, u16, u32, number, text, bytes, pair, Place, publishPlace, subscribePlace, ackPlace, Layout, aPublish, anAck, aSubscribe, aPing, kinds}
-use Rattle.grammar.specs.Record.{Val, num, str, duo, PropOf, unlessEmpty, PublishProps, publishProps, SubscribeProps, subscribeProps, AckProps, ackProps, Filter, PacketOf, kindOf, flagQos, optionQos, optionRule, mkPublish, mkAck, mkFilter, mkSubscribe, mkPing}
+use Rattle.grammar.specs.Tables.{Form, u8, u16, u32, number, text, bytes, pair, Place, publishPlace, subscribePlace, ackPlace, unsubscribePlace, Layout, aPublish, anAck, aSubscribe, aReply, anUnsubscribe, aPing, kinds}
+use Rattle.grammar.specs.Record.{Val, num, str, duo, PropOf, unlessEmpty, PublishProps, publishProps, SubscribeProps, subscribeProps, AckProps, ackProps, UnsubscribeProps, unsubscribeProps, Filter, PacketOf, kindOf, flagQos, optionQos, optionRule, mkPublish, mkAck, mkFilter, mkSubscribe, mkReply, mkUnsubscribe, mkPing}
 
 -- ---- strings
 
@@ -74,6 +74,10 @@ subscribeOf = unlessEmpty (subscribeProps (List ℕ) List asList)
 abbrev pub ackOf : List Prop → Option (AckProps (List ℕ) List)
 ackOf = unlessEmpty (ackProps (List ℕ) List asList)
 
+-- 02, P1: an Unsubscribe block
+abbrev pub unsubscribeOf : List Prop → Option (UnsubscribeProps (List ℕ) List)
+unsubscribeOf = unlessEmpty (unsubscribeProps (List ℕ) List asList)
+
 -- ---- Publish
 
 -- 01, grammar: "QoS 3, in flags or options, and forward rule 3 stand in no sentence"
@@ -119,6 +123,12 @@ pub data AckRest (rs : List ℕ) : ℕ × Option (AckProps (List ℕ) List) → 
   coded : {c : ℕ} → isIn c rs ≡ true → AckRest rs (c, none) (c ∷ [])
   full : {c : ℕ} {ps : Option (AckProps (List ℕ) List)} {b : List ℕ} → isIn c rs ≡ true → Block ackPlace ackOf ps b → AckRest rs (c, ps) (c ∷ b)
 
+-- ---- replies, by the reasons rs that they may give
+
+-- 02, P1: a reason of the list, in SubAck and UnsubAck
+abbrev pub ReasonOf : List ℕ → ℕ → List ℕ → Type 0
+ReasonOf rs = Only (λ c. isIn c rs) Byte
+
 -- ---- packets
 
 -- a packet of the language: its strings are bytes, its lists are lists
@@ -131,6 +141,8 @@ Fields aPublish x =
     Only (publishGood x) (Map (mkPublish x) (Then Bytes (λ _. Then (Ident (flagQos x)) (λ _. Then (Block publishPlace publishOf) (λ _. Is Any)))))
 Fields (anAck rs) x = Map (mkAck x) (Then (Big 2) (λ _. AckRest rs))
 Fields aSubscribe x = Map mkSubscribe (Then (Big 2) (λ _. Then (Block subscribePlace subscribeOf) (λ _. Only someOf (Many FilterOf))))
+Fields (aReply rs) x = Map (mkReply x) (Then (Big 2) (λ _. Then (Block ackPlace ackOf) (λ _. Only someOf (Many (ReasonOf rs)))))
+Fields anUnsubscribe x = Map mkUnsubscribe (Then (Big 2) (λ _. Then (Block unsubscribePlace unsubscribeOf) (λ _. Only someOf (Many Text))))
 Fields aPing x = Map (mkPing x) (Is Any)
 
 -- 01, grammar: "kind in the high four bits": one that is carried, and its fields

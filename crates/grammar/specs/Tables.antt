@@ -4,6 +4,7 @@ use mathlib.Core.Bool.{Bool, true, false}
 use mathlib.Core.Option.{Option, none, some}
 use mathlib.Core.List.{List, [], _∷_}
 use Prim.Native.Nat.{ℕ}
+use Rattle.grammar.specs.Choice.{lookup}
 
 -- 01, table of properties: the forms of a value
 pub data Form : Type 0 where
@@ -25,20 +26,41 @@ subscribePlace = (11, number) ∷ (38, pair) ∷ []
 unfoldable pub ackPlace : Place
 ackPlace = (31, text) ∷ (38, pair) ∷ []
 
--- 01, grammar, PubAck: "Reasons, in the order of `PubAckReason`"
+-- 02, P1, and MQTT 3.10.2.1: row Unsubscribe
+unfoldable pub unsubscribePlace : Place
+unsubscribePlace = (38, pair) ∷ []
+
+-- 01, grammar, PubAck: "Reasons, in the order of `PubAckReason`"; MQTT 3.5.2.1: PubRec gives the same
 unfoldable pub reasons : List ℕ
 reasons = 0x00 ∷ 0x10 ∷ 0x80 ∷ 0x83 ∷ 0x87 ∷ 0x90 ∷ 0x91 ∷ 0x97 ∷ 0x99 ∷ []
 
--- 01, grammar, from Publish on: how the R bytes of a frame are laid out; an acknowledgement by the reasons that it may give
+-- 02, P1: the reasons of PubRel and PubComp (MQTT 3.6.2.1, 3.7.2.1)
+unfoldable pub releaseReasons : List ℕ
+releaseReasons = 0x00 ∷ 0x92 ∷ []
+
+-- 02, P1: the reasons of SubAck (MQTT 3.9.3)
+unfoldable pub subAckReasons : List ℕ
+subAckReasons = 0x00 ∷ 0x01 ∷ 0x02 ∷ 0x80 ∷ 0x83 ∷ 0x87 ∷ 0x8F ∷ 0x91 ∷ 0x97 ∷ 0x9E ∷ 0xA1 ∷ 0xA2 ∷ []
+
+-- 02, P1: the reasons of UnsubAck (MQTT 3.11.3)
+unfoldable pub unsubAckReasons : List ℕ
+unsubAckReasons = 0x00 ∷ 0x11 ∷ 0x80 ∷ 0x83 ∷ 0x87 ∷ 0x8F ∷ 0x91 ∷ []
+
+-- 01, grammar, from Publish on: how the R bytes of a frame are laid out; an acknowledgement by the reasons that it may give.
+-- 02, P1: "The four publish acknowledgements share one layout": `anAck`; SubAck and UnsubAck another, `aReply`
 pub data Layout : Type 0 where
   aPublish : Layout
   anAck : List ℕ → Layout
   aSubscribe : Layout
+  aReply : List ℕ → Layout
+  anUnsubscribe : Layout
   aPing : Layout
 
--- 01, grammar: "Publish (3)", "PubAck (4)", "Subscribe (8)", "PingReq (12), PingResp (13)"
+-- 01, grammar: "Publish (3)", "PubAck (4)", "Subscribe (8)", "PingReq (12), PingResp (13)"; 02, P1: PubRec (5), PubRel (6), PubComp (7),
+-- SubAck (9), Unsubscribe (10), UnsubAck (11)
 unfoldable pub kinds : List (ℕ × Layout)
-kinds = (3, aPublish) ∷ (4, anAck reasons) ∷ (8, aSubscribe) ∷ (12, aPing) ∷ (13, aPing) ∷ []
+kinds = (3, aPublish) ∷ (4, anAck reasons) ∷ (5, anAck reasons) ∷ (6, anAck releaseReasons) ∷ (7, anAck releaseReasons)
+    ∷ (8, aSubscribe) ∷ (9, aReply subAckReasons) ∷ (10, anUnsubscribe) ∷ (11, aReply unsubAckReasons) ∷ (12, aPing) ∷ (13, aPing) ∷ []
 
 -- 01, row 4: "k is 0 or 15"
 abbrev pub reserved : List ℕ
@@ -50,4 +72,20 @@ isPing none = false
 isPing (some aPublish) = false
 isPing (some (anAck rs)) = false
 isPing (some aSubscribe) = false
+isPing (some (aReply rs)) = false
+isPing (some anUnsubscribe) = false
 isPing (some aPing) = true
+
+-- the reasons that a layout lists; none where it lists none
+abbrev pub listed : Option Layout → List ℕ
+listed none = []
+listed (some aPublish) = []
+listed (some (anAck rs)) = rs
+listed (some aSubscribe) = []
+listed (some (aReply rs)) = rs
+listed (some anUnsubscribe) = []
+listed (some aPing) = []
+
+-- 02, P1: the reasons that a kind may give
+unfoldable pub reasonsOf : ℕ → List ℕ
+reasonsOf k = listed (lookup kinds k)

@@ -9,19 +9,19 @@ use native.Mathlib.Omega.{arith}
 use lib.ListN.{length, length-append}
 use borrow.Author.Tests.{not-false, not-true}
 use Rattle.grammar.specs.Choice.{isIn, lookup, isEmpty}
-use Rattle.grammar.specs.Gram.{done, more, Many}
+use Rattle.grammar.specs.Gram.{Gram, done, more, Many, Solid}
 use Rattle.grammar.specs.Text.{Utf8}
-use Rattle.grammar.specs.Tables.{Form, u8, u16, u32, number, text, bytes, pair, Place, publishPlace, subscribePlace, ackPlace, Layout, aPublish, anAck, aSubscribe, aPing, kinds, reserved, isPing}
-use Rattle.grammar.specs.Record.{num, str, Filter, kindOf, flagQos, mkPublish, mkAck, mkFilter, mkSubscribe, mkPing}
-use Rattle.grammar.specs.Sentence.{Prop, duoOf, Block, ackOf, notThree, notZero, qosFine, ruleFine, FilterOf, someOf, Packet}
+use Rattle.grammar.specs.Tables.{Form, u8, u16, u32, number, text, bytes, pair, Place, publishPlace, subscribePlace, ackPlace, unsubscribePlace, Layout, aPublish, anAck, aSubscribe, aReply, anUnsubscribe, aPing, kinds, reserved, isPing}
+use Rattle.grammar.specs.Record.{num, str, kindOf, flagQos, mkPublish, mkAck, mkFilter, mkSubscribe, mkReply, mkUnsubscribe, mkPing}
+use Rattle.grammar.specs.Sentence.{Text, Prop, duoOf, Block, ackOf, notThree, notZero, qosFine, ruleFine, someOf, ReasonOf, Packet}
 use Rattle.reading.specs.Refusal.{Refusal, nr, Answer, cut, crossed, lacking, within, over}
-use Rattle.reading.specs.Fault.{Sound, ManyFault, ExactFault, BytesFault, TextFault, ValueFault, PropertyFault, noId, unknown, value, BlockFault, AckFault, reason, block, IdentFault, FilterFault, FiltersFault, noFilters, filter, MessageFault, PublishFault, qos, fields, FieldsFault, BodyFault, kind, noBytes, foreign, content, FrameFault, Passing, Verdict, says, breaks, noFrame}
-use Rattle.reading.specs.Reader.{Fit, got, bad, isFit, onlyFit, exactFit, runFit, chainFit, manyFit}
-use Rattle.reading.specs.Read.{identOf, isText, anyBytes, asBytes, frameOf, bodyAnswer, stringFit, bytesOf, textOf, valueOf, valueAt, propertyOf, propertiesFit, blockOf, publishAs, subscribeAs, ackAs, ackBlockFit, ackRestFit, filterOf, filtersFit, messageFit, fieldsFit, layoutFit, bodyFit, wholeAnswer, frameAnswer, readAs, readOf}
+use Rattle.reading.specs.Fault.{Fault, Sound, ManyFault, ExactFault, BytesFault, TextFault, ValueFault, PropertyFault, noId, unknown, value, BlockFault, AckFault, reason, block, IdentFault, FilterFault, SomeFault, noEntry, entry, FiltersFault, ReasonFault, MessageFault, PublishFault, qos, fields, FieldsFault, BodyFault, kind, noBytes, foreign, content, FrameFault, Passing, Verdict, says, breaks, noFrame}
+use Rattle.reading.specs.Reader.{Fit, got, bad, Reader, isFit, onlyFit, exactFit, runFit, chainFit, manyFit}
+use Rattle.reading.specs.Read.{identOf, isText, anyBytes, asBytes, someFit, reasonsFit, frameOf, bodyAnswer, stringFit, bytesOf, textOf, valueOf, valueAt, propertyOf, propertiesFit, blockOf, publishAs, subscribeAs, ackAs, unsubscribeAs, ackBlockFit, ackRestFit, filterOf, filtersFit, topicsFit, messageFit, fieldsFit, layoutFit, bodyFit, wholeAnswer, frameAnswer, readAs, readOf}
 use Rattle.reading.proofs.Lists.{none-left}
-use Rattle.reading.proofs.Reading.{reads-only, fills-many}
+use Rattle.reading.proofs.Reading.{Reads, reads-only, fills-many}
 use Rattle.reading.proofs.Fields.{reads-byte, reads-big, reads-num, text-fine, reads-bytes, reads-text, reads-property, property-solid}
-use Rattle.reading.proofs.Packets.{reads-ack, reads-ident, reads-filter, filter-solid, reads-publish-block, reads-subscribe-block, kind-fine, fills-body}
+use Rattle.reading.proofs.Packets.{reads-ack, reads-ident, reads-filter, filter-solid, reads-publish-block, reads-subscribe-block, reads-unsubscribe-block, reason-solid, text-solid, kind-fine, fills-body}
 use Rattle.reading.proofs.Demand.{reads-length, reads-frame, whole-answer}
 use Rattle.reading.proofs.Refusing.{got-bad, of-bind, of-guard, RefusesBy, refuses-byte, refuses-big, refuses-num, refuses-none, refuses-map, refuses-fit, refuses-hand, refuses-then, refuses-end, refuses-only, refuses-exact, refuses-many, refuses-sized, refuses-is}
 
@@ -99,6 +99,29 @@ module _ (rs : List ℕ) (end : ℕ) where
   refuses-rest : RefusesBy (ackRestFit asBytes rs end) (AckFault rs)
   refuses-rest = record { fault = rest-fault; refuse = rest-refuse }
 
+-- ---- one or more, to the end
+
+module _ {A : Type 0} {p : Reader A} {G : Gram A} {F : Fault} (P : RefusesBy p F) (R : Reads p G) (S : Solid G) where
+  refuses-run : RefusesBy (manyFit p) (ManyFault G F)
+  refuses-run = refuses-many P R S
+
+  empty-run : (vs : List A) (s : List ℕ) → someOf vs ≡ false → Many G vs s → s ≡ []
+  empty-run _ _ h done = refl
+  empty-run _ _ h (more g m) = absurd (false≢true (sym h))
+
+  some-fault : (s : List ℕ) (k : Refusal) → someFit p s ≡ bad k → SomeFault G F s k
+  unfolding onlyFit
+  some-fault s k = of-bind (manyFit p s) _ k (λ e. entry (refuses-run .fault s k e)) λ vs e. of-guard (someOf vs) (nr 13 []) _ k
+      (λ h i. rw (empty-run vs s h (fills-many R S .back s vs e), ← i) noEntry) (λ _ e′. got-bad e′)
+
+  some-refuse : (s : List ℕ) (k : Refusal) → SomeFault G F s k → someFit p s ≡ bad k
+  unfolding onlyFit chainFit runFit
+  some-refuse _ _ noEntry = refl
+  some-refuse s k (entry h) = rw (refuses-run .refuse s k h)
+
+  refuses-some : RefusesBy (someFit p) (SomeFault G F)
+  refuses-some = record { fault = some-fault; refuse = some-refuse }
+
 module _ (end : ℕ) where
   refuses-filter : RefusesBy (filterOf asBytes end) FilterFault
   unfolding filterOf
@@ -107,25 +130,18 @@ module _ (end : ℕ) where
       (refuses-only (refuses-only (refuses-byte cut) (reads-byte cut) ruleFine (λ _. nr 14 (3 ∷ []))) (reads-only ruleFine (λ _. nr 14 (3 ∷ [])) (reads-byte cut)) qosFine (λ _. nr 11 (3 ∷ []))))
       mkFilter
 
-  refuses-run : RefusesBy (manyFit (filterOf asBytes end)) (ManyFault FilterOf FilterFault)
-  refuses-run = refuses-many refuses-filter (reads-filter end) filter-solid
-
-  empty-run : (fs : List (Filter (List ℕ))) (s : List ℕ) → someOf fs ≡ false → Many FilterOf fs s → s ≡ []
-  empty-run _ _ h done = refl
-  empty-run _ _ h (more g m) = absurd (false≢true (sym h))
-
-  filters-fault : (s : List ℕ) (k : Refusal) → filtersFit asBytes end s ≡ bad k → FiltersFault s k
-  unfolding filtersFit onlyFit
-  filters-fault s k = of-bind (manyFit (filterOf asBytes end) s) _ k (λ e. filter (refuses-run .fault s k e)) λ fs e. of-guard (someOf fs) (nr 13 []) _ k
-      (λ h i. rw (empty-run fs s h (fills-many (reads-filter end) filter-solid .back s fs e), ← i) noFilters) (λ _ e′. got-bad e′)
-
-  filters-refuse : (s : List ℕ) (k : Refusal) → FiltersFault s k → filtersFit asBytes end s ≡ bad k
-  unfolding filtersFit onlyFit chainFit runFit
-  filters-refuse _ _ noFilters = refl
-  filters-refuse s k (filter h) = rw (refuses-run .refuse s k h)
-
   refuses-filters : RefusesBy (filtersFit asBytes end) FiltersFault
-  refuses-filters = record { fault = filters-fault; refuse = filters-refuse }
+  unfolding filtersFit
+  refuses-filters = refuses-some refuses-filter (reads-filter end) filter-solid
+
+  refuses-topics : RefusesBy (topicsFit asBytes end) (SomeFault Text TextFault)
+  unfolding topicsFit
+  refuses-topics = refuses-some (refuses-text end) (reads-text end) text-solid
+
+refuses-reasons : (rs : List ℕ) (end : ℕ) → RefusesBy (reasonsFit rs end) (SomeFault (ReasonOf rs) (ReasonFault rs))
+unfolding reasonsFit
+refuses-reasons rs end =
+    refuses-some (refuses-only (refuses-byte cut) (reads-byte cut) (λ c. isIn c rs) (λ c. nr 15 (c ∷ []))) (reads-only (λ c. isIn c rs) (λ c. nr 15 (c ∷ [])) (reads-byte cut)) (reason-solid rs)
 
 refuses-ident : (q : ℕ) → RefusesBy (identOf q) (IdentFault q)
 unfolding identOf
@@ -162,6 +178,16 @@ module _ (x end : ℕ) where
       (refuses-end (refuses-big cut 2) (reads-big cut 2)
       (refuses-end (refuses-block subscribePlace (subscribeAs asBytes) end) (reads-subscribe-block end)
       (refuses-hand _ refuses-filters end)))
+  refuses-fields (aReply rs) =
+      refuses-fit (mkReply x)
+      (refuses-end (refuses-big cut 2) (reads-big cut 2)
+      (refuses-end (refuses-block ackPlace (ackAs asBytes) end) (reads-ack end)
+      (refuses-hand _ (refuses-reasons rs) end)))
+  refuses-fields anUnsubscribe =
+      refuses-fit mkUnsubscribe
+      (refuses-end (refuses-big cut 2) (reads-big cut 2)
+      (refuses-end (refuses-block unsubscribePlace (unsubscribeAs asBytes) end) (reads-unsubscribe-block end)
+      (refuses-hand _ refuses-topics end)))
   refuses-fields aPing = refuses-fit (mkPing x) sound
 
   -- ---- rows 4, 5 and 6

@@ -9,18 +9,19 @@ use native.Mathlib.Omega.{arith}
 use lib.Dec.{eqb, leb, leb→le}
 use lib.ListN.{length, take, drop, length-drop, take-append-drop}
 use lib.Seq.{length-take-le}
-use Rattle.grammar.specs.Gram.{Only, Many}
-use Rattle.grammar.specs.Tables.{Place, publishPlace, subscribePlace, ackPlace}
-use Rattle.grammar.specs.Record.{PropOf, allOf, PublishProps, SubscribeProps, AckProps, Filter, publish, ack, subscribe, ping}
-use Rattle.grammar.specs.Sentence.{Value, Prop, Property, FilterOf, someOf, Packet}
+use Rattle.grammar.specs.Gram.{Gram, Only, Many}
+use Rattle.grammar.specs.Tables.{Place, publishPlace, subscribePlace, ackPlace, unsubscribePlace, reasonsOf}
+use Rattle.grammar.specs.Record.{PropOf, allOf, PublishProps, SubscribeProps, AckProps, UnsubscribeProps, Filter, publish, ack, subscribe, reply, unsubscribe, ping}
+use Rattle.grammar.specs.Sentence.{Value, Prop, Text, Property, FilterOf, ReasonOf, someOf, Packet}
 use Rattle.reading.specs.Refusal.{Refusal, nr, accepted}
 use Rattle.reading.specs.Reader.{Fit, got, bad, Filler, _>>=_, _>>_, guard}
-use Rattle.reading.specs.Read.{Shape, asBytes, propertiesFit, filtersFit, readOf}
-use Rattle.reading.specs.Place.{Span, partOf, asPlaces, Placed, readPlacedOf, noItem, orNoItem, again, nthOf, valuesAt, userAt, subscriptionAt, filterAt, onGot, ifSome, sayVal, sayProp, sayFilter, sayPublishProps, saySubscribeProps, sayAckProps, say, Lists, OnBoth, neither, each, PublishItems, SubscribeItems, AckItems, Items, ofPublish, ofAck, ofSubscribe, ofPing}
+use Rattle.reading.specs.Read.{Shape, asBytes, reasonsFit, propertiesFit, filtersFit, topicsFit, readOf}
+use Rattle.reading.specs.Place.{Span, partOf, heldOf, asPlaces, Placed, readPlacedOf, noItem, orNoItem, again, nthOf, reasonAt, valuesAt, userAt, subscriptionAt, filterAt, topicAt, onGot, ifSome, sayVal, sayProp, sayFilter, sayPublishProps, saySubscribeProps, sayAckProps, sayUnsubscribeProps, say, Lists, OnBoth, neither, each, PublishItems, SubscribeItems, AckItems, UnsubscribeItems, Items, ofPublish, ofAck, ofSubscribe, ofReply, ofUnsubscribe, ofPing}
 use Rattle.reading.proofs.Lists.{T-of}
-use Rattle.reading.proofs.Reading.{bad-got, got-inj, from-got, from-bind}
+use Rattle.reading.proofs.Reading.{bad-got, got-inj, from-got, from-bind, Fills}
 use Rattle.reading.proofs.Forget.{Like, gots, bads, Via, like-bind, like-guard, like-is, Stands, Drops}
-use Rattle.reading.proofs.Places.{block-iff, run-iff, properties-says, filters-says, placed-accepted}
+use Rattle.reading.proofs.Places.{again-iff, block-iff, properties-says, filters-says, topics-says, placed-accepted}
+use Rattle.reading.proofs.Packets.{fills-filters, fills-reasons, fills-topics}
 use Rattle.reading.proofs.Refusing.{got-bad, of-bind}
 
 -- ---- any place within s
@@ -107,11 +108,20 @@ module _ (s : List ℕ) (p : Span) where
   unfolding subscriptionAt
   nth-subscription n = nth-value _ _ n
 
+  -- an entry of a list that f looks up
+  nth-entry : {A B : Type 0} (f : A → B) (q : ℕ → Filler (List A)) (q′ : ℕ → Filler (List B)) → ((e : ℕ) → Drops s e (Via (map f)) (q e) (q′ e)) → (n : ℕ)
+      → onGot f (again q s p >>= nthOf n) ≡ (again q′ s p >>= nthOf n)
+  nth-entry f q q′ H n =
+      like-is (again q s p >>= nthOf n) (again q′ s p >>= nthOf n) (onGot f) (λ _. refl) (λ _. refl)
+      (like-bind (again q s p) (again q′ s p) (nthOf n) (nthOf n) (again-like s H p) λ vs ws _ _ r. nth-like f n vs ws r)
+
   pub nth-filter : (n : ℕ) → onGot (sayFilter s) (filterAt asPlaces s p n) ≡ filterAt asBytes s p n
   unfolding filterAt
-  nth-filter n =
-      like-is (filterAt asPlaces s p n) (filterAt asBytes s p n) (onGot (sayFilter s)) (λ _. refl) (λ _. refl)
-      (like-bind (again (filtersFit asPlaces) s p) (again (filtersFit asBytes) s p) (nthOf n) (nthOf n) (again-like s (filters-says s) p) λ vs ws _ _ r. nth-like (sayFilter s) n vs ws r)
+  nth-filter n = nth-entry (sayFilter s) (filtersFit asPlaces) (filtersFit asBytes) (filters-says s) n
+
+  pub nth-topic : (n : ℕ) → onGot (heldOf s) (topicAt asPlaces s p n) ≡ topicAt asBytes s p n
+  unfolding topicAt
+  nth-topic n = nth-entry (heldOf s) (topicsFit asPlaces) (topicsFit asBytes) (topics-says s) n
 
 -- ---- 01, row 21, without the reader: an item is given exactly when the place holds a list that has it, and all else is 21
 
@@ -146,14 +156,34 @@ module _ (s : List ℕ) (p : Span) (n : ℕ) where
   unfolding subscriptionAt
   subscription-iff v = nth-iff publishPlace 11 v
 
+  -- an entry exactly when the place holds a list of the grammar that has so many
+  entry-iff : {A : Type 0} {q : ℕ → Filler (List A)} {G : Gram (List A)} → ((e : ℕ) → Fills (q e) G) → (a : A) → ((again q s p >>= nthOf n) ≡ got a)
+      ↔ ((vs : List A) × (p .start + p .len ≤ length s) × G vs (partOf s p) × (nthOf n vs ≡ got a))
+  entry-iff {q = q} S f = (
+    λ e. let (fs, a, b) = bind-iff (again q s p) (nthOf n) f .0 e in let (h, g) = again-iff S s p fs .0 a in (fs, h, g, b),
+    λ (fs, h, g, e). bind-iff (again q s p) (nthOf n) f .1 (fs, again-iff S s p fs .1 (h, g), e),
+  )
+
   -- an n-th filter exactly when it is a run of filters that has so many
   pub filter-iff : (f : Filter (List ℕ)) → (filterAt asBytes s p n ≡ got f)
       ↔ ((fs : List (Filter (List ℕ))) × (p .start + p .len ≤ length s) × Only someOf (Many FilterOf) fs (partOf s p) × (nthOf n fs ≡ got f))
   unfolding filterAt
-  filter-iff f = (
-    λ e. let (fs, a, b) = bind-iff (again (filtersFit asBytes) s p) (nthOf n) f .0 e in let (h, g) = run-iff s p fs .0 a in (fs, h, g, b),
-    λ (fs, h, g, e). bind-iff (again (filtersFit asBytes) s p) (nthOf n) f .1 (fs, run-iff s p fs .1 (h, g), e),
-  )
+  filter-iff f = entry-iff fills-filters f
+
+  -- an n-th reason exactly when it is a run of reasons of the list that has so many
+  pub reason-iff : (rs : List ℕ) (c : ℕ) → (reasonAt s p rs n ≡ got c)
+      ↔ ((cs : List ℕ) × (p .start + p .len ≤ length s) × Only someOf (Many (ReasonOf rs)) cs (partOf s p) × (nthOf n cs ≡ got c))
+  unfolding reasonAt
+  reason-iff rs c = entry-iff (fills-reasons rs) c
+
+  -- an n-th topic exactly when it is a run of texts that has so many
+  pub topic-iff : (t : List ℕ) → (topicAt asBytes s p n ≡ got t)
+      ↔ ((ts : List (List ℕ)) × (p .start + p .len ≤ length s) × Only someOf (Many Text) ts (partOf s p) × (nthOf n ts ≡ got t))
+  unfolding topicAt
+  topic-iff t = entry-iff fills-topics t
+
+entry-only : {A : Type 0} (s : List ℕ) (p : Span) (k : Refusal) (q : ℕ → Filler (List A)) (n : ℕ) → (again q s p >>= nthOf n) ≡ bad k → k ≡ nr 21 []
+entry-only s p k q n = of-bind (again q s p) (nthOf n) k (again-bad q s p k) (λ vs e. nth-bad n vs k)
 
 module _ (h : Shape) (s : List ℕ) (p : Span) (k : Refusal) where
   -- no other refusal is given, whatever the bytes, the place and n
@@ -167,7 +197,15 @@ module _ (h : Shape) (s : List ℕ) (p : Span) (k : Refusal) where
 
   pub filter-only : (n : ℕ) → filterAt h s p n ≡ bad k → k ≡ nr 21 []
   unfolding filterAt
-  filter-only n = of-bind (again (filtersFit h) s p) _ k (again-bad (filtersFit h) s p k) (λ vs e. nth-bad n vs k)
+  filter-only n = entry-only s p k (filtersFit h) n
+
+  pub topic-only : (n : ℕ) → topicAt h s p n ≡ bad k → k ≡ nr 21 []
+  unfolding topicAt
+  topic-only n = entry-only s p k (topicsFit h) n
+
+pub reason-only : (s : List ℕ) (p : Span) (k : Refusal) (rs : List ℕ) (n : ℕ) → reasonAt s p rs n ≡ bad k → k ≡ nr 21 []
+unfolding reasonAt
+reason-only s p k rs n = entry-only s p k (reasonsFit rs) n
 
 -- ---- what was read of what is present
 
@@ -194,6 +232,18 @@ module _ (s : List ℕ) where
   unfolding filterAt
   filter-lists p fs e n = nth-filter s p n ∙ rw e
 
+  topic-lists : (p : Span) (ts : List (List ℕ)) → again (topicsFit asBytes) s p ≡ got ts → Lists (topicAt asPlaces s p) (heldOf s) ts
+  unfolding topicAt
+  topic-lists p ts e n = nth-topic s p n ∙ rw e
+
+  as-it-is : {A : Type 0} (m : Fit A) → onGot (λ a. a) m ≡ m
+  as-it-is (got a) = refl
+  as-it-is (bad k) = refl
+
+  reason-lists : (p : Span) (rs cs : List ℕ) → again (reasonsFit rs) s p ≡ got cs → Lists (reasonAt s p rs) (λ c. c) cs
+  unfolding reasonAt
+  reason-lists p rs cs e n = as-it-is (again (reasonsFit rs) s p >>= nthOf n) ∙ rw e
+
   publish-items : (ps : PublishProps Span (λ A. Span)) (qs : PublishProps (List ℕ) List) → sayPublishProps s ps ≡ got qs → PublishItems s ps qs
   publish-items ps =
       from-bind (valuesAt asBytes s (ps .user) publishPlace 38) _ λ us e.
@@ -206,12 +256,19 @@ module _ (s : List ℕ) where
   ack-items : (ps : AckProps Span (λ A. Span)) (qs : AckProps (List ℕ) List) → sayAckProps s ps ≡ got qs → AckItems s ps qs
   ack-items ps = from-bind (valuesAt asBytes s (ps .user) ackPlace 38) _ λ us e. from-got (AckItems s ps) _ (user-lists ackPlace (ps .user) us e)
 
+  unsubscribe-items : (ps : UnsubscribeProps Span (λ A. Span)) (qs : UnsubscribeProps (List ℕ) List) → sayUnsubscribeProps s ps ≡ got qs → UnsubscribeItems s ps qs
+  unsubscribe-items ps = from-bind (valuesAt asBytes s (ps .user) unsubscribePlace 38) _ λ us e. from-got (UnsubscribeItems s ps) _ (user-lists unsubscribePlace (ps .user) us e)
+
   -- so of any placed record that says w
   pub say-items : (v : Placed) (w : Packet) → say s v ≡ got w → Items s v w
   say-items (publish m) = from-bind (ifSome (sayPublishProps s) (m .props)) _ λ ps e. from-got (Items s (publish m)) _ (ofPublish (if-some (sayPublishProps s) publish-items (m .props) ps e))
   say-items (ack k m) = from-bind (ifSome (sayAckProps s) (m .props)) _ λ ps e. from-got (Items s (ack k m)) _ (ofAck (if-some (sayAckProps s) ack-items (m .props) ps e))
   say-items (subscribe m) = from-bind (ifSome (saySubscribeProps s) (m .props)) _ λ ps e. from-bind (again (filtersFit asBytes) s (m .filters)) _ λ fs e′.
       from-got (Items s (subscribe m)) _ (ofSubscribe (if-some (saySubscribeProps s) subscribe-items (m .props) ps e) (filter-lists (m .filters) fs e′))
+  say-items (reply k m) = from-bind (ifSome (sayAckProps s) (m .props)) _ λ ps e. from-bind (again (reasonsFit (reasonsOf k)) s (m .reasons)) _ λ cs e′.
+      from-got (Items s (reply k m)) _ (ofReply (if-some (sayAckProps s) ack-items (m .props) ps e) (reason-lists (m .reasons) (reasonsOf k) cs e′))
+  say-items (unsubscribe m) = from-bind (ifSome (sayUnsubscribeProps s) (m .props)) _ λ ps e. from-bind (again (topicsFit asBytes) s (m .topics)) _ λ ts e′.
+      from-got (Items s (unsubscribe m)) _ (ofUnsubscribe (if-some (sayUnsubscribeProps s) unsubscribe-items (m .props) ps e) (topic-lists (m .topics) ts e′))
   say-items (ping k) = from-got (Items s (ping k)) (ping k) ofPing
 
 -- 01: of a record that was read, with places v and in bytes w: the items from 0 on are w's lists, in order, and then 21

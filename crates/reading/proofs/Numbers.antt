@@ -6,10 +6,10 @@ use mathlib.Core.List.{List, [], _∷_}
 use Prim.Native.Nat.{ℕ, zero, suc}
 use Rattle.grammar.specs.Choice.{isIn}
 use Rattle.grammar.specs.Gram.{Gram}
-use Rattle.grammar.specs.Tables.{Form, u8, u16, u32, number, text, bytes, pair, Place, Layout, aPublish, anAck, aSubscribe, aPing}
+use Rattle.grammar.specs.Tables.{Form, u8, u16, u32, number, text, bytes, pair, Place, Layout, aPublish, anAck, aSubscribe, aReply, anUnsubscribe, aPing}
 use Rattle.grammar.specs.Record.{flagQos}
 use Rattle.reading.specs.Refusal.{Refusal, nr}
-use Rattle.reading.specs.Fault.{Fault, Sound, OnlyFault, under, fails, ThenFault, first, second, SizedFault, sizes, crosses, fills, ManyFault, now, later, ExactFault, before, follows, IsFault, isnt, ByteFault, noByte, BigFault, fewer, NumFault, endless, long, BytesFault, TextFault, ValueFault, PropertyFault, noId, unknown, value, BlockFault, AckFault, reason, block, IdentFault, FiltersFault, noFilters, filter, PublishFault, qos, fields, FieldsFault}
+use Rattle.reading.specs.Fault.{Fault, Sound, OnlyFault, under, fails, ThenFault, first, second, SizedFault, sizes, crosses, fills, ManyFault, now, later, ExactFault, before, follows, IsFault, isnt, ByteFault, noByte, BigFault, fewer, NumFault, endless, long, BytesFault, TextFault, ValueFault, PropertyFault, noId, unknown, value, BlockFault, AckFault, reason, block, IdentFault, SomeFault, noEntry, entry, FiltersFault, PublishFault, qos, fields, FieldsFault}
 use Rattle.reading.specs.Rows.{Breaks}
 use Rattle.reading.specs.Demand.{ofFields}
 
@@ -88,9 +88,12 @@ kept-ident : (q : ℕ) → Kept (IdentFault q)
 kept-ident zero = kept-sound
 kept-ident (suc q) = kept-only (λ _. refl) (kept-big refl)
 
+kept-some : {A : Type 0} {G : Gram A} {F : Fault} → Kept F → Kept (SomeFault G F)
+kept-some K _ _ noEntry = refl
+kept-some K s k (entry f) = kept-many K s k f
+
 kept-filters : Kept FiltersFault
-kept-filters _ _ noFilters = refl
-kept-filters s k (filter f) = kept-many (kept-then kept-text (kept-only (λ _. refl) (kept-only (λ _. refl) (kept-byte refl)))) s k f
+kept-filters = kept-some (kept-then kept-text (kept-only (λ _. refl) (kept-only (λ _. refl) (kept-byte refl))))
 
 kept-publish : (x : ℕ) → Kept (PublishFault x)
 kept-publish x _ _ (qos h) = refl
@@ -100,6 +103,8 @@ kept-fields : (f : Layout) (x : ℕ) → Kept (FieldsFault f x)
 kept-fields aPublish x = kept-publish x
 kept-fields (anAck rs) x = kept-then (kept-big refl) (kept-ack rs)
 kept-fields aSubscribe x = kept-then (kept-big refl) (kept-then (kept-block _) kept-filters)
+kept-fields (aReply rs) x = kept-then (kept-big refl) (kept-then (kept-block _) (kept-some (kept-only (λ _. refl) (kept-byte refl))))
+kept-fields anUnsubscribe x = kept-then (kept-big refl) (kept-then (kept-block _) (kept-some kept-text))
 kept-fields aPing x = kept-sound
 
 -- so of a frame whose fields break

@@ -8,14 +8,14 @@ use lib.Dec.{eqb}
 use borrow.Author.Tests.{eqb-true}
 use Rattle.grammar.specs.Choice.{isIn, lookup, isEmpty}
 use Rattle.grammar.specs.Gram.{Gram, Only, only, Many, Solid}
-use Rattle.grammar.specs.Tables.{publishPlace, subscribePlace, ackPlace, Layout, aPublish, anAck, aSubscribe, aPing, kinds, reserved, isPing}
-use Rattle.grammar.specs.Record.{AckProps, kindOf, flagQos, mkPublish, mkAck, mkFilter, mkSubscribe, mkPing}
-use Rattle.grammar.specs.Sentence.{Any, Block, publishOf, subscribeOf, ackOf, notThree, notZero, Ident, publishGood, qosFine, ruleFine, FilterOf, someOf, AckRest, plain, coded, full, Packet, Fields, Body, body}
+use Rattle.grammar.specs.Tables.{publishPlace, subscribePlace, ackPlace, unsubscribePlace, Layout, aPublish, anAck, aSubscribe, aReply, anUnsubscribe, aPing, kinds, reserved, isPing}
+use Rattle.grammar.specs.Record.{AckProps, kindOf, flagQos, mkPublish, mkAck, mkFilter, mkSubscribe, mkReply, mkUnsubscribe, mkPing}
+use Rattle.grammar.specs.Sentence.{Any, Text, Block, publishOf, subscribeOf, ackOf, unsubscribeOf, notThree, notZero, Ident, publishGood, qosFine, ruleFine, FilterOf, someOf, AckRest, plain, coded, full, ReasonOf, Packet, Fields, Body, body}
 use Rattle.reading.specs.Refusal.{Refusal, cut}
 use Rattle.reading.specs.Reader.{got, Filler, _>>=_, _>>_, guard}
-use Rattle.reading.specs.Read.{identOf, anyBytes, asBytes, blockOf, publishAs, subscribeAs, ackAs, ackBlockFit, ackRestFit, filterOf, filtersFit, messageFit, fieldsFit, layoutFit, bodyFit}
+use Rattle.reading.specs.Read.{identOf, anyBytes, asBytes, reasonsFit, blockOf, publishAs, subscribeAs, ackAs, unsubscribeAs, ackBlockFit, ackRestFit, filterOf, filtersFit, topicsFit, messageFit, fieldsFit, layoutFit, bodyFit}
 use Rattle.reading.proofs.Reading.{bad-got, from-got, from-bind, from-guard, Reads, Fills, reads-none, reads-map, reads-only, reads-then, fills-map, fills-as, fills-many, fills-then, fills-exact, fills-only, fills-is, solid-map, solid-then, solid-sized, solid-only}
-use Rattle.reading.proofs.Fields.{reads-byte, reads-big, big-solid, any-fine, fills-string, reads-bytes, reads-text, reads-block, block-solid}
+use Rattle.reading.proofs.Fields.{reads-byte, byte-solid, reads-big, big-solid, any-fine, fills-string, reads-bytes, reads-text, reads-block, block-solid}
 
 -- ---- PubAck
 
@@ -74,6 +74,25 @@ reads-publish-block = reads-block publishPlace (publishAs asBytes) publishOf (λ
 pub reads-subscribe-block : (end : ℕ) → Reads (blockOf asBytes subscribePlace (subscribeAs asBytes) end) (Block subscribePlace subscribeOf)
 reads-subscribe-block = reads-block subscribePlace (subscribeAs asBytes) subscribeOf (λ _ _ _. refl)
 
+pub reads-unsubscribe-block : (end : ℕ) → Reads (blockOf asBytes unsubscribePlace (unsubscribeAs asBytes) end) (Block unsubscribePlace unsubscribeOf)
+reads-unsubscribe-block = reads-block unsubscribePlace (unsubscribeAs asBytes) unsubscribeOf (λ _ _ _. refl)
+
+-- ---- reasons and topics
+
+pub reason-solid : (rs : List ℕ) → Solid (ReasonOf rs)
+reason-solid rs = solid-only (λ c. isIn c rs) byte-solid
+
+pub fills-reasons : (rs : List ℕ) (end : ℕ) → Fills (reasonsFit rs end) (Only someOf (Many (ReasonOf rs)))
+unfolding reasonsFit
+fills-reasons rs end = fills-only someOf _ (fills-many (reads-only (λ c. isIn c rs) _ (reads-byte _)) (reason-solid rs))
+
+pub text-solid : Solid Text
+text-solid = solid-sized (big-solid 1)
+
+pub fills-topics : (end : ℕ) → Fills (topicsFit asBytes end) (Only someOf (Many Text))
+unfolding topicsFit
+fills-topics end = fills-only someOf _ (fills-many (reads-text end) text-solid)
+
 -- ---- every layout
 
 module _ {q : Filler Packet} {G : Gram Packet} (t : Bool) (k : Refusal) (S : Fills q G) where
@@ -102,6 +121,16 @@ fills-fields aSubscribe x end =
     (fills-then (reads-big cut 2)
     (λ _. fills-then (reads-subscribe-block end)
     (λ _. fills-as fills-filters end)))
+fills-fields (aReply rs) x end =
+    fills-map (mkReply x)
+    (fills-then (reads-big cut 2)
+    (λ _. fills-then (reads-ack end)
+    (λ _. fills-as (fills-reasons rs) end)))
+fills-fields anUnsubscribe x end =
+    fills-map mkUnsubscribe
+    (fills-then (reads-big cut 2)
+    (λ _. fills-then (reads-unsubscribe-block end)
+    (λ _. fills-as fills-topics end)))
 fills-fields aPing x end = fills-map (mkPing x) (fills-is anyBytes Any cut any-fine)
 
 -- ---- the body
@@ -115,6 +144,8 @@ bytes-fine : (f : Layout) (x : ℕ) (v : Packet) (b : List ℕ) → Fields f x v
 bytes-fine aPublish x v b g = held (solid-only (publishGood x) (solid-map (mkPublish x) (solid-then (solid-sized (big-solid 1))))) v b g
 bytes-fine (anAck rs) x v b g = held (solid-map (mkAck x) (solid-then (big-solid 1))) v b g
 bytes-fine aSubscribe x v b g = held (solid-map mkSubscribe (solid-then (big-solid 1))) v b g
+bytes-fine (aReply rs) x v b g = held (solid-map (mkReply x) (solid-then (big-solid 1))) v b g
+bytes-fine anUnsubscribe x v b g = held (solid-map mkUnsubscribe (solid-then (big-solid 1))) v b g
 bytes-fine aPing x v b g = refl
 
 -- a kind that is carried is neither 0 nor 15

@@ -13,17 +13,17 @@ use borrow.Author.Tests.{le-leb}
 use Rattle.grammar.specs.Choice.{isIn, lookup, isEmpty}
 use Rattle.grammar.specs.Gram.{Gram, Only, both, sized, Many, is}
 use Rattle.grammar.specs.Number.{byte}
-use Rattle.grammar.specs.Tables.{Form, u8, u16, u32, number, text, bytes, pair, Place, publishPlace, subscribePlace, ackPlace, Layout, aPublish, anAck, aSubscribe, aPing, kinds, reserved, isPing}
-use Rattle.grammar.specs.Record.{Val, num, str, PropOf, lastFrom, lastOf, allOf, unlessEmpty, publishProps, subscribeProps, AckProps, ackProps, Filter, kindOf, flagQos, mkPublish, mkAck, mkFilter, mkSubscribe, mkPing}
+use Rattle.grammar.specs.Tables.{Form, u8, u16, u32, number, text, bytes, pair, Place, publishPlace, subscribePlace, ackPlace, unsubscribePlace, Layout, aPublish, anAck, aSubscribe, aReply, anUnsubscribe, aPing, kinds, reserved, isPing, listed, reasonsOf}
+use Rattle.grammar.specs.Record.{Val, num, str, PropOf, lastFrom, lastOf, allOf, unlessEmpty, publishProps, subscribeProps, AckProps, ackProps, unsubscribeProps, kindOf, flagQos, mkPublish, mkAck, mkFilter, mkSubscribe, mkReply, mkUnsubscribe, mkPing}
 use Rattle.grammar.specs.Sentence.{Value, Prop, duoOf, Property, notThree, FilterOf, someOf, Packet, Frame}
 use Rattle.reading.specs.Refusal.{Refusal, nr, Answer, accepted, refused, cut, crossed}
 use Rattle.reading.specs.Reader.{Fit, got, bad, Filler, _>>_, guard, isFit}
-use Rattle.reading.specs.Read.{bigOf, byteOf, numOf, identOf, isText, anyBytes, asBytes, frameOf, bodyAnswer, stringFit, bytesOf, textOf, valueOf, valueAt, propertyOf, propertiesFit, blockOf, publishAs, subscribeAs, ackAs, ackBlockFit, ackRestFit, filterOf, filtersFit, messageFit, fieldsFit, layoutFit, bodyFit, wholeAnswer, frameAnswer, readAs, readOf}
-use Rattle.reading.specs.Place.{Span, spanOf, partOf, heldOf, asPlaces, Placed, readPlacedOf, noItem, orNoItem, again, valuesAt, onGot, onSome, ifSome, sayVal, sayProp, sayFilter, sayPublishProps, saySubscribeProps, sayAckProps, say, sayAnswer}
+use Rattle.reading.specs.Read.{bigOf, byteOf, numOf, identOf, isText, anyBytes, asBytes, reasonsFit, frameOf, bodyAnswer, stringFit, bytesOf, textOf, valueOf, valueAt, propertyOf, propertiesFit, blockOf, publishAs, subscribeAs, ackAs, unsubscribeAs, ackBlockFit, ackRestFit, filterOf, filtersFit, topicsFit, messageFit, fieldsFit, layoutFit, bodyFit, wholeAnswer, frameAnswer, readAs, readOf}
+use Rattle.reading.specs.Place.{Span, spanOf, partOf, heldOf, asPlaces, Placed, readPlacedOf, noItem, orNoItem, again, valuesAt, onGot, onSome, ifSome, sayVal, sayProp, sayFilter, sayPublishProps, saySubscribeProps, sayAckProps, sayUnsubscribeProps, say, sayAnswer}
 use Rattle.reading.proofs.Lists.{T-of}
 use Rattle.reading.proofs.Reading.{bad-got, got-inj, from-got, from-guard, Fills}
 use Rattle.reading.proofs.Fields.{reads-big, reads-num, reads-bytes, reads-text, reads-property, fills-properties}
-use Rattle.reading.proofs.Packets.{reads-ident, reads-filter, fills-filters, reads-publish-block, reads-subscribe-block}
+use Rattle.reading.proofs.Packets.{reads-ack, reads-ident, reads-filter, fills-filters, reads-publish-block, reads-subscribe-block, reads-unsubscribe-block, fills-reasons, fills-topics}
 use Rattle.reading.proofs.Demand.{no-accept, reads-length, reads-frame}
 use Rattle.reading.proofs.Forget.{Like, gots, bads, Via, Reading, Both, First, like-bind, like-guard, Stands, stands-rest, stands-within, stands-span, stands-held, Forgets, Drops, forgets-same, drops-same, forgets-map, drops-exact, forgets-then, drops-then, drops-many, drops-map, drops-only, drops-hand, forgets-sized}
 
@@ -40,7 +40,7 @@ module _ {A : Type 0} {q : ℕ → Filler A} {G : Gram A} (S : (e : ℕ) → Fil
   fills-there false h e = absurd (bad-got e)
 
   -- the place lies within the bytes, and v fills it
-  again-iff : (again q s p ≡ got v) ↔ ((p .start + p .len ≤ length s) × G v (partOf s p))
+  pub again-iff : (again q s p ≡ got v) ↔ ((p .start + p .len ≤ length s) × G v (partOf s p))
   unfolding again
   again-iff = (
     fills-there (leb (p .start + p .len) (length s)) refl,
@@ -49,9 +49,6 @@ module _ {A : Type 0} {q : ℕ → Filler A} {G : Gram A} (S : (e : ℕ) → Fil
 
 pub block-iff : (place : Place) (s : List ℕ) (p : Span) (ps : List Prop) → (again (propertiesFit asBytes place) s p ≡ got ps) ↔ ((p .start + p .len ≤ length s) × Many (Property place) ps (partOf s p))
 block-iff place s p ps = again-iff (fills-properties place) s p ps
-
-pub run-iff : (s : List ℕ) (p : Span) (fs : List (Filter (List ℕ))) → (again (filtersFit asBytes) s p ≡ got fs) ↔ ((p .start + p .len ≤ length s) × Only someOf (Many FilterOf) fs (partOf s p))
-run-iff s p fs = again-iff fills-filters s p fs
 
 -- so where it was read once
 again-right : {s : List ℕ} {end : ℕ} {A : Type 0} {q : ℕ → Filler A} {G : Gram A} → ((e : ℕ) → Fills (q e) G) → (b : List ℕ) (v : A) → Stands s end b → q end b ≡ got v → again q s (spanOf b end) ≡ got v
@@ -160,17 +157,26 @@ module _ (s : List ℕ) where
   unfolding ackProps
   ack-as end ps b w e = unless-says _ _ _ ps (rw (values-right ackPlace 38 b (map (sayProp s) ps) w e, last-says 31 ps))
 
+  unsubscribe-as : (end : ℕ) (ps : List (PropOf Span)) (b : List ℕ) → Stands s end b → propertiesFit asBytes unsubscribePlace end b ≡ got (map (sayProp s) ps)
+      → ifSome (sayUnsubscribeProps s) (unsubscribeAs asPlaces ps b end) ≡ got (unsubscribeAs asBytes (map (sayProp s) ps) b end)
+  unfolding unsubscribeProps
+  unsubscribe-as end ps b w e = unless-says _ _ _ ps (rw (values-right unsubscribePlace 38 b (map (sayProp s) ps) w e))
+
   pub filter-says : (end : ℕ) → Forgets s end (Via (sayFilter s)) (filterOf asPlaces end) (filterOf asBytes end)
   unfolding filterOf
   filter-says end = forgets-map (forgets-then (text-says end) (reads-text end) (forgets-same _)) mkFilter mkFilter (λ a b r. rw (r .0, r .1))
 
-  some-says : (fs : List (Filter Span)) (gs : List (Filter (List ℕ))) → map (sayFilter s) fs ≡ gs → someOf fs ≡ someOf gs
-  some-says [] gs e = rw (← e)
-  some-says (f ∷ fs) gs e = rw (← e)
+  some-says : {A B : Type 0} (g : A → B) (fs : List A) (gs : List B) → map g fs ≡ gs → someOf fs ≡ someOf gs
+  some-says g [] gs e = rw (← e)
+  some-says g (f ∷ fs) gs e = rw (← e)
 
   pub filters-says : (end : ℕ) → Drops s end (Via (map (sayFilter s))) (filtersFit asPlaces end) (filtersFit asBytes end)
   unfolding filtersFit
-  filters-says end = drops-only (drops-many (filter-says end) (reads-filter end)) someOf someOf (nr 13 []) some-says
+  filters-says end = drops-only (drops-many (filter-says end) (reads-filter end)) someOf someOf (nr 13 []) (some-says (sayFilter s))
+
+  pub topics-says : (end : ℕ) → Drops s end (Via (map (heldOf s))) (topicsFit asPlaces end) (topicsFit asBytes end)
+  unfolding topicsFit
+  topics-says end = drops-only (drops-many (text-says end) (reads-text end)) someOf someOf (nr 13 []) (some-says (heldOf s))
 
   -- ---- acknowledgements
 
@@ -206,31 +212,48 @@ module _ (s : List ℕ) where
       (string-says anyBytes cut end))))
       (mkPublish x) (mkPublish x) (λ a b r. rw (r .1 .1 .0, r .0, r .1 .0, r .1 .1 .1))
 
-  fields-like : (f : Layout) (x end : ℕ) (l : List ℕ) → Stands s end l → Like (Reading (say s)) (fieldsFit asPlaces f x end l) (fieldsFit asBytes f x end l)
+  -- a kind's reasons are those of its layout
+  kind-lists : (k : ℕ) (f : Layout) → lookup kinds k ≡ some f → reasonsOf k ≡ listed (some f)
+  unfolding reasonsOf
+  kind-lists k f e = ap listed e
+
+  fields-like : (f : Layout) (x end : ℕ) → lookup kinds (kindOf x) ≡ some f → (l : List ℕ) → Stands s end l → Like (Reading (say s)) (fieldsFit asPlaces f x end l) (fieldsFit asBytes f x end l)
   unfolding fieldsFit
-  fields-like aPublish x end l w =
+  fields-like aPublish x end q l w =
       like-guard (notThree (flagQos x)) (nr 11 (3 ∷ [])) (messageFit asPlaces x end l) (messageFit asBytes x end l) λ _. message-says x end .like l w
-  fields-like (anAck rs) x end l w =
+  fields-like (anAck rs) x end q l w =
       drops-map (drops-then (forgets-same (bigOf cut 2)) (reads-big cut 2) (rest-says rs end)) {Q = Reading (say s)} (mkAck x) (mkAck x) (λ a b r. rw (r .1 .1, r .0, r .1 .0)) .like l w
-  fields-like aSubscribe x end l w =
+  fields-like aSubscribe x end q l w =
       drops-map
       (drops-then (forgets-same (bigOf cut 2)) (reads-big cut 2)
       (drops-then (block-says subscribePlace (subscribeAs asPlaces) (subscribeAs asBytes) (ifSome (saySubscribeProps s)) subscribe-as end) (reads-subscribe-block end)
       (drops-hand filters-says end (Reading (again (filtersFit asBytes) s)) _ _ (λ fs gs b w′ e r. again-right fills-filters b gs w′ e))))
       {Q = Reading (say s)} mkSubscribe mkSubscribe (λ a b r. rw (r .1 .0, r .1 .1, r .0)) .like l w
-  fields-like aPing x end l w = drops-map (drops-same (isFit anyBytes cut)) {Q = Reading (say s)} (mkPing x) (mkPing x) (λ a b r. refl) .like l w
+  fields-like (aReply rs) x end q l w =
+      drops-map
+      (drops-then (forgets-same (bigOf cut 2)) (reads-big cut 2)
+      (drops-then (block-says ackPlace (ackAs asPlaces) (ackAs asBytes) (ifSome (sayAckProps s)) ack-as end) (reads-ack end)
+      (drops-hand (λ e. drops-same (reasonsFit rs e)) end (Reading (again (reasonsFit rs) s)) _ _ (λ cs ds b w′ e r. again-right (fills-reasons rs) b ds w′ e))))
+      {Q = Reading (say s)} (mkReply x) (mkReply x) (λ a b r. rw (kind-lists (kindOf x) (aReply rs) q, r .1 .0, r .1 .1, r .0)) .like l w
+  fields-like anUnsubscribe x end q l w =
+      drops-map
+      (drops-then (forgets-same (bigOf cut 2)) (reads-big cut 2)
+      (drops-then (block-says unsubscribePlace (unsubscribeAs asPlaces) (unsubscribeAs asBytes) (ifSome (sayUnsubscribeProps s)) unsubscribe-as end) (reads-unsubscribe-block end)
+      (drops-hand topics-says end (Reading (again (topicsFit asBytes) s)) _ _ (λ ts us b w′ e r. again-right fills-topics b us w′ e))))
+      {Q = Reading (say s)} mkUnsubscribe mkUnsubscribe (λ a b r. rw (r .1 .0, r .1 .1, r .0)) .like l w
+  fields-like aPing x end q l w = drops-map (drops-same (isFit anyBytes cut)) {Q = Reading (say s)} (mkPing x) (mkPing x) (λ a b r. refl) .like l w
 
-  layout-like : (o : Option Layout) (x end : ℕ) (l : List ℕ) → Stands s end l → Like (Reading (say s)) (layoutFit asPlaces o x end l) (layoutFit asBytes o x end l)
+  layout-like : (o : Option Layout) (x end : ℕ) → lookup kinds (kindOf x) ≡ o → (l : List ℕ) → Stands s end l → Like (Reading (say s)) (layoutFit asPlaces o x end l) (layoutFit asBytes o x end l)
   unfolding layoutFit
-  layout-like none x end l w = bads
-  layout-like (some f) x end l w = fields-like f x end l w
+  layout-like none x end q l w = bads
+  layout-like (some f) x end q l w = fields-like f x end q l w
 
   body-like : (x end : ℕ) (l : List ℕ) → Stands s end l → Like (Reading (say s)) (bodyFit asPlaces x end l) (bodyFit asBytes x end l)
   unfolding bodyFit
   body-like x end l w =
       like-guard (not (isIn (kindOf x) reserved)) (nr 4 (kindOf x ∷ [])) _ _ λ _.
       like-guard (isPing (lookup kinds (kindOf x)) || not (isEmpty l)) (nr 5 []) _ _ λ _.
-      layout-like (lookup kinds (kindOf x)) x end l w
+      layout-like (lookup kinds (kindOf x)) x end refl l w
 
   answer-like : (n : ℕ) (m : Fit Placed) (m′ : Fit Packet) → Like (Reading (say s)) m m′ → sayAnswer s (bodyAnswer n m) ≡ got (bodyAnswer n m′)
   unfolding bodyAnswer

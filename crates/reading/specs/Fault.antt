@@ -10,9 +10,9 @@ use Rattle.grammar.specs.Choice.{isIn, lookup, isEmpty}
 use Rattle.grammar.specs.Gram.{Gram, Only}
 use Rattle.grammar.specs.Number.{Byte, Big, Spells}
 use Rattle.grammar.specs.Text.{Utf8}
-use Rattle.grammar.specs.Tables.{Form, u8, u16, u32, number, text, bytes, pair, Place, publishPlace, subscribePlace, ackPlace, Layout, aPublish, anAck, aSubscribe, aPing, kinds, reserved, isPing}
+use Rattle.grammar.specs.Tables.{Form, u8, u16, u32, number, text, bytes, pair, Place, publishPlace, subscribePlace, ackPlace, unsubscribePlace, Layout, aPublish, anAck, aSubscribe, aReply, anUnsubscribe, aPing, kinds, reserved, isPing}
 use Rattle.grammar.specs.Record.{kindOf, flagQos}
-use Rattle.grammar.specs.Sentence.{Bytes, Text, Property, Block, publishOf, subscribeOf, ackOf, notThree, notZero, Ident, qosFine, ruleFine, FilterOf, Packet, Body, Frame}
+use Rattle.grammar.specs.Sentence.{Bytes, Text, Property, Block, publishOf, subscribeOf, ackOf, unsubscribeOf, notThree, notZero, Ident, qosFine, ruleFine, FilterOf, ReasonOf, Packet, Body, Frame}
 use Rattle.reading.specs.Refusal.{Refusal, nr, Answer, accepted, refused, lacking, within, over}
 
 -- bytes, and the refusal with which they break
@@ -124,10 +124,18 @@ IdentFault (suc q) = OnlyFault notZero (λ _. nr 12 []) (Big 2) (BigFault (nr 7 
 abbrev pub FilterFault : Fault
 FilterFault = ThenFault Text TextFault (OnlyFault qosFine (λ _. nr 11 (3 ∷ [])) (Only ruleFine Byte) (OnlyFault ruleFine (λ _. nr 14 (3 ∷ [])) Byte (ByteFault (nr 7 []))))
 
--- 01, row 13: "no filters"
-pub data FiltersFault : List ℕ → Refusal → Type 0 where
-  noFilters : FiltersFault [] (nr 13 [])
-  filter : {s : List ℕ} {k : Refusal} → ManyFault FilterOf FilterFault s k → FiltersFault s k
+-- 01, row 13: "no filters"; 02, P1: "with no entry gets 13"
+pub data SomeFault {A : Type 0} (G : Gram A) (F : Fault) : List ℕ → Refusal → Type 0 where
+  noEntry : SomeFault G F [] (nr 13 [])
+  entry : {s : List ℕ} {k : Refusal} → ManyFault G F s k → SomeFault G F s k
+
+-- 01, rows 13, 14 and 11
+abbrev pub FiltersFault : Fault
+FiltersFault = SomeFault FilterOf FilterFault
+
+-- 02, P1: "an unlisted reason 15"
+abbrev pub ReasonFault : List ℕ → Fault
+ReasonFault rs = OnlyFault (λ c. isIn c rs) (λ c. nr 15 (c ∷ [])) Byte (ByteFault (nr 7 []))
 
 -- 01: "Topic as bytes, ..; u16 identifier ..; block; the rest is payload", where QoS is q
 abbrev pub MessageFault : ℕ → Fault
@@ -143,6 +151,8 @@ abbrev pub FieldsFault : Layout → ℕ → Fault
 FieldsFault aPublish x = PublishFault x
 FieldsFault (anAck rs) x = ThenFault (Big 2) (BigFault (nr 7 []) 2) (AckFault rs)
 FieldsFault aSubscribe x = ThenFault (Big 2) (BigFault (nr 7 []) 2) (ThenFault (Block subscribePlace subscribeOf) (BlockFault subscribePlace) FiltersFault)
+FieldsFault (aReply rs) x = ThenFault (Big 2) (BigFault (nr 7 []) 2) (ThenFault (Block ackPlace ackOf) (BlockFault ackPlace) (SomeFault (ReasonOf rs) (ReasonFault rs)))
+FieldsFault anUnsubscribe x = ThenFault (Big 2) (BigFault (nr 7 []) 2) (ThenFault (Block unsubscribePlace unsubscribeOf) (BlockFault unsubscribePlace) (SomeFault Text TextFault))
 FieldsFault aPing x = Sound
 
 -- 01, rows 4 to 6, in this order; x is the first byte, x / 16 the kind

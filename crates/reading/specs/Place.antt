@@ -8,12 +8,12 @@ use mathlib.Core.List.{List, [], _∷_}
 use Prim.Native.Nat.{ℕ, zero, suc, _+_, _-_}
 use lib.Dec.{leb}
 use lib.ListN.{length, take, drop}
-use Rattle.grammar.specs.Tables.{Place, publishPlace, subscribePlace, ackPlace}
-use Rattle.grammar.specs.Record.{Val, num, str, duo, PropOf, allOf, PublishProps, SubscribeProps, AckProps, Publish, Filter, Subscribe, Ack, PacketOf, publish, ack, subscribe, ping}
+use Rattle.grammar.specs.Tables.{Place, publishPlace, subscribePlace, ackPlace, unsubscribePlace, reasonsOf}
+use Rattle.grammar.specs.Record.{Val, num, str, duo, PropOf, allOf, PublishProps, SubscribeProps, AckProps, UnsubscribeProps, Publish, Filter, Subscribe, Ack, Reply, Unsubscribe, PacketOf, publish, ack, subscribe, reply, unsubscribe, ping}
 use Rattle.grammar.specs.Sentence.{Value, Prop, Packet}
 use Rattle.reading.specs.Refusal.{Refusal, nr, Answer, accepted, refused}
 use Rattle.reading.specs.Reader.{Fit, got, bad, Filler, _>>=_, _>>_, guard}
-use Rattle.reading.specs.Read.{Shape, asBytes, propertiesFit, filtersFit, readAs}
+use Rattle.reading.specs.Read.{Shape, asBytes, reasonsFit, propertiesFit, filtersFit, topicsFit, readAs}
 
 -- 01, "What must change shape": "handed back as parts of the caller's stream"; "the place of the block or filters"
 pub record Span : Type 0 where
@@ -71,6 +71,12 @@ nthOf n [] = bad noItem
 nthOf zero (a ∷ vs) = got a
 nthOf (suc n) (a ∷ vs) = nthOf n vs
 
+-- 02, P1: the n-th reason of a SubAck or UnsubAck, of the kind whose reasons are rs
+unfoldable pub reasonAt : List ℕ → Span → List ℕ → ℕ → Fit ℕ
+reasonAt s p rs n = do
+  cs ← again (reasonsFit rs) s p
+  nthOf n cs
+
 module _ (h : Shape) (s : List ℕ) (p : Span) where
   -- all values of property i in the block of a place's row
   unfoldable pub valuesAt : Place → ℕ → Fit (List (Val (h .Str)))
@@ -95,6 +101,12 @@ module _ (h : Shape) (s : List ℕ) (p : Span) where
   filterAt n = do
     fs ← again (filtersFit h) s p
     nthOf n fs
+
+  -- 02, P1: the n-th topic of an Unsubscribe
+  unfoldable pub topicAt : ℕ → Fit (h .Str)
+  topicAt n = do
+    ts ← again (topicsFit h) s p
+    nthOf n ts
 
 -- ---- what a placed record says of the stream s: a string is the part at its place, a list the items that are read at its place
 
@@ -156,6 +168,12 @@ module _ (s : List ℕ) where
     user ← valuesAt asBytes s (ps .user) ackPlace 38
     got (record { reason = onSome sayVal (ps .reason); user = user })
 
+  -- a list that cannot be read at its place refuses
+  abbrev pub sayUnsubscribeProps : UnsubscribeProps Span (λ A. Span) → Fit (UnsubscribeProps (List ℕ) List)
+  sayUnsubscribeProps ps = do
+    user ← valuesAt asBytes s (ps .user) unsubscribePlace 38
+    got (record { user = user })
+
   -- a packet
   abbrev pub say : Placed → Fit Packet
   say (publish m) = do
@@ -176,6 +194,14 @@ module _ (s : List ℕ) where
     props ← ifSome saySubscribeProps (m .props)
     filters ← again (filtersFit asBytes) s (m .filters)
     got (subscribe (record { ident = m .ident; props = props; filters = filters }))
+  say (reply k m) = do
+    props ← ifSome sayAckProps (m .props)
+    reasons ← again (reasonsFit (reasonsOf k)) s (m .reasons)
+    got (reply k (record { ident = m .ident; props = props; reasons = reasons }))
+  say (unsubscribe m) = do
+    props ← ifSome sayUnsubscribeProps (m .props)
+    topics ← again (topicsFit asBytes) s (m .topics)
+    got (unsubscribe (record { ident = m .ident; props = props; topics = topics }))
   say (ping k) = got (ping k)
 
   -- an answer; a refusal says itself
@@ -207,10 +233,18 @@ module _ (s : List ℕ) where
   abbrev pub AckItems : AckProps Span (λ A. Span) → AckProps (List ℕ) List → Type 0
   AckItems ps qs = Lists (userAt asPlaces s (ps .user) ackPlace) (sayVal s) (qs .user)
 
+  -- the list of an Unsubscribe block
+  abbrev pub UnsubscribeItems : UnsubscribeProps Span (λ A. Span) → UnsubscribeProps (List ℕ) List → Type 0
+  UnsubscribeItems ps qs = Lists (userAt asPlaces s (ps .user) unsubscribePlace) (sayVal s) (qs .user)
+
   -- every list of a packet
   pub data Items : Placed → Packet → Type 0 where
     ofPublish : {m : Publish Span (λ A. Span)} {w : Publish (List ℕ) List} → OnBoth PublishItems (m .props) (w .props) → Items (publish m) (publish w)
     ofAck : {k : ℕ} {m : Ack Span (λ A. Span)} {w : Ack (List ℕ) List} → OnBoth AckItems (m .props) (w .props) → Items (ack k m) (ack k w)
     ofSubscribe : {m : Subscribe Span (λ A. Span)} {w : Subscribe (List ℕ) List} → OnBoth SubscribeItems (m .props) (w .props) → Lists (filterAt asPlaces s (m .filters)) (sayFilter s) (w .filters)
         → Items (subscribe m) (subscribe w)
+    ofReply : {k : ℕ} {m : Reply Span (λ A. Span)} {w : Reply (List ℕ) List} → OnBoth AckItems (m .props) (w .props) → Lists (reasonAt s (m .reasons) (reasonsOf k)) (λ c. c) (w .reasons)
+        → Items (reply k m) (reply k w)
+    ofUnsubscribe : {m : Unsubscribe Span (λ A. Span)} {w : Unsubscribe (List ℕ) List} → OnBoth UnsubscribeItems (m .props) (w .props) → Lists (topicAt asPlaces s (m .topics)) (heldOf s) (w .topics)
+        → Items (unsubscribe m) (unsubscribe w)
     ofPing : {k : ℕ} → Items (ping k) (ping k)

@@ -9,8 +9,8 @@ use lib.ListN.{length, take, drop}
 use Rattle.grammar.specs.Choice.{isIn, lookup, isEmpty}
 use Rattle.grammar.specs.Number.{bigFrom}
 use Rattle.grammar.specs.Text.{Range, inRange, rows, rowAt, cons}
-use Rattle.grammar.specs.Tables.{Form, u8, u16, u32, number, text, bytes, pair, Place, publishPlace, subscribePlace, ackPlace, Layout, aPublish, anAck, aSubscribe, aPing, kinds, reserved, isPing}
-use Rattle.grammar.specs.Record.{Val, num, str, PropOf, unlessEmpty, PublishProps, publishProps, SubscribeProps, subscribeProps, AckProps, ackProps, Filter, PacketOf, kindOf, flagQos, mkPublish, mkAck, mkFilter, mkSubscribe, mkPing}
+use Rattle.grammar.specs.Tables.{Form, u8, u16, u32, number, text, bytes, pair, Place, publishPlace, subscribePlace, ackPlace, unsubscribePlace, Layout, aPublish, anAck, aSubscribe, aReply, anUnsubscribe, aPing, kinds, reserved, isPing}
+use Rattle.grammar.specs.Record.{Val, num, str, PropOf, unlessEmpty, PublishProps, publishProps, SubscribeProps, subscribeProps, AckProps, ackProps, UnsubscribeProps, unsubscribeProps, Filter, PacketOf, kindOf, flagQos, mkPublish, mkAck, mkFilter, mkSubscribe, mkReply, mkUnsubscribe, mkPing}
 use Rattle.grammar.specs.Sentence.{duoOf, notThree, notZero, qosFine, ruleFine, someOf, Packet}
 use Rattle.reading.specs.Refusal.{Refusal, nr, Answer, accepted, refusedAs, cut, crossed, lacking, within, over}
 use Rattle.reading.specs.Reader.{Fit, got, bad, Reader, Filler, _>>=_, _>>_, guard, noneOf, neverOf, mapOf, onlyOf, thenOf, sizedOf, isFit, mapFit, handFit, onlyFit, thenFit, exactFit, manyFit, isGot}
@@ -97,6 +97,14 @@ unfoldable pub bodyAnswer : {A : Type 0} → ℕ → Fit A → Answer A
 bodyAnswer n (got v) = accepted v n
 bodyAnswer n (bad k) = refusedAs k n
 
+-- 01, row 13: "no filters"; 02, P1: "with no entry gets 13": one or more, to the end
+abbrev pub someFit : {A : Type 0} → Reader A → Filler (List A)
+someFit p = onlyFit someOf (nr 13 []) (manyFit p)
+
+-- 02, P1: "an unlisted reason 15"; each byte a reason of rs
+unfoldable pub reasonsFit : List ℕ → ℕ → Filler (List ℕ)
+reasonsFit rs end = someFit (onlyOf (λ c. isIn c rs) (λ c. nr 15 (c ∷ [])) (byteOf cut))
+
 module _ (h : Shape) where
   -- ---- strings
 
@@ -156,6 +164,10 @@ module _ (h : Shape) where
   abbrev pub ackAs : List (PropOf (h .Str)) → List ℕ → ℕ → Option (AckProps (h .Str) (h .Run))
   ackAs ps b end = unlessEmpty (ackProps (h .Str) (h .Run) (λ vs. h .run (Val (h .Str)) vs b end)) ps
 
+  -- 02, P1: "L = 0 means absent"; Unsubscribe
+  abbrev pub unsubscribeAs : List (PropOf (h .Str)) → List ℕ → ℕ → Option (UnsubscribeProps (h .Str) (h .Run))
+  unsubscribeAs ps b end = unlessEmpty (unsubscribeProps (h .Str) (h .Run) (λ vs. h .run (Val (h .Str)) vs b end)) ps
+
   -- ---- bodies
 
   -- 01, grammar, PubAck: "at R = 3 a reason and no block; from R = 4 a reason and a block that ends the frame"; row 7: "bytes after a PubAck's block"
@@ -177,7 +189,11 @@ module _ (h : Shape) where
 
   -- 01, row 13: "no filters"
   unfoldable pub filtersFit : ℕ → Filler (List (Filter (h .Str)))
-  filtersFit end = onlyFit someOf (nr 13 []) (manyFit (filterOf end))
+  filtersFit end = someFit (filterOf end)
+
+  -- 02, P1: the topics of an Unsubscribe, each a text
+  unfoldable pub topicsFit : ℕ → Filler (List (h .Str))
+  topicsFit end = someFit (textOf end)
 
   -- 01: "Topic as bytes, ..; u16 identifier ..; block; the rest is payload"
   unfoldable pub messageFit : ℕ → ℕ → Filler (PacketOf (h .Str) (h .Run))
@@ -192,9 +208,13 @@ module _ (h : Shape) where
   fieldsFit (anAck rs) x end b = mapFit (mkAck x) (thenFit (bigOf cut 2) (λ _. ackRestFit rs end)) b
   fieldsFit aSubscribe x end b =
       mapFit mkSubscribe (thenFit (bigOf cut 2) (λ _. thenFit (blockOf subscribePlace subscribeAs end) (λ _. handFit (λ vs. h .run (Filter (h .Str)) vs) filtersFit end))) b
+  fieldsFit (aReply rs) x end b =
+      mapFit (mkReply x) (thenFit (bigOf cut 2) (λ _. thenFit (blockOf ackPlace ackAs end) (λ _. handFit (λ vs. h .run ℕ vs) (reasonsFit rs) end))) b
+  fieldsFit anUnsubscribe x end b =
+      mapFit mkUnsubscribe (thenFit (bigOf cut 2) (λ _. thenFit (blockOf unsubscribePlace unsubscribeAs end) (λ _. handFit (λ vs. h .run (h .Str) vs) topicsFit end))) b
   fieldsFit aPing x end b = mapFit (mkPing x) (isFit anyBytes cut) b
 
-  -- 01, row 6: "kind 1, 2, 5-7, 9-11, 14"
+  -- 01, row 6, as 02's P1 leaves it: "kind 1, 2, .. 14"
   unfoldable pub layoutFit : Option Layout → ℕ → ℕ → Filler (PacketOf (h .Str) (h .Run))
   layoutFit none x end b = bad (nr 6 (kindOf x ∷ []))
   layoutFit (some f) x end b = fieldsFit f x end b
