@@ -9,10 +9,10 @@ use lib.Dec.{eqb}
 use lib.ListN.{length}
 use borrow.Author.Tests.{eqb-true}
 use Rattle.grammar.specs.Choice.{isEmpty}
-use Rattle.grammar.specs.Tables.{Place, publishPlace, subscribePlace, ackPlace}
+use Rattle.grammar.specs.Tables.{Place, publishPlace, subscribePlace, ackPlace, unsubscribePlace}
 use Rattle.grammar.specs.Octets.{Each, nil, _&_}
 use Rattle.writing.specs.Lists.{flat, sum}
-use Rattle.writing.specs.Handed.{AckHanded, Handed, publish, ack, subscribe, ping, Given, one, lent, pairs, several, Givens, publishGiven, subscribeGiven, ackGiven, items, tag, entries, filters, addsUp, sorted, nothingGiven, blockBelongs, filtersBelong, belongs}
+use Rattle.writing.specs.Handed.{AckHanded, Handed, publish, ack, subscribe, reply, unsubscribe, ping, Given, one, lent, pairs, several, Givens, publishGiven, subscribeGiven, ackGiven, unsubscribeGiven, strings, items, tag, entries, filters, addsUp, sorted, nothingGiven, blockBelongs, filtersBelong, belongs}
 use Rattle.writing.specs.Size.{isPlain}
 use Rattle.writing.specs.Order.{named, asked}
 use Rattle.writing.specs.Refuse.{Sorted, NothingGiven, InBlock, Belongs, Unnamed, Unasked}
@@ -42,10 +42,14 @@ block-when place block g = all-when _ (λ r. and-when (sorted (g (r .0))) (block
 pub belongs-when : (h : Handed) → (belongs h ≡ true) ↔ Belongs h
 unfolding belongs filtersBelong
 belongs-when (publish h) = block-when publishPlace (h .block) (publishGiven h)
-belongs-when (ack k h) = block-when ackPlace (h .block) (ackGiven h)
+belongs-when (ack k h) = block-when ackPlace (h .block) (ackGiven (h .text) (h .user))
 belongs-when (subscribe h) =
     and-when (blockBelongs subscribePlace (h .block) (subscribeGiven h)) (filtersBelong (h .filters) (h .options)) (block-when subscribePlace (h .block) (subscribeGiven h))
     (and-when (addsUp (h .filters)) (eqb (length (h .filters .lengths)) (length (h .options))) (eq-when (sum (h .filters .lengths)) (length (h .filters .bytes))) (eq-when (length (h .filters .lengths)) (length (h .options))))
+belongs-when (reply k h) = block-when ackPlace (h .block) (ackGiven (h .text) (h .user))
+belongs-when (unsubscribe h) =
+    and-when (blockBelongs unsubscribePlace (h .block) (unsubscribeGiven (h .user))) (addsUp (h .topics)) (block-when unsubscribePlace (h .block) (unsubscribeGiven (h .user)))
+    (eq-when (sum (h .topics .lengths)) (length (h .topics .bytes)))
 belongs-when (ping k) = (λ _. tt, λ _. refl)
 
 -- ---- 12 and 13
@@ -65,17 +69,21 @@ unnamed-when (publish h) =
     (λ e. let p = w .0 e in (eq-not (h .qos) 0 .0 (p .0), eqb-true (h .ident) 0 (p .1)), λ t. w .1 (eq-not (h .qos) 0 .1 (t .0), eq-when (h .ident) 0 .1 (t .1)))
 unnamed-when (ack k h) = never
 unnamed-when (subscribe h) = never
+unnamed-when (reply k h) = never
+unnamed-when (unsubscribe h) = never
 unnamed-when (ping k) = never
+
+none-when : {A : Type 0} (l : List A) → (not (isEmpty l) ≡ false) ↔ (l ≡ [])
+none-when [] = (λ _. refl, λ _. refl)
+none-when (a ∷ l) = (λ e. absurd (false≢true (sym e)), λ e. cc)
 
 -- 01, row 13
 pub unasked-when : (h : Handed) → (asked h ≡ false) ↔ Unasked h
 unasked-when (publish h) = never
 unasked-when (ack k h) = never
-unasked-when (subscribe h) = go (filters h)
-  where
-    go : (fs : List (List ℕ × ℕ)) → (not (isEmpty fs) ≡ false) ↔ (fs ≡ [])
-    go [] = (λ _. refl, λ _. refl)
-    go (f ∷ fs) = (λ e. absurd (false≢true (sym e)), λ e. cc)
+unasked-when (subscribe h) = none-when (filters h)
+unasked-when (reply k h) = none-when (h .reasons)
+unasked-when (unsubscribe h) = none-when (strings (h .topics))
 unasked-when (ping k) = never
 
 -- ---- a plain success

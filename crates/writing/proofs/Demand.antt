@@ -12,18 +12,18 @@ use lib.ListN.{length, drop, length-append, length-drop}
 use lib.Seq.{sets, sets-eq}
 use borrow.Author.Tests.{eqb-true}
 use Rattle.grammar.specs.Choice.{isEmpty}
-use Rattle.grammar.specs.Tables.{Place, publishPlace, subscribePlace, ackPlace}
+use Rattle.grammar.specs.Tables.{Place, publishPlace, subscribePlace, ackPlace, unsubscribePlace}
 use Rattle.grammar.specs.Sentence.{Sentence}
 use Rattle.grammar.specs.Octets.{Each}
 use Rattle.reading.specs.Refusal.{Refusal, accepted}
 use Rattle.reading.specs.Reader.{Fit, got, bad}
 use Rattle.reading.specs.Read.{readOf}
 use Rattle.reading.proofs.Demand.{reads-sentence}
-use Rattle.writing.specs.Handed.{PublishHanded, SubscribeHanded, AckHanded, Handed, publish, ack, subscribe, ping, Givens, publishGiven, subscribeGiven, ackGiven, entries}
+use Rattle.writing.specs.Handed.{PublishHanded, SubscribeHanded, AckHanded, ReplyHanded, UnsubscribeHanded, Handed, publish, ack, subscribe, reply, unsubscribe, ping, Givens, publishGiven, subscribeGiven, ackGiven, unsubscribeGiven, entries}
 use Rattle.writing.specs.Size.{sizeIs}
 use Rattle.writing.specs.Write.{frameBytes, writeOf, leaves, outOf}
 use Rattle.writing.specs.Refuse.{InBlock, Belongs}
-use Rattle.writing.specs.Meant.{publishSet, subscribeSet, ackSet, thePublish, theAck, theSubscribe, meant, nonePublish, noneAck, noneSubscribe, said, Typed, Filled, Plain}
+use Rattle.writing.specs.Meant.{publishSet, subscribeSet, ackSet, unsubscribeSet, thePublish, theAck, theSubscribe, theReply, theUnsubscribe, meant, nonePublish, noneAck, noneSubscribe, noneUnsubscribe, said, Typed, Filled, Plain}
 use Rattle.writing.specs.Written.{WrittenBytes}
 use Rattle.writing.proofs.Belong.{nothing-entries}
 use Rattle.writing.proofs.Sizes.{length-frame}
@@ -79,8 +79,10 @@ set-same place false g w f a = rw (nothing-entries place false g w refl)
 pub said-meant : (h : Handed) → Belongs h → Plain h → said h ≡ meant h
 unfolding said meant
 said-meant (publish h) w p = rw (ident-same (h .qos) (h .ident) (p .0), set-same publishPlace (h .block) (publishGiven h) w (p .1) (publishSet h))
-said-meant (ack k h) w p = rw (set-same ackPlace (h .block) (ackGiven h) w p (ackSet h))
+said-meant (ack k h) w p = rw (set-same ackPlace (h .block) (ackGiven (h .text) (h .user)) w p (ackSet (h .text) (h .user)))
 said-meant (subscribe h) w p = rw (set-same subscribePlace (h .block) (subscribeGiven h) (w .0) p (subscribeSet h))
+said-meant (reply k h) w p = rw (set-same ackPlace (h .block) (ackGiven (h .text) (h .user)) w p (ackSet (h .text) (h .user)))
+said-meant (unsubscribe h) w p = rw (set-same unsubscribePlace (h .block) (unsubscribeGiven (h .user)) (w .0) p (unsubscribeSet (h .user)))
 said-meant (ping k) w p = refl
 
 -- the theorem: what is written is a sentence that says the record, and is read back, whatever follows
@@ -109,13 +111,21 @@ module _ (limit : Option ℕ) (room : ℕ) (b r : List ℕ) where
   unfolding said
   publish-no-set h t f e = reads-said limit room (publish h) b t e r ∙ rw f
 
-  pub ack-no-set : (k : ℕ) (h : AckHanded) → Typed (ack k h) → noneAck h ≡ true → writeOf limit room (ack k h) ≡ got b → readOf none (b ++ r) ≡ accepted (theAck k h none) (length b)
+  pub ack-no-set : (k : ℕ) (h : AckHanded) → Typed (ack k h) → noneAck (h .text) (h .user) ≡ true → writeOf limit room (ack k h) ≡ got b → readOf none (b ++ r) ≡ accepted (theAck k h none) (length b)
   unfolding said
   ack-no-set k h t f e = reads-said limit room (ack k h) b t e r ∙ rw f
 
   pub subscribe-no-set : (h : SubscribeHanded) → Typed (subscribe h) → noneSubscribe h ≡ true → writeOf limit room (subscribe h) ≡ got b → readOf none (b ++ r) ≡ accepted (theSubscribe h none) (length b)
   unfolding said
   subscribe-no-set h t f e = reads-said limit room (subscribe h) b t e r ∙ rw f
+
+  pub reply-no-set : (k : ℕ) (h : ReplyHanded) → Typed (reply k h) → noneAck (h .text) (h .user) ≡ true → writeOf limit room (reply k h) ≡ got b → readOf none (b ++ r) ≡ accepted (theReply k h none) (length b)
+  unfolding said
+  reply-no-set k h t f e = reads-said limit room (reply k h) b t e r ∙ rw f
+
+  pub unsubscribe-no-set : (h : UnsubscribeHanded) → Typed (unsubscribe h) → noneUnsubscribe (h .user) ≡ true → writeOf limit room (unsubscribe h) ≡ got b → readOf none (b ++ r) ≡ accepted (theUnsubscribe h none) (length b)
+  unfolding said
+  unsubscribe-no-set h t f e = reads-said limit room (unsubscribe h) b t e r ∙ rw f
 
 -- ---- the output
 

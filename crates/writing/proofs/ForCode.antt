@@ -12,14 +12,14 @@ use lib.Dec.{eqb, leb}
 use lib.ListN.{length, take, drop, getD, drop-of-length-le}
 use lib.Seq.{drop-cons, drop-drop, sets}
 use borrow.Author.Tests.{le-leb, lt-leb, eqb-true}
-use Rattle.grammar.specs.Tables.{u8, u16, u32, number, text, bytes, pair, publishPlace, subscribePlace, ackPlace}
+use Rattle.grammar.specs.Tables.{u8, u16, u32, number, text, bytes, pair, publishPlace, subscribePlace, ackPlace, unsubscribePlace, reasonsOf}
 use Rattle.reading.specs.Refusal.{Refusal}
 use Rattle.reading.specs.Reader.{Fit, got, bad, _>>_}
 use Rattle.writing.specs.Lists.{flat, sum}
-use Rattle.writing.specs.Handed.{Run, PublishHanded, SubscribeHanded, AckHanded, Handed, publish, ack, subscribe, ping, one, lent, pairs, several, publishGiven, subscribeGiven, ackGiven, strings, filters, rowBelongs, blockBelongs, filtersBelong, belongs}
+use Rattle.writing.specs.Handed.{Lent, Run, PublishHanded, SubscribeHanded, AckHanded, ReplyHanded, UnsubscribeHanded, Handed, publish, ack, subscribe, reply, unsubscribe, ping, one, lent, pairs, several, publishGiven, subscribeGiven, ackGiven, unsubscribeGiven, strings, filters, addsUp, rowBelongs, blockBelongs, filtersBelong, belongs}
 use Rattle.writing.specs.Spell.{wide, short, string, propsBytes, counted, block, filterBytes}
 use Rattle.writing.specs.Size.{most, withLength, givenSize, propsSize, isPlain, restIs, sizeIs, cap}
-use Rattle.writing.specs.Order.{judge, Field, raw, word, fieldTests, filterField, fieldsOf, permit}
+use Rattle.writing.specs.Order.{judge, Field, raw, word, code, fieldTests, filterField, fieldsOf, permit}
 use Rattle.writing.specs.Write.{firstByte, identBytes, bodyBytes, frameBytes, writeOf, answerOf, Written}
 use Rattle.writing.specs.Refuse.{Belongs}
 use Rattle.writing.proofs.Each.{flat-append}
@@ -28,7 +28,7 @@ use Rattle.writing.proofs.Belong.{belongs-when}
 use Rattle.writing.proofs.Sizes.{length-props, length-body}
 use Rattle.writing.proofs.Judge.{judge-append, fields-more}
 use Rattle.writing.proofs.Demand.{out-refused, out-sets}
-use Rattle.writing.proofs.Pins.{publish-order, subscribe-order, ack-order}
+use Rattle.writing.proofs.Pins.{publish-order, subscribe-order, ack-order, reply-order, unsubscribe-order}
 
 -- ---- the contract
 
@@ -61,6 +61,14 @@ publish-belongs h = refl
 pub ack-belongs : (k : ℕ) (h : AckHanded) → belongs (ack k h) ≡ (rowBelongs (h .block) (lent (h .text)) && (rowBelongs (h .block) (pairs (h .user)) && true))
 unfolding belongs blockBelongs ackPlace ackGiven
 ack-belongs k h = refl
+
+pub reply-belongs : (k : ℕ) (h : ReplyHanded) → belongs (reply k h) ≡ (rowBelongs (h .block) (lent (h .text)) && (rowBelongs (h .block) (pairs (h .user)) && true))
+unfolding belongs blockBelongs ackPlace ackGiven
+reply-belongs k h = refl
+
+pub unsubscribe-belongs : (h : UnsubscribeHanded) → belongs (unsubscribe h) ≡ ((rowBelongs (h .block) (pairs (h .user)) && true) && addsUp (h .topics))
+unfolding belongs blockBelongs unsubscribePlace unsubscribeGiven
+unsubscribe-belongs h = refl
 
 pub subscribe-belongs : (h : SubscribeHanded) → belongs (subscribe h)
     ≡ ((rowBelongs (h .block) (one (h .subscription)) && (rowBelongs (h .block) (pairs (h .user)) && true)) && filtersBelong (h .filters) (h .options))
@@ -104,13 +112,24 @@ publish-tests h =
       judge-if (h .content .on) (word (h .content .bytes)),
     )
 
-pub ack-tests : (k : ℕ) (h : AckHanded) → judge (flat fieldTests (fieldsOf (ack k h))) ≡ (judgeIf (h .text .on) (word (h .text .bytes)) >> judgeAll (h .user))
-ack-tests k h = rw (
-  ack-order k h,
-  fields-append (cond (h .text .on) (word (h .text .bytes) ∷ []) []) _,
-  append-nil (map word (strings (h .user))),
-  judge-if (h .text .on) (word (h .text .bytes)),
+-- the row of every acknowledgement
+ack-row-tests : (t : Lent) (u : Run) → judge (flat fieldTests (cond (t .on) (word (t .bytes) ∷ []) [] ++ (map word (strings u) ++ []))) ≡ (judgeIf (t .on) (word (t .bytes)) >> judgeAll u)
+ack-row-tests t u = rw (
+  fields-append (cond (t .on) (word (t .bytes) ∷ []) []) (map word (strings u) ++ []),
+  append-nil (map word (strings u)),
+  judge-if (t .on) (word (t .bytes)),
 )
+
+pub ack-tests : (k : ℕ) (h : AckHanded) → judge (flat fieldTests (fieldsOf (ack k h)))
+    ≡ (judge (fieldTests (code (reasonsOf k) (h .reason))) >> (judgeIf (h .text .on) (word (h .text .bytes)) >> judgeAll (h .user)))
+ack-tests k h = rw (ack-order k h, fields-more (code (reasonsOf k) (h .reason)) _, ack-row-tests (h .text) (h .user))
+
+pub reply-tests : (k : ℕ) (h : ReplyHanded) → judge (flat fieldTests (fieldsOf (reply k h)))
+    ≡ ((judgeIf (h .text .on) (word (h .text .bytes)) >> judgeAll (h .user)) >> judge (flat fieldTests (map (code (reasonsOf k)) (h .reasons))))
+reply-tests k h = rw (reply-order k h, fields-append (cond (h .text .on) (word (h .text .bytes) ∷ []) [] ++ (map word (strings (h .user)) ++ [])) (map (code (reasonsOf k)) (h .reasons)), ack-row-tests (h .text) (h .user))
+
+pub unsubscribe-tests : (h : UnsubscribeHanded) → judge (flat fieldTests (fieldsOf (unsubscribe h))) ≡ (judgeAll (h .user) >> judgeAll (h .topics))
+unsubscribe-tests h = rw (unsubscribe-order h, append-nil (map word (strings (h .user))), fields-append (map word (strings (h .user))) (map word (strings (h .topics))))
 
 pub subscribe-tests : (h : SubscribeHanded) → judge (flat fieldTests (fieldsOf (subscribe h))) ≡ (judgeAll (h .user) >> judge (flat fieldTests (map filterField (filters h))))
 subscribe-tests h = rw (subscribe-order h, append-nil (map word (strings (h .user))), fields-append (map word (strings (h .user))) (map filterField (filters h)))
@@ -130,9 +149,13 @@ pub publish-sum : (h : PublishHanded) → propsSize publishPlace (publishGiven h
 unfolding propsSize publishPlace publishGiven
 publish-sum h = refl
 
-pub ack-sum : (h : AckHanded) → propsSize ackPlace (ackGiven h) ≡ givenSize text (lent (h .text)) + (givenSize pair (pairs (h .user)) + 0)
+pub ack-sum : (t : Lent) (u : Run) → propsSize ackPlace (ackGiven t u) ≡ givenSize text (lent t) + (givenSize pair (pairs u) + 0)
 unfolding propsSize ackPlace ackGiven
-ack-sum h = refl
+ack-sum t u = refl
+
+pub unsubscribe-sum : (u : Run) → propsSize unsubscribePlace (unsubscribeGiven u) ≡ givenSize pair (pairs u) + 0
+unfolding propsSize unsubscribePlace unsubscribeGiven
+unsubscribe-sum u = refl
 
 pub subscribe-sum : (h : SubscribeHanded) → propsSize subscribePlace (subscribeGiven h) ≡ givenSize number (one (h .subscription)) + (givenSize pair (pairs (h .user)) + 0)
 unfolding propsSize subscribePlace subscribeGiven
@@ -155,11 +178,11 @@ publish-frame h e =
 
 pub ack-frame : (k : ℕ) (h : AckHanded) → belongs (ack k h) ≡ true → frameBytes (ack k h)
     ≡ firstByte (ack k h) ∷ (short (restIs (ack k h)) ++ (wide 2 (h .ident)
-    ++ cond (isPlain h) [] (h .reason ∷ (short (propsSize ackPlace (ackGiven h)) ++ propsBytes ackPlace (ackGiven h)))))
+    ++ cond (isPlain h) [] (h .reason ∷ (short (propsSize ackPlace (ackGiven (h .text) (h .user))) ++ propsBytes ackPlace (ackGiven (h .text) (h .user))))))
 unfolding bodyBytes block counted
 ack-frame k h e =
     let w : Belongs (ack k h) = belongs-when (ack k h) .0 e in
-    frame-sum (ack k h) w ∙ rw (length-props ackPlace (h .block) (ackGiven h) w)
+    frame-sum (ack k h) w ∙ rw (length-props ackPlace (h .block) (ackGiven (h .text) (h .user)) w)
 
 pub subscribe-frame : (h : SubscribeHanded) → belongs (subscribe h) ≡ true → frameBytes (subscribe h)
     ≡ firstByte (subscribe h) ∷ (short (restIs (subscribe h)) ++ (wide 2 (h .ident)

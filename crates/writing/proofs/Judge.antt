@@ -15,8 +15,8 @@ use Rattle.reading.specs.Read.{isText}
 use Rattle.reading.proofs.Fields.{text-fine}
 use Rattle.writing.specs.Lists.{flat}
 use Rattle.writing.specs.Size.{most}
-use Rattle.writing.specs.Order.{Test, judge, Field, raw, word, filter, fieldTests, small, limitTests}
-use Rattle.writing.specs.Refuse.{Writable, Faulty, long-raw, long-word, long-filter, bad-word, bad-filter, bad-rule, bad-qos, FirstFault, Small, TooLarge, Within}
+use Rattle.writing.specs.Order.{Test, judge, Field, raw, word, filter, code, fieldTests, small, limitTests}
+use Rattle.writing.specs.Refuse.{Writable, Faulty, long-raw, long-word, long-filter, bad-word, bad-filter, bad-rule, bad-qos, unlisted, FirstFault, Small, TooLarge, Within}
 use Rattle.writing.proofs.Tests.{fails-when}
 use Rattle.writing.specs.Refuse as r
 
@@ -44,12 +44,14 @@ field-fault (bad-word {s} h n) = rw (le-leb (length s) 65535 h, text-no s n)
 field-fault (bad-filter {s} h n) = rw (le-leb (length s) 65535 h, text-no s n)
 field-fault (bad-rule {s} h u p) = rw (le-leb (length s) 65535 h, text-fine s .1 u, p)
 field-fault (bad-qos {s} h u p q) = rw (le-leb (length s) 65535 h, text-fine s .1 u, p, q)
+field-fault (unlisted p) = rw p
 
 pub field-pass : (f : Field) → Writable f → judge (fieldTests f) ≡ got tt
 unfolding judge
 field-pass (raw s) h = rw (le-leb (length s) 65535 h)
 field-pass (word s) (h, u) = rw (le-leb (length s) 65535 h, text-fine s .1 u)
 field-pass (filter s o) (h, u, p, q) = rw (le-leb (length s) 65535 h, text-fine s .1 u, p, q)
+field-pass (code rs c) p = rw p
 
 -- the first field, and then the others
 pub fields-more : (f : Field) (fs : List Field) → judge (flat fieldTests (f ∷ fs)) ≡ (judge (fieldTests f) >> judge (flat fieldTests fs))

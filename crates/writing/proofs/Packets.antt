@@ -8,27 +8,27 @@ use native.Mathlib.Omega.{arith}
 use lib.Dec.{eqb, ltb, ltb→lt, eqb·suc-zero}
 use lib.ListN.{length, length-append}
 use borrow.Author.Tests.{lt-ltb, eqb-true}
-use Rattle.grammar.specs.Choice.{isIn, lookup, isEmpty, all}
+use Rattle.grammar.specs.Choice.{isIn, lookup, isEmpty}
 use Rattle.grammar.specs.Gram.{Only, both, sized, is}
 use Rattle.grammar.specs.Number.{byte, Big}
-use Rattle.grammar.specs.Tables.{publishPlace, subscribePlace, ackPlace, reasons, Layout, aPublish, anAck, aSubscribe, aPing, kinds}
-use Rattle.grammar.specs.Record.{kindOf, flagQos, mkPublish, mkAck, mkFilter, mkSubscribe, mkPing}
-use Rattle.grammar.specs.Sentence.{Any, publishOf, subscribeOf, ackOf, notThree, notZero, Ident, publishGood, someOf, AckRest, plain, full, Packet, Fields, body, framed, Sentence}
+use Rattle.grammar.specs.Tables.{publishPlace, subscribePlace, ackPlace, unsubscribePlace, Layout, aPublish, anAck, aSubscribe, aReply, anUnsubscribe, aPing, kinds, reasonsOf}
+use Rattle.grammar.specs.Record.{kindOf, flagQos, mkPublish, mkAck, mkFilter, mkSubscribe, mkReply, mkUnsubscribe, mkPing}
+use Rattle.grammar.specs.Sentence.{Any, Block, publishOf, subscribeOf, ackOf, unsubscribeOf, notThree, notZero, Ident, publishGood, someOf, AckRest, plain, full, Packet, Fields, body, framed, Sentence}
 use Rattle.grammar.specs.Octets.{Each, nil, _&_, Octet, Octets}
 use Rattle.reading.proofs.Lists.{T-of, lookup-each}
 use Rattle.writing.specs.Lists.{flat, beside}
-use Rattle.writing.specs.Handed.{PublishHanded, SubscribeHanded, AckHanded, Handed, publish, ack, subscribe, ping, publishGiven, subscribeGiven, ackGiven, strings, propOf, entries, filters}
+use Rattle.writing.specs.Handed.{Lent, Run, PublishHanded, SubscribeHanded, AckHanded, ReplyHanded, UnsubscribeHanded, Handed, publish, ack, subscribe, reply, unsubscribe, ping, publishGiven, subscribeGiven, ackGiven, unsubscribeGiven, strings, propOf, entries, filters}
 use Rattle.writing.specs.Spell.{wide, propsBytes, counted, block}
 use Rattle.writing.specs.Size.{most, isPlain}
-use Rattle.writing.specs.Order.{Field, givenFields, propsFields, filterField, fieldsOf, numbersOf, named, asked}
+use Rattle.writing.specs.Order.{Field, word, code, givenFields, propsFields, filterField, fieldsOf, numbersOf, named, asked}
 use Rattle.writing.specs.Write.{firsts, firstOf, firstByte, identBytes, bodyBytes, frameBytes}
 use Rattle.writing.specs.Refuse.{InBlock, Belongs, Writable, Small, Accepts}
-use Rattle.writing.specs.Meant.{said, PublishTyped, AckTyped, SubscribeTyped, Typed}
+use Rattle.writing.specs.Meant.{said, PublishTyped, AckTyped, SubscribeTyped, ReplyTyped, UnsubscribeTyped, Typed}
 use Rattle.writing.proofs.Each.{each-head, each-tail, each-append, each-left, each-right, each-flat, each-piece, rows-of}
 use Rattle.writing.proofs.Tests.{and-left, and-right, all-when, passes-when}
 use Rattle.writing.proofs.Says.{Says, says-nothing, says-map, says-only, says-then, says-is, says-wide, says-short}
-use Rattle.writing.proofs.Values.{says-bytes, an-u8, an-u16, an-u32, a-number, a-text, a-bytes, RightRow, says-block, one-suits, below-each, lent-suits, pairs-suit, several-suit, says-filters}
-use Rattle.writing.proofs.Sets.{publish-says, ack-says, subscribe-says}
+use Rattle.writing.proofs.Values.{says-bytes, an-u8, an-u16, an-u32, a-number, a-text, a-bytes, RightRow, says-block, one-suits, below-each, lent-suits, pairs-suit, several-suit, says-filters, says-reasons, says-topics}
+use Rattle.writing.proofs.Sets.{publish-says, ack-says, subscribe-says, unsubscribe-says}
 use Rattle.writing.proofs.Belong.{unnamed-when, unasked-when, plain-when, nothing-entries}
 use Rattle.writing.proofs.Sizes.{length-body}
 
@@ -38,16 +38,18 @@ use Rattle.writing.proofs.Sizes.{length-body}
 firstFine : ℕ → Bool
 firstFine k = eqb (kindOf (firstOf k)) k && ltb (firstOf k) 256
 
--- it is for each kind but Publish; and an acknowledgement's reasons are bytes
+-- it is for each kind but Publish
 abbrev rowFine : ℕ → Layout → Bool
 rowFine k aPublish = true
-rowFine k (anAck rs) = firstFine k && all (λ x. ltb x 256) rs
+rowFine k (anAck rs) = firstFine k
 rowFine k aSubscribe = firstFine k
+rowFine k (aReply rs) = firstFine k
+rowFine k anUnsubscribe = firstFine k
 rowFine k aPing = firstFine k
 
 -- by computation over the table
 kinds-fine : (k : ℕ) (l : Layout) → lookup kinds k ≡ some l → rowFine k l ≡ true
-unfolding kinds reasons firsts firstOf firstFine
+unfolding kinds firsts firstOf firstFine
 kinds-fine = lookup-each (λ r. rowFine (r .0) (r .1) ≡ true) (all-when (λ r. rowFine (r .0) (r .1)) (λ r. (λ e. e, λ e. e)) kinds .0 refl)
 
 record First (k : ℕ) : Type 0 where
@@ -63,21 +65,6 @@ first-of k e =
     let a : Bool = eqb (kindOf (firstOf k)) k in
     let b : Bool = ltb (firstOf k) 256 in
     record { kind = eqb-true (kindOf (firstOf k)) k (and-left a b e); octet = octet-of (firstOf k) (and-right a b e) }
-
--- what an acknowledgement's row says
-ack-fine : (k : ℕ) (rs : List ℕ) → lookup kinds k ≡ some (anAck rs) → First k × Octets rs
-ack-fine k rs e =
-    let f = kinds-fine k (anAck rs) e in
-    let r = and-right (firstFine k) (all (λ x. ltb x 256) rs) f in
-    (first-of k (and-left (firstFine k) (all (λ x. ltb x 256) rs) f), all-when (λ x. ltb x 256) (λ x. (octet-of x, lt-ltb x 256)) rs .0 r)
-
-is-in : (P : ℕ → Type 0) (x : ℕ) {l : List ℕ} → Each P l → isIn x l ≡ true → P x
-is-in P x nil e = absurd (false≢true e)
-is-in P x (_&_ {a = y} {l = l} p ps) e = go (is-in P x ps) (eqb x y) refl e
-  where
-    go : (isIn x l ≡ true → P x) → (t : Bool) → eqb x y ≡ t → (t || isIn x l) ≡ true → P x
-    go ih true q e′ = rw (eqb-true x y q) p
-    go ih false q e′ = ih e′
 
 -- ---- the frame around a body
 
@@ -171,31 +158,69 @@ publish-kind h t = (rw (flags-kind (h .dup) (h .qos) (h .retain) (t .dup) (t .qo
 
 -- ---- acknowledgements
 
-ack-rows : (k : ℕ) (h : AckHanded) → AckTyped k h → Each (λ r. Each Writable (givenFields (r .1) (ackGiven h (r .0)))) ackPlace → Each (RightRow ackPlace (ackGiven h)) ackPlace
+ack-rows : (t : Lent) (u : Run) → Octets (t .bytes) → Octets (u .bytes) → Each (λ r. Each Writable (givenFields (r .1) (ackGiven t u (r .0)))) ackPlace → Each (RightRow ackPlace (ackGiven t u)) ackPlace
 unfolding ackPlace ackGiven
-ack-rows k h t (a & (b & nil)) = rows-of (RightRow ackPlace (ackGiven h)) ackPlace
-    (record { known = refl; small = omega arith; suits = lent-suits (h .text) (a-text (t .text)) a }
-    & (record { known = refl; small = omega arith; suits = pairs-suit (h .user) (t .user) b }
+ack-rows t u o o′ (a & (b & nil)) = rows-of (RightRow ackPlace (ackGiven t u)) ackPlace
+    (record { known = refl; small = omega arith; suits = lent-suits t (a-text o) a }
+    & (record { known = refl; small = omega arith; suits = pairs-suit u o′ b }
     & nil))
 
-ack-rest : (k : ℕ) (h : AckHanded) (t : AckTyped k h) → Octets (t .reasons) → Each (InBlock (h .block) (ackGiven h)) ackPlace → Each Writable (propsFields ackPlace (ackGiven h))
-    → (b : Bool) → isPlain h ≡ b → length (cond b [] (h .reason ∷ block ackPlace (ackGiven h))) ≤ most
-    → Says (AckRest (t .reasons)) (h .reason, ackOf (map propOf (entries ackPlace (ackGiven h)))) (cond b [] (h .reason ∷ block ackPlace (ackGiven h)))
+-- the block of every acknowledgement
+ack-block : (t : Lent) (u : Run) → Octets (t .bytes) → Octets (u .bytes) → Each Writable (propsFields ackPlace (ackGiven t u)) → length (block ackPlace (ackGiven t u)) ≤ most
+    → Says (Block ackPlace ackOf) (ackOf (map propOf (entries ackPlace (ackGiven t u)))) (block ackPlace (ackGiven t u))
 unfolding propsFields block
-ack-rest k h t o w p true e l =
-    let (success, absent) = plain-when h .0 e in
-    rw (nothing-entries ackPlace (h .block) (ackGiven h) w absent, success) (record { spelled = plain; octets = nil })
-ack-rest k h t o w p false e l =
-    let s = says-block ackPlace ackOf (ackGiven h) (ack-rows k h t (each-flat _ ackPlace p)) (block-fits (propsBytes ackPlace (ackGiven h)) (omega arith)) in
-    record { spelled = full (t .reason) (s .spelled); octets = is-in Octet (h .reason) o (t .reason) & s .octets }
+ack-block t u o o′ p l = says-block ackPlace ackOf (ackGiven t u) (ack-rows t u o o′ (each-flat _ ackPlace p)) (block-fits (propsBytes ackPlace (ackGiven t u)) l)
 
-ack-fields : (k : ℕ) (h : AckHanded) (t : AckTyped k h) → First k → Octets (t .reasons) → Belongs (ack k h) → Each Writable (fieldsOf (ack k h)) → length (bodyBytes (ack k h)) ≤ most
-    → Says (Fields (anAck (t .reasons)) (firstOf k)) (said (ack k h)) (bodyBytes (ack k h))
+ack-rest : (k : ℕ) (h : AckHanded) (t : AckTyped k h) → Each (InBlock (h .block) (ackGiven (h .text) (h .user))) ackPlace → isIn (h .reason) (reasonsOf k) ≡ true
+    → Each Writable (propsFields ackPlace (ackGiven (h .text) (h .user)))
+    → (b : Bool) → isPlain h ≡ b → length (cond b [] (h .reason ∷ block ackPlace (ackGiven (h .text) (h .user)))) ≤ most
+    → Says (AckRest (reasonsOf k)) (h .reason, ackOf (map propOf (entries ackPlace (ackGiven (h .text) (h .user))))) (cond b [] (h .reason ∷ block ackPlace (ackGiven (h .text) (h .user))))
+ack-rest k h t w c p true e l =
+    let (success, absent) = plain-when h .0 e in
+    rw (nothing-entries ackPlace (h .block) (ackGiven (h .text) (h .user)) w absent, success) (record { spelled = plain; octets = nil })
+ack-rest k h t w c p false e l =
+    let s = ack-block (h .text) (h .user) (t .text) (t .user) p (omega arith) in
+    record { spelled = full c (s .spelled); octets = t .reason & s .octets }
+
+ack-fields : (k : ℕ) (h : AckHanded) (t : AckTyped k h) → First k → Belongs (ack k h) → Each Writable (fieldsOf (ack k h)) → length (bodyBytes (ack k h)) ≤ most
+    → Says (Fields (anAck (reasonsOf k)) (firstOf k)) (said (ack k h)) (bodyBytes (ack k h))
 unfolding fieldsOf bodyBytes said
-ack-fields k h t f o w p l =
-    let m : length (cond (isPlain h) [] (h .reason ∷ block ackPlace (ackGiven h))) ≤ most = omega (arith, simp length-append at l) in
-    let same : mkAck (firstOf k) (h .ident, (h .reason, ackOf (map propOf (entries ackPlace (ackGiven h))))) ≡ said (ack k h) = rw (f .kind, ack-says h) in
-    rw (← same) (says-map (mkAck (firstOf k)) (says-then (says-wide 2 (h .ident) (omega (arith, t .ident))) (ack-rest k h t o w p (isPlain h) refl m)))
+ack-fields k h t f w p l =
+    let m : length (cond (isPlain h) [] (h .reason ∷ block ackPlace (ackGiven (h .text) (h .user)))) ≤ most = omega (arith, simp length-append at l) in
+    let same : mkAck (firstOf k) (h .ident, (h .reason, ackOf (map propOf (entries ackPlace (ackGiven (h .text) (h .user)))))) ≡ said (ack k h) = rw (f .kind, ack-says (h .text) (h .user)) in
+    rw (← same) (says-map (mkAck (firstOf k)) (says-then (says-wide 2 (h .ident) (omega (arith, t .ident))) (ack-rest k h t w (each-head p) (each-tail p) (isPlain h) refl m)))
+
+-- ---- replies
+
+reply-fields : (k : ℕ) (h : ReplyHanded) (t : ReplyTyped k h) → First k → Each Writable (fieldsOf (reply k h)) → asked (reply k h) ≡ true → length (bodyBytes (reply k h)) ≤ most
+    → Says (Fields (aReply (reasonsOf k)) (firstOf k)) (said (reply k h)) (bodyBytes (reply k h))
+unfolding fieldsOf bodyBytes said
+reply-fields k h t f p a l =
+    let ps : List Field = propsFields ackPlace (ackGiven (h .text) (h .user)) in
+    let m : length (block ackPlace (ackGiven (h .text) (h .user))) ≤ most = omega (arith, simp length-append at l) in
+    let s₂ = ack-block (h .text) (h .user) (t .text) (t .user) (each-left ps (map (code (reasonsOf k)) (h .reasons)) p) m in
+    let s₃ = says-reasons (reasonsOf k) (h .reasons) (t .reasons) (each-right ps (map (code (reasonsOf k)) (h .reasons)) p) in
+    let same : mkReply (firstOf k) (h .ident, (ackOf (map propOf (entries ackPlace (ackGiven (h .text) (h .user)))), h .reasons)) ≡ said (reply k h) = rw (f .kind, ack-says (h .text) (h .user)) in
+    rw (← same) (says-map (mkReply (firstOf k)) (says-then (says-wide 2 (h .ident) (omega (arith, t .ident))) (says-then s₂ (says-only someOf a s₃))))
+
+-- ---- Unsubscribe
+
+unsubscribe-rows : (u : Run) → Octets (u .bytes) → Each (λ r. Each Writable (givenFields (r .1) (unsubscribeGiven u (r .0)))) unsubscribePlace → Each (RightRow unsubscribePlace (unsubscribeGiven u)) unsubscribePlace
+unfolding unsubscribePlace unsubscribeGiven
+unsubscribe-rows u o (b & nil) = rows-of (RightRow unsubscribePlace (unsubscribeGiven u)) unsubscribePlace
+    (record { known = refl; small = omega arith; suits = pairs-suit u o b } & nil)
+
+unsubscribe-fields : (h : UnsubscribeHanded) → UnsubscribeTyped h → Each Writable (fieldsOf (unsubscribe h)) → asked (unsubscribe h) ≡ true → length (bodyBytes (unsubscribe h)) ≤ most
+    → Says (Fields anUnsubscribe (firstOf 10)) (said (unsubscribe h)) (bodyBytes (unsubscribe h))
+unfolding fieldsOf propsFields bodyBytes said block
+unsubscribe-fields h t p a l =
+    let ps : List Field = flat (λ r. givenFields (r .1) (unsubscribeGiven (h .user) (r .0))) unsubscribePlace in
+    let m : length (counted (propsBytes unsubscribePlace (unsubscribeGiven (h .user)))) ≤ most = omega (arith, simp length-append at l) in
+    let s₂ = says-block unsubscribePlace unsubscribeOf (unsubscribeGiven (h .user)) (unsubscribe-rows (h .user) (t .user) (each-flat _ unsubscribePlace (each-left ps (map word (strings (h .topics))) p)))
+        (block-fits (propsBytes unsubscribePlace (unsubscribeGiven (h .user))) m) in
+    let s₃ = says-topics (strings (h .topics)) (each-piece (h .topics .lengths) (t .topics)) (each-right ps (map word (strings (h .topics))) p) in
+    let same : mkUnsubscribe (h .ident, (unsubscribeOf (map propOf (entries unsubscribePlace (unsubscribeGiven (h .user)))), strings (h .topics))) ≡ said (unsubscribe h) = rw (unsubscribe-says (h .user)) in
+    rw (← same) (says-map mkUnsubscribe (says-then (says-wide 2 (h .ident) (omega (arith, t .ident))) (says-then s₂ (says-only someOf a s₃))))
 
 -- ---- Subscribe
 
@@ -237,11 +262,18 @@ frame-says limit room (publish h) t p l =
     let n = passes-when (named (publish h)) (unnamed-when (publish h)) .1 (p .named) in
     says-frame aPublish (firstByte (publish h)) e b l (publish-fields h t (p .countable .fields) n (p .numbers) l)
 frame-says limit room (ack k h) t p l =
-    let (f, o) = ack-fine k (t .reasons) (t .kind) in
-    says-first (anAck (t .reasons)) k (t .kind) f l (ack-fields k h t f o (p .countable .belongs) (p .countable .fields) l)
+    let f : First k = first-of k (kinds-fine k (anAck (reasonsOf k)) (t .kind)) in
+    says-first (anAck (reasonsOf k)) k (t .kind) f l (ack-fields k h t f (p .countable .belongs) (p .countable .fields) l)
 frame-says limit room (subscribe h) t p l =
     let a = passes-when (asked (subscribe h)) (unasked-when (subscribe h)) .1 (p .asked) in
     says-first aSubscribe 8 refl (first-of 8 (kinds-fine 8 aSubscribe refl)) l (subscribe-fields h t (p .countable .fields) (p .numbers) a l)
+frame-says limit room (reply k h) t p l =
+    let f : First k = first-of k (kinds-fine k (aReply (reasonsOf k)) (t .kind)) in
+    let a = passes-when (asked (reply k h)) (unasked-when (reply k h)) .1 (p .asked) in
+    says-first (aReply (reasonsOf k)) k (t .kind) f l (reply-fields k h t f (p .countable .fields) a l)
+frame-says limit room (unsubscribe h) t p l =
+    let a = passes-when (asked (unsubscribe h)) (unasked-when (unsubscribe h)) .1 (p .asked) in
+    says-first anUnsubscribe 10 refl (first-of 10 (kinds-fine 10 anUnsubscribe refl)) l (unsubscribe-fields h t (p .countable .fields) a l)
 frame-says limit room (ping k) t p l =
     let f : First k = first-of k (kinds-fine k aPing t) in
     let same : mkPing (firstOf k) [] ≡ said (ping k) = rw (f .kind) in

@@ -6,13 +6,13 @@ use mathlib.Core.Option.{Option}
 use mathlib.Core.List.{List, [], _∷_, _++_, map}
 use Prim.Native.Nat.{ℕ, _+_, _*_, _%_}
 use native.Mathlib.Omega.{arith}
-use Rattle.grammar.specs.Tables.{u8, u16, u32, number, text, bytes, pair, publishPlace, subscribePlace, ackPlace}
+use Rattle.grammar.specs.Tables.{u8, u16, u32, number, text, bytes, pair, publishPlace, subscribePlace, ackPlace, unsubscribePlace, reasonsOf}
 use Rattle.reading.specs.Reader.{got}
 use Rattle.writing.specs.Lists.{flat}
-use Rattle.writing.specs.Handed.{PublishHanded, SubscribeHanded, AckHanded, publish, ack, subscribe, ping, one, lent, pairs, several, publishGiven, subscribeGiven, ackGiven, strings, filters}
+use Rattle.writing.specs.Handed.{Lent, Run, PublishHanded, SubscribeHanded, AckHanded, ReplyHanded, UnsubscribeHanded, publish, ack, subscribe, reply, unsubscribe, ping, one, lent, pairs, several, publishGiven, subscribeGiven, ackGiven, unsubscribeGiven, strings, filters}
 use Rattle.writing.specs.Spell.{wide, spellStep, spell, short, string, rowBytes, propsBytes, counted, block, filterBytes}
 use Rattle.writing.specs.Size.{isPlain}
-use Rattle.writing.specs.Order.{raw, word, propsFields, filterField, fieldsOf}
+use Rattle.writing.specs.Order.{raw, word, code, propsFields, filterField, fieldsOf}
 use Rattle.writing.specs.Write.{firsts, firstOf, firstByte, identBytes, bodyBytes, frameBytes, writeOf}
 use Rattle.writing.proofs.Verdict.{written}
 
@@ -37,10 +37,15 @@ pub subscribe-props : (h : SubscribeHanded) → propsBytes subscribePlace (subsc
 unfolding propsBytes subscribePlace subscribeGiven
 subscribe-props h = refl
 
--- 01, table of properties, row PubAck: 31, 38
-pub ack-props : (h : AckHanded) → propsBytes ackPlace (ackGiven h) ≡ rowBytes (31, text) (lent (h .text)) ++ (rowBytes (38, pair) (pairs (h .user)) ++ [])
+-- 01, table of properties, row PubAck, and 02, P1: "31 is written before 38"
+pub ack-props : (t : Lent) (u : Run) → propsBytes ackPlace (ackGiven t u) ≡ rowBytes (31, text) (lent t) ++ (rowBytes (38, pair) (pairs u) ++ [])
 unfolding propsBytes ackPlace ackGiven
-ack-props h = refl
+ack-props t u = refl
+
+-- 02, P1: row Unsubscribe: 38
+pub unsubscribe-props : (u : Run) → propsBytes unsubscribePlace (unsubscribeGiven u) ≡ rowBytes (38, pair) (pairs u) ++ []
+unfolding propsBytes unsubscribePlace unsubscribeGiven
+unsubscribe-props u = refl
 
 -- ---- the fields that are tested, in the order in which they are written
 
@@ -60,10 +65,20 @@ pub subscribe-order : (h : SubscribeHanded) → fieldsOf (subscribe h) ≡ (map 
 unfolding fieldsOf propsFields subscribePlace subscribeGiven
 subscribe-order h = refl
 
--- 01, writing order: 31, pairs
-pub ack-order : (k : ℕ) (h : AckHanded) → fieldsOf (ack k h) ≡ cond (h .text .on) (word (h .text .bytes) ∷ []) [] ++ (map word (strings (h .user)) ++ [])
+-- 02, P1, the written 15 "where 14 stands": the reason; then 31, pairs
+pub ack-order : (k : ℕ) (h : AckHanded) → fieldsOf (ack k h) ≡ code (reasonsOf k) (h .reason) ∷ (cond (h .text .on) (word (h .text .bytes) ∷ []) [] ++ (map word (strings (h .user)) ++ []))
 unfolding fieldsOf propsFields ackPlace ackGiven
 ack-order k h = refl
+
+-- 02, P1: 31, pairs, then each reason
+pub reply-order : (k : ℕ) (h : ReplyHanded) → fieldsOf (reply k h) ≡ (cond (h .text .on) (word (h .text .bytes) ∷ []) [] ++ (map word (strings (h .user)) ++ [])) ++ map (code (reasonsOf k)) (h .reasons)
+unfolding fieldsOf propsFields ackPlace ackGiven
+reply-order k h = refl
+
+-- 02, P1: pairs, then each topic
+pub unsubscribe-order : (h : UnsubscribeHanded) → fieldsOf (unsubscribe h) ≡ (map word (strings (h .user)) ++ []) ++ map word (strings (h .topics))
+unfolding fieldsOf propsFields unsubscribePlace unsubscribeGiven
+unsubscribe-order h = refl
 
 -- ---- whole frames
 
@@ -80,26 +95,38 @@ module _ (limit : Option ℕ) (room : ℕ) (b : List ℕ) where
   unfolding frameBytes firstByte firstOf firsts bodyBytes block
   subscribe-bytes h e = written limit room (subscribe h) b e
 
-  -- 01, grammar: "A successful PubAck with properties absent is 4 bytes"
-  pub puback-plain : (h : AckHanded) → h .reason ≡ 0 → h .block ≡ false → writeOf limit room (ack 4 h) ≡ got b → b ≡ 0x40 ∷ 0x02 ∷ wide 2 (h .ident)
-  unfolding frameBytes firstByte firstOf firsts bodyBytes counted short spell spellStep wide
-  puback-plain h c p e = written limit room (ack 4 h) b e ∙ rw (c, p)
+  -- 02, P1: SubAck and UnsubAck
+  pub reply-bytes : (k : ℕ) (h : ReplyHanded) → writeOf limit room (reply k h) ≡ got b
+      → b ≡ firstOf k ∷ counted (wide 2 (h .ident) ++ (counted (propsBytes ackPlace (ackGiven (h .text) (h .user))) ++ h .reasons))
+  unfolding frameBytes firstByte bodyBytes block
+  reply-bytes k h e = written limit room (reply k h) b e
+
+  -- 02, P1: Unsubscribe
+  pub unsubscribe-bytes : (h : UnsubscribeHanded) → writeOf limit room (unsubscribe h) ≡ got b
+      → b ≡ 0xA2 ∷ counted (wide 2 (h .ident) ++ (counted (propsBytes unsubscribePlace (unsubscribeGiven (h .user))) ++ flat string (strings (h .topics))))
+  unfolding frameBytes firstByte firstOf firsts bodyBytes block
+  unsubscribe-bytes h e = written limit room (unsubscribe h) b e
+
+  -- 01, grammar: "A successful PubAck with properties absent is 4 bytes"; 02, P1: the four share it
+  pub ack-plain : (k : ℕ) (h : AckHanded) → h .reason ≡ 0 → h .block ≡ false → writeOf limit room (ack k h) ≡ got b → b ≡ firstOf k ∷ 0x02 ∷ wide 2 (h .ident)
+  unfolding frameBytes firstByte bodyBytes counted short spell spellStep wide
+  ack-plain k h c p e = written limit room (ack k h) b e ∙ rw (c, p)
 
   -- 01, grammar: "any other writes reason and block"
-  pub puback-full : (h : AckHanded) → isPlain h ≡ false → writeOf limit room (ack 4 h) ≡ got b
-      → b ≡ 0x40 ∷ counted (wide 2 (h .ident) ++ (h .reason ∷ counted (propsBytes ackPlace (ackGiven h))))
-  unfolding frameBytes firstByte firstOf firsts bodyBytes block
-  puback-full h p e = written limit room (ack 4 h) b e ∙ rw p
+  pub ack-full : (k : ℕ) (h : AckHanded) → isPlain h ≡ false → writeOf limit room (ack k h) ≡ got b
+      → b ≡ firstOf k ∷ counted (wide 2 (h .ident) ++ (h .reason ∷ counted (propsBytes ackPlace (ackGiven (h .text) (h .user)))))
+  unfolding frameBytes firstByte bodyBytes block
+  ack-full k h p e = written limit room (ack k h) b e ∙ rw p
 
   -- 01, grammar: "`C0 00` and `D0 00` for pings"
   pub ping-bytes : (k : ℕ) → writeOf limit room (ping k) ≡ got b → b ≡ firstOf k ∷ 0x00 ∷ []
   unfolding frameBytes firstByte bodyBytes counted short spell spellStep
   ping-bytes k e = written limit room (ping k) b e
 
--- 01, grammar: "first byte 0x82 for Subscribe, 0x40 for PubAck, `C0 00` and `D0 00` for pings"
-pub first-bytes : (firstOf 4 ≡ 0x40) × (firstOf 8 ≡ 0x82) × (firstOf 12 ≡ 0xC0) × (firstOf 13 ≡ 0xD0)
+-- 01, grammar: "first byte 0x82 for Subscribe, 0x40 for PubAck, `C0 00` and `D0 00` for pings"; 02, P1: the six others
+pub first-bytes : map firstOf (4 ∷ 5 ∷ 6 ∷ 7 ∷ 8 ∷ 9 ∷ 10 ∷ 11 ∷ 12 ∷ 13 ∷ []) ≡ 0x40 ∷ 0x50 ∷ 0x62 ∷ 0x70 ∷ 0x82 ∷ 0x90 ∷ 0xA2 ∷ 0xB0 ∷ 0xC0 ∷ 0xD0 ∷ []
 unfolding firstOf firsts
-first-bytes = (refl, refl, refl, refl)
+first-bytes = refl
 
 -- ---- options
 

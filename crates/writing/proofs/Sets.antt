@@ -6,12 +6,12 @@ use mathlib.Core.List.{List, [], _∷_, _++_, map, append-nil}
 use Prim.Native.Nat.{ℕ}
 use lib.Dec.{eqb}
 use Rattle.grammar.specs.Choice.{isEmpty}
-use Rattle.grammar.specs.Tables.{Form, Place, publishPlace, subscribePlace, ackPlace}
-use Rattle.grammar.specs.Record.{str, lastFrom, lastOf, allOf, unlessEmpty, publishProps, subscribeProps, ackProps}
-use Rattle.grammar.specs.Sentence.{Value, Prop, asList, publishOf, subscribeOf, ackOf}
+use Rattle.grammar.specs.Tables.{Form, Place, publishPlace, subscribePlace, ackPlace, unsubscribePlace}
+use Rattle.grammar.specs.Record.{str, lastFrom, lastOf, allOf, unlessEmpty, publishProps, subscribeProps, ackProps, unsubscribeProps}
+use Rattle.grammar.specs.Sentence.{Value, Prop, asList, publishOf, subscribeOf, ackOf, unsubscribeOf}
 use Rattle.writing.specs.Lists.{flat}
-use Rattle.writing.specs.Handed.{Lent, PublishHanded, SubscribeHanded, AckHanded, one, lent, pairs, several, Givens, publishGiven, subscribeGiven, ackGiven, items, Entry, propOf, tag, entries}
-use Rattle.writing.specs.Meant.{numeralOf, stringOf, publishSet, subscribeSet, ackSet, nonePublish, noneAck, noneSubscribe}
+use Rattle.writing.specs.Handed.{Lent, Run, PublishHanded, SubscribeHanded, one, lent, pairs, several, Givens, publishGiven, subscribeGiven, ackGiven, unsubscribeGiven, items, Entry, propOf, tag, entries}
+use Rattle.writing.specs.Meant.{numeralOf, stringOf, publishSet, subscribeSet, ackSet, unsubscribeSet, nonePublish, noneAck, noneSubscribe, noneUnsubscribe}
 
 -- ---- of a block, the last value of a row and all of them, by what is handed over for the row
 
@@ -99,12 +99,16 @@ publish-set h = rw (
     every : (i : ℕ) → allOf i (map propOf (entries publishPlace (publishGiven h))) ≡ allRow i publishPlace (publishGiven h)
     every i = all-entries i publishPlace (publishGiven h)
 
-ack-set : (h : AckHanded) → ackProps (List ℕ) List asList (map propOf (entries ackPlace (ackGiven h))) ≡ ackSet h
+ack-set : (t : Lent) (u : Run) → ackProps (List ℕ) List asList (map propOf (entries ackPlace (ackGiven t u))) ≡ ackSet t u
 unfolding ackProps ackPlace ackGiven
-ack-set h = rw (
-  last-entries 31 ackPlace (ackGiven h) ∙ last-lent (h .text),
-  all-entries 38 ackPlace (ackGiven h) ∙ append-nil (items (pairs (h .user))),
+ack-set t u = rw (
+  last-entries 31 ackPlace (ackGiven t u) ∙ last-lent t,
+  all-entries 38 ackPlace (ackGiven t u) ∙ append-nil (items (pairs u)),
 )
+
+unsubscribe-set : (u : Run) → unsubscribeProps (List ℕ) List asList (map propOf (entries unsubscribePlace (unsubscribeGiven u))) ≡ unsubscribeSet u
+unfolding unsubscribeProps unsubscribePlace unsubscribeGiven
+unsubscribe-set u = rw (all-entries 38 unsubscribePlace (unsubscribeGiven u) ∙ append-nil (items (pairs u)))
 
 subscribe-set : (h : SubscribeHanded) → subscribeProps (List ℕ) List asList (map propOf (entries subscribePlace (subscribeGiven h))) ≡ subscribeSet h
 unfolding subscribeProps subscribePlace subscribeGiven
@@ -121,8 +125,11 @@ unless-empty f (x ∷ es) a e = ap some e
 pub publish-says : (h : PublishHanded) → publishOf (map propOf (entries publishPlace (publishGiven h))) ≡ cond (nonePublish h) none (some (publishSet h))
 publish-says h = unless-empty (publishProps (List ℕ) List asList) (entries publishPlace (publishGiven h)) (publishSet h) (publish-set h)
 
-pub ack-says : (h : AckHanded) → ackOf (map propOf (entries ackPlace (ackGiven h))) ≡ cond (noneAck h) none (some (ackSet h))
-ack-says h = unless-empty (ackProps (List ℕ) List asList) (entries ackPlace (ackGiven h)) (ackSet h) (ack-set h)
+pub ack-says : (t : Lent) (u : Run) → ackOf (map propOf (entries ackPlace (ackGiven t u))) ≡ cond (noneAck t u) none (some (ackSet t u))
+ack-says t u = unless-empty (ackProps (List ℕ) List asList) (entries ackPlace (ackGiven t u)) (ackSet t u) (ack-set t u)
+
+pub unsubscribe-says : (u : Run) → unsubscribeOf (map propOf (entries unsubscribePlace (unsubscribeGiven u))) ≡ cond (noneUnsubscribe u) none (some (unsubscribeSet u))
+unsubscribe-says u = unless-empty (unsubscribeProps (List ℕ) List asList) (entries unsubscribePlace (unsubscribeGiven u)) (unsubscribeSet u) (unsubscribe-set u)
 
 pub subscribe-says : (h : SubscribeHanded) → subscribeOf (map propOf (entries subscribePlace (subscribeGiven h))) ≡ cond (noneSubscribe h) none (some (subscribeSet h))
 subscribe-says h = unless-empty (subscribeProps (List ℕ) List asList) (entries subscribePlace (subscribeGiven h)) (subscribeSet h) (subscribe-set h)

@@ -9,15 +9,15 @@ use lib.Dec.{eqb, ltb, ltb→lt}
 use lib.ListN.{length, take, drop, length-append, length-drop}
 use lib.Seq.{length-take-le}
 use borrow.Author.Tests.{lt-ltb, ltb-false, le-ltb}
-use Rattle.grammar.specs.Tables.{Form, u8, u16, u32, number, text, bytes, pair, Place, publishPlace, subscribePlace, ackPlace}
+use Rattle.grammar.specs.Tables.{Form, u8, u16, u32, number, text, bytes, pair, Place, publishPlace, subscribePlace, ackPlace, unsubscribePlace}
 use Rattle.grammar.specs.Record.{str}
 use Rattle.grammar.specs.Sentence.{Value}
 use Rattle.grammar.specs.Octets.{Each, nil, _&_}
 use Rattle.reading.proofs.Lists.{T-of}
 use Rattle.writing.specs.Lists.{flat, total, sum, pieces, beside}
-use Rattle.writing.specs.Handed.{SubscribeHanded, Handed, publish, ack, subscribe, ping, Given, one, lent, pairs, several, Givens, publishGiven, subscribeGiven, ackGiven, strings, duos, items, tag, filters}
+use Rattle.writing.specs.Handed.{Run, SubscribeHanded, Handed, publish, ack, subscribe, reply, unsubscribe, ping, Given, one, lent, pairs, several, Givens, publishGiven, subscribeGiven, ackGiven, unsubscribeGiven, strings, duos, items, tag, filters}
 use Rattle.writing.specs.Spell.{wide, spellStep, spell, short, string, numeral, value, entry, rowBytes, propsBytes, counted, block, filterBytes}
-use Rattle.writing.specs.Size.{lenLen, withLength, numSize, givenSize, propsSize, noIdent, identSize, isPlain, filtersSize, restIs, sizeIs}
+use Rattle.writing.specs.Size.{lenLen, withLength, numSize, givenSize, propsSize, noIdent, identSize, isPlain, filtersSize, topicsSize, restIs, sizeIs}
 use Rattle.writing.specs.Write.{identBytes, bodyBytes, frameBytes}
 use Rattle.writing.specs.Refuse.{AddsUp, Sorted, InBlock, Belongs}
 use Rattle.writing.proofs.Says.{length-wide}
@@ -181,6 +181,13 @@ length-filters h a e =
     let t = pieces-total 3 (h .filters .lengths) (h .filters .bytes) a in
     length-beside (strings (h .filters)) (h .options) (n ∙ e) ∙ omega arith
 
+length-strings : (ss : List (List ℕ)) → length (flat string ss) ≡ total (λ s. 2 + length s) ss
+length-strings [] = refl
+length-strings (s ∷ ss) = let ih = length-strings ss in simp (length-append, length-string) (omega arith)
+
+length-topics : (r : Run) → AddsUp r → length (flat string (strings r)) ≡ topicsSize r
+length-topics r a = length-strings (strings r) ∙ let t = pieces-total 2 (r .lengths) (r .bytes) a in omega arith
+
 -- ---- R and the size
 
 pub length-body : (h : Handed) → Belongs h → length (bodyBytes h) ≡ restIs h
@@ -189,16 +196,23 @@ length-body (publish h) w =
     let e = length-block publishPlace (h .block) (publishGiven h) w in
     simp (length-append, length-string, length-ident) (omega arith)
 length-body (ack k h) w =
-    let e = length-block ackPlace (h .block) (ackGiven h) w in
+    let e = length-block ackPlace (h .block) (ackGiven (h .text) (h .user)) w in
     simp (length-append, length-wide) (go (isPlain h) e)
   where
-    go : (t : Bool) → length (block ackPlace (ackGiven h)) ≡ withLength (propsSize ackPlace (ackGiven h))
-        → 2 + length (cond t [] (h .reason ∷ block ackPlace (ackGiven h))) ≡ cond t 2 (3 + withLength (propsSize ackPlace (ackGiven h)))
+    go : (t : Bool) → length (block ackPlace (ackGiven (h .text) (h .user))) ≡ withLength (propsSize ackPlace (ackGiven (h .text) (h .user)))
+        → 2 + length (cond t [] (h .reason ∷ block ackPlace (ackGiven (h .text) (h .user)))) ≡ cond t 2 (3 + withLength (propsSize ackPlace (ackGiven (h .text) (h .user))))
     go true e = refl
     go false e = omega arith
 length-body (subscribe h) (w, (a, n)) =
     let e = length-block subscribePlace (h .block) (subscribeGiven h) w in
     let f = length-filters h a n in
+    simp (length-append, length-wide) (omega arith)
+length-body (reply k h) w =
+    let e = length-block ackPlace (h .block) (ackGiven (h .text) (h .user)) w in
+    simp (length-append, length-wide) (omega arith)
+length-body (unsubscribe h) (w, a) =
+    let e = length-block unsubscribePlace (h .block) (unsubscribeGiven (h .user)) w in
+    let f = length-topics (h .topics) a in
     simp (length-append, length-wide) (omega arith)
 length-body (ping k) w = refl
 

@@ -6,22 +6,22 @@ use mathlib.Core.List.{List, [], _∷_, map}
 use Prim.Native.Nat.{ℕ, _/_, _%_, _≤_, _<_}
 use native.Mathlib.Omega.{arith}
 use lib.ListN.{length}
-use Rattle.grammar.specs.Choice.{lookup}
-use Rattle.grammar.specs.Gram.{Sized, Many, Is}
-use Rattle.grammar.specs.Number.{Big}
+use Rattle.grammar.specs.Choice.{isIn, lookup}
+use Rattle.grammar.specs.Gram.{done, more, only, Sized, Many, Is}
+use Rattle.grammar.specs.Number.{byte, Big}
 use Rattle.grammar.specs.Text.{Utf8}
 use Rattle.grammar.specs.Tables.{Form, u8, u16, u32, number, text, bytes, pair, Place}
 use Rattle.grammar.specs.Record.{num, str, duo, mkFilter}
-use Rattle.grammar.specs.Sentence.{Any, Bytes, Text, Value, Prop, duoOf, Spelt, Property, property, Block, qosFine, ruleFine, FilterOf}
+use Rattle.grammar.specs.Sentence.{Any, Bytes, Text, Value, Prop, duoOf, Spelt, Property, property, Block, qosFine, ruleFine, FilterOf, ReasonOf}
 use Rattle.grammar.specs.Octets.{Each, nil, _&_, Octets}
 use Rattle.writing.specs.Lists.{flat}
 use Rattle.writing.specs.Handed.{Lent, Run, one, lent, pairs, several, Givens, strings, duos, items, Entry, propOf, tag, entries}
 use Rattle.writing.specs.Spell.{string, numeral, value, entry, rowBytes, propsBytes, block, filterBytes}
 use Rattle.writing.specs.Size.{most}
-use Rattle.writing.specs.Order.{word, stringField, filterField, orNone}
+use Rattle.writing.specs.Order.{word, code, stringField, filterField, orNone}
 use Rattle.writing.specs.Refuse.{Short, Writable, Small}
 use Rattle.writing.specs.Meant.{Below}
-use Rattle.writing.proofs.Each.{each-imp, each-both, map-each, flat-each, each-piece, flat-append}
+use Rattle.writing.proofs.Each.{each-append, each-imp, each-both, map-each, flat-each, each-piece, flat-append}
 use Rattle.writing.proofs.Says.{Says, says-map, says-only, says-then, says-sized, says-is, says-many, says-byte, says-wide, says-short, says-counted}
 
 -- ---- strings
@@ -152,3 +152,16 @@ says-filter (s, o) (b, (h, u, p, q)) =
 
 pub says-filters : (fs : List (List ℕ × ℕ)) → Each (λ f. Octets (f .0)) fs → Each Writable (map filterField fs) → Says (Many FilterOf) (map mkFilter fs) (flat filterBytes fs)
 says-filters fs o p = says-many mkFilter filterBytes fs (each-imp says-filter (each-both o (map-each filterField fs p)))
+
+-- ---- reasons and topics
+
+pub says-reasons : (rs cs : List ℕ) → Octets cs → Each Writable (map (code rs) cs) → Says (Many (ReasonOf rs)) cs cs
+says-reasons rs [] o p = record { spelled = done; octets = nil }
+says-reasons rs (c ∷ cs) (o & os) (p & ps) = let r = says-reasons rs cs os ps in record { spelled = more (only p byte) (r .spelled); octets = o & r .octets }
+
+pub says-topics : (ss : List (List ℕ)) → Each Octets ss → Each Writable (map word ss) → Says (Many Text) ss (flat string ss)
+says-topics [] o p = record { spelled = done; octets = nil }
+says-topics (s ∷ ss) (o & os) (p & ps) =
+    let t = says-text o p in
+    let r = says-topics ss os ps in
+    record { spelled = more (t .spelled) (r .spelled); octets = each-append (t .octets) (r .octets) }

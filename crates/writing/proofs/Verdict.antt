@@ -7,6 +7,7 @@ use mathlib.Core.List.{List, [], _∷_}
 use Prim.Native.Nat.{ℕ, _≤_, _<_}
 use lib.ListN.{length}
 use borrow.Author.Tests.{le-leb, lt-leb}
+use Rattle.grammar.specs.Choice.{isIn}
 use Rattle.grammar.specs.Text.{Utf8}
 use Rattle.grammar.specs.Sentence.{qosFine, ruleFine}
 use Rattle.grammar.specs.Octets.{Each, nil, _&_}
@@ -17,9 +18,9 @@ use Rattle.reading.proofs.Reading.{bad-got, got-inj}
 use Rattle.reading.proofs.Fields.{text-fine}
 use Rattle.writing.specs.Handed.{Handed, belongs}
 use Rattle.writing.specs.Size.{most, restIs, sizeIs}
-use Rattle.writing.specs.Order.{Field, raw, word, filter, fieldsOf, numbersOf, named, asked, permitSized, permit}
+use Rattle.writing.specs.Order.{Field, raw, word, filter, code, fieldsOf, numbersOf, named, asked, permitSized, permit}
 use Rattle.writing.specs.Write.{frameBytes, sizeOf, writeOf, answerOf}
-use Rattle.writing.specs.Refuse.{Belongs, Short, Writable, Faulty, long-raw, long-word, long-filter, bad-word, bad-filter, bad-rule, bad-qos, FirstFault, Small, TooLarge, Unnamed, Unasked, Within, Countable, Refuses, field, too-large, no-name, number, none-asked, no-room, Accepts, Unsized, HasSize}
+use Rattle.writing.specs.Refuse.{Belongs, Short, Writable, Faulty, long-raw, long-word, long-filter, bad-word, bad-filter, bad-rule, bad-qos, unlisted, FirstFault, Small, TooLarge, Unnamed, Unasked, Within, Countable, Refuses, field, too-large, no-name, number, none-asked, no-room, Accepts, Unsized, HasSize}
 use Rattle.writing.proofs.Tests.{passes-when, fails-when, decide-by, le-or}
 use Rattle.writing.proofs.Belong.{belongs-when, unnamed-when, unasked-when}
 use Rattle.writing.proofs.Judge.{fields-pass, fields-fault, numbers-pass, numbers-fault, limit-pass, limit-fault}
@@ -67,6 +68,12 @@ decide-field (filter s o) = go (decide-word s) (either (ruleFine o)) (either (qo
     go (inl t) (inr p) q = inr (nr 14 (3 ∷ []), bad-rule (t .0) (t .1) p)
     go (inl t) (inl p) (inr q) = inr (nr 11 (3 ∷ []), bad-qos (t .0) (t .1) p q)
     go (inl t) (inl p) (inl q) = inl (t .0, t .1, p, q)
+
+decide-field (code rs c) = go (either (isIn c rs))
+  where
+    go : ((isIn c rs ≡ true) ⊎ (isIn c rs ≡ false)) → Writable (code rs c) ⊎ ((k : Refusal) × Faulty (code rs c) k)
+    go (inl p) = inl p
+    go (inr p) = inr (nr 15 (c ∷ []), unlisted p)
 
 decide-fields : (fs : List Field) → Each Writable fs ⊎ ((k : Refusal) × FirstFault k fs)
 decide-fields [] = inl nil

@@ -7,7 +7,7 @@ use Prim.Native.Nat.{ℕ, _%_}
 use lib.Dec.{eqb}
 use lib.ListN.{length}
 use Rattle.grammar.specs.Choice.{lookup, isEmpty, all}
-use Rattle.grammar.specs.Tables.{Form, Place, publishPlace, subscribePlace, ackPlace}
+use Rattle.grammar.specs.Tables.{Form, Place, publishPlace, subscribePlace, ackPlace, unsubscribePlace}
 use Rattle.grammar.specs.Record.{num, str, duo}
 use Rattle.grammar.specs.Sentence.{Value, Prop}
 use Rattle.writing.specs.Lists.{flat, sum, pieces, beside}
@@ -57,11 +57,29 @@ pub record AckHanded : Type 0 where
   pub text : Lent
   pub user : Run
 
--- 01, modules: "Publish, Subscribe, PubAck, PingReq, PingResp"; an acknowledgement and a ping by the number of their kind
+-- 02, P1: SubAck and UnsubAck; the reasons as bytes
+pub record ReplyHanded : Type 0 where
+  pub ident : ℕ
+  pub block : Bool
+  pub text : Lent
+  pub user : Run
+  pub reasons : List ℕ
+
+-- 02, P1: Unsubscribe
+pub record UnsubscribeHanded : Type 0 where
+  pub ident : ℕ
+  pub block : Bool
+  pub user : Run
+  pub topics : Run
+
+-- 01, modules: "Publish, Subscribe, PubAck, PingReq, PingResp"; 02, P1: the other acknowledgements, and Unsubscribe; acknowledgements,
+-- replies and pings by the number of their kind
 pub data Handed : Type 0 where
   publish : PublishHanded → Handed
   ack : ℕ → AckHanded → Handed
   subscribe : SubscribeHanded → Handed
+  reply : ℕ → ReplyHanded → Handed
+  unsubscribe : UnsubscribeHanded → Handed
   ping : ℕ → Handed
 
 -- ---- what is handed over for a row of the table of properties
@@ -99,9 +117,13 @@ publishGiven h i = orNothing (lookup (
 unfoldable pub subscribeGiven : SubscribeHanded → Givens
 subscribeGiven h i = orNothing (lookup ((11, one (h .subscription)) ∷ (38, pairs (h .user)) ∷ []) i)
 
--- 01, table of properties, row PubAck
-unfoldable pub ackGiven : AckHanded → Givens
-ackGiven h i = orNothing (lookup ((31, lent (h .text)) ∷ (38, pairs (h .user)) ∷ []) i)
+-- 01, table of properties, row PubAck; 02, P1: the row of all acknowledgements, "31 is written before 38"
+unfoldable pub ackGiven : Lent → Run → Givens
+ackGiven text user i = orNothing (lookup ((31, lent text) ∷ (38, pairs user) ∷ []) i)
+
+-- 02, P1: row Unsubscribe
+unfoldable pub unsubscribeGiven : Run → Givens
+unsubscribeGiven user i = orNothing (lookup ((38, pairs user) ∷ []) i)
 
 -- ---- the values in it
 
@@ -184,6 +206,8 @@ filtersBelong r os = addsUp r && eqb (length (r .lengths)) (length os)
 -- 01, row 20, of each kind
 unfoldable pub belongs : Handed → Bool
 belongs (publish h) = blockBelongs publishPlace (h .block) (publishGiven h)
-belongs (ack k h) = blockBelongs ackPlace (h .block) (ackGiven h)
+belongs (ack k h) = blockBelongs ackPlace (h .block) (ackGiven (h .text) (h .user))
 belongs (subscribe h) = blockBelongs subscribePlace (h .block) (subscribeGiven h) && filtersBelong (h .filters) (h .options)
+belongs (reply k h) = blockBelongs ackPlace (h .block) (ackGiven (h .text) (h .user))
+belongs (unsubscribe h) = blockBelongs unsubscribePlace (h .block) (unsubscribeGiven (h .user)) && addsUp (h .topics)
 belongs (ping k) = true

@@ -5,14 +5,14 @@ use mathlib.Core.Option.{Option, none, some}
 use mathlib.Core.List.{List, map}
 use Prim.Native.Nat.{ℕ, _<_}
 use lib.Dec.{eqb}
-use Rattle.grammar.specs.Choice.{isIn, lookup, isEmpty}
-use Rattle.grammar.specs.Tables.{publishPlace, subscribePlace, ackPlace, anAck, aPing, kinds}
-use Rattle.grammar.specs.Record.{num, str, PublishProps, SubscribeProps, AckProps, mkFilter}
+use Rattle.grammar.specs.Choice.{lookup, isEmpty}
+use Rattle.grammar.specs.Tables.{publishPlace, subscribePlace, ackPlace, unsubscribePlace, anAck, aReply, aPing, kinds, reasonsOf}
+use Rattle.grammar.specs.Record.{num, str, PublishProps, SubscribeProps, AckProps, UnsubscribeProps, mkFilter}
 use Rattle.grammar.specs.Sentence.{Value, Packet}
 use Rattle.grammar.specs.Record as g
 use Rattle.grammar.specs.Octets.{Octets}
 use Rattle.reading.specs.Place.{onSome}
-use Rattle.writing.specs.Handed.{Lent, PublishHanded, SubscribeHanded, AckHanded, Handed, publish, ack, subscribe, ping, publishGiven, subscribeGiven, ackGiven, strings, duos, entries, filters}
+use Rattle.writing.specs.Handed.{Lent, Run, PublishHanded, SubscribeHanded, AckHanded, ReplyHanded, UnsubscribeHanded, Handed, publish, ack, subscribe, reply, unsubscribe, ping, publishGiven, subscribeGiven, ackGiven, unsubscribeGiven, strings, duos, entries, filters}
 
 -- ---- properties
 
@@ -42,8 +42,12 @@ abbrev pub subscribeSet : SubscribeHanded → SubscribeProps (List ℕ) List
 subscribeSet h = record { ident = numeralOf (h .subscription); user = duos (strings (h .user)) }
 
 -- 01, table of properties, row PubAck
-abbrev pub ackSet : AckHanded → AckProps (List ℕ) List
-ackSet h = record { reason = stringOf (h .text); user = duos (strings (h .user)) }
+abbrev pub ackSet : Lent → Run → AckProps (List ℕ) List
+ackSet text user = record { reason = stringOf text; user = duos (strings user) }
+
+-- 02, P1: row Unsubscribe
+abbrev pub unsubscribeSet : Run → UnsubscribeProps (List ℕ) List
+unsubscribeSet user = record { user = duos (strings user) }
 
 -- ---- packets, with an identifier and a set of properties
 
@@ -59,11 +63,21 @@ theAck k h ps = g.ack k (record { ident = h .ident; reason = h .reason; props = 
 abbrev pub theSubscribe : SubscribeHanded → Option (SubscribeProps (List ℕ) List) → Packet
 theSubscribe h ps = g.subscribe (record { ident = h .ident; props = ps; filters = map mkFilter (filters h) })
 
+-- 02, P1: SubAck and UnsubAck
+abbrev pub theReply : ℕ → ReplyHanded → Option (AckProps (List ℕ) List) → Packet
+theReply k h ps = g.reply k (record { ident = h .ident; props = ps; reasons = h .reasons })
+
+-- 02, P1: Unsubscribe
+abbrev pub theUnsubscribe : UnsubscribeHanded → Option (UnsubscribeProps (List ℕ) List) → Packet
+theUnsubscribe h ps = g.unsubscribe (record { ident = h .ident; props = ps; topics = strings (h .topics) })
+
 -- the record: what the caller means
 unfoldable pub meant : Handed → Packet
 meant (publish h) = thePublish h (h .ident) (cond (h .block) (some (publishSet h)) none)
-meant (ack k h) = theAck k h (cond (h .block) (some (ackSet h)) none)
+meant (ack k h) = theAck k h (cond (h .block) (some (ackSet (h .text) (h .user))) none)
 meant (subscribe h) = theSubscribe h (cond (h .block) (some (subscribeSet h)) none)
+meant (reply k h) = theReply k h (cond (h .block) (some (ackSet (h .text) (h .user))) none)
+meant (unsubscribe h) = theUnsubscribe h (cond (h .block) (some (unsubscribeSet (h .user))) none)
 meant (ping k) = g.ping k
 
 -- a property set has nothing in it
@@ -71,18 +85,24 @@ abbrev pub nonePublish : PublishHanded → Bool
 nonePublish h = isEmpty (entries publishPlace (publishGiven h))
 
 -- the same of an acknowledgement
-abbrev pub noneAck : AckHanded → Bool
-noneAck h = isEmpty (entries ackPlace (ackGiven h))
+abbrev pub noneAck : Lent → Run → Bool
+noneAck text user = isEmpty (entries ackPlace (ackGiven text user))
 
 -- the same of a Subscribe
 abbrev pub noneSubscribe : SubscribeHanded → Bool
 noneSubscribe h = isEmpty (entries subscribePlace (subscribeGiven h))
 
+-- the same of an Unsubscribe
+abbrev pub noneUnsubscribe : Run → Bool
+noneUnsubscribe user = isEmpty (entries unsubscribePlace (unsubscribeGiven user))
+
 -- what the bytes say: 01, grammar: "QoS 0 writes no identifier"; reading back: a set present but empty "writes length 0 and reads as absent"
 unfoldable pub said : Handed → Packet
 said (publish h) = thePublish h (cond (eqb (h .qos) 0) 0 (h .ident)) (cond (nonePublish h) none (some (publishSet h)))
-said (ack k h) = theAck k h (cond (noneAck h) none (some (ackSet h)))
+said (ack k h) = theAck k h (cond (noneAck (h .text) (h .user)) none (some (ackSet (h .text) (h .user))))
 said (subscribe h) = theSubscribe h (cond (noneSubscribe h) none (some (subscribeSet h)))
+said (reply k h) = theReply k h (cond (noneAck (h .text) (h .user)) none (some (ackSet (h .text) (h .user))))
+said (unsubscribe h) = theUnsubscribe h (cond (noneUnsubscribe (h .user)) none (some (unsubscribeSet (h .user))))
 said (ping k) = g.ping k
 
 -- ---- what the types of the code ensure: lent bytes are u8, numbers are of their widths; nothing is assumed of lengths, options bytes
@@ -109,11 +129,10 @@ pub record PublishTyped (h : PublishHanded) : Type 0 where
   pub content : Octets (h .content .bytes)
   pub payload : Octets (h .payload)
 
--- an acknowledgement of a kind that is carried, with one of its reasons
+-- an acknowledgement of a kind that is carried; its reason may be any byte
 pub record AckTyped (k : ℕ) (h : AckHanded) : Type 0 where
-  pub reasons : List ℕ
-  pub kind : lookup kinds k ≡ some (anAck reasons)
-  pub reason : isIn (h .reason) reasons ≡ true
+  pub kind : lookup kinds k ≡ some (anAck (reasonsOf k))
+  pub reason : h .reason < 256
   pub ident : h .ident < 65536
   pub text : Octets (h .text .bytes)
   pub user : Octets (h .user .bytes)
@@ -124,11 +143,27 @@ pub record SubscribeTyped (h : SubscribeHanded) : Type 0 where
   pub user : Octets (h .user .bytes)
   pub filters : Octets (h .filters .bytes)
 
+-- a reply of a kind that is carried; its reasons may be any bytes
+pub record ReplyTyped (k : ℕ) (h : ReplyHanded) : Type 0 where
+  pub kind : lookup kinds k ≡ some (aReply (reasonsOf k))
+  pub ident : h .ident < 65536
+  pub text : Octets (h .text .bytes)
+  pub user : Octets (h .user .bytes)
+  pub reasons : Octets (h .reasons)
+
+-- its lengths may be any
+pub record UnsubscribeTyped (h : UnsubscribeHanded) : Type 0 where
+  pub ident : h .ident < 65536
+  pub user : Octets (h .user .bytes)
+  pub topics : Octets (h .topics .bytes)
+
 -- each kind; a ping of a kind that is carried
 abbrev pub Typed : Handed → Type 0
 Typed (publish h) = PublishTyped h
 Typed (ack k h) = AckTyped k h
 Typed (subscribe h) = SubscribeTyped h
+Typed (reply k h) = ReplyTyped k h
+Typed (unsubscribe h) = UnsubscribeTyped h
 Typed (ping k) = lookup kinds k ≡ some aPing
 
 -- ---- 01, reading back: "QoS 0 has identifier 0, and no property set is present but empty"
@@ -140,6 +175,8 @@ Filled block empty = block ≡ true → empty ≡ true → ⊥
 -- both conditions, of each kind
 abbrev pub Plain : Handed → Type 0
 Plain (publish h) = (h .qos ≡ 0 → h .ident ≡ 0) × Filled (h .block) (nonePublish h)
-Plain (ack k h) = Filled (h .block) (noneAck h)
+Plain (ack k h) = Filled (h .block) (noneAck (h .text) (h .user))
 Plain (subscribe h) = Filled (h .block) (noneSubscribe h)
+Plain (reply k h) = Filled (h .block) (noneAck (h .text) (h .user))
+Plain (unsubscribe h) = Filled (h .block) (noneUnsubscribe (h .user))
 Plain (ping k) = Unit {0}

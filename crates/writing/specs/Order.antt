@@ -5,14 +5,14 @@ use mathlib.Core.List.{List, [], _∷_, _++_, map}
 use Prim.Native.Nat.{ℕ}
 use lib.Dec.{leb, eqb}
 use lib.ListN.{length}
-use Rattle.grammar.specs.Choice.{isEmpty}
-use Rattle.grammar.specs.Tables.{Form, u8, u16, u32, number, text, bytes, pair, Place, publishPlace, subscribePlace, ackPlace}
+use Rattle.grammar.specs.Choice.{isIn, isEmpty}
+use Rattle.grammar.specs.Tables.{Form, u8, u16, u32, number, text, bytes, pair, Place, publishPlace, subscribePlace, ackPlace, unsubscribePlace, reasonsOf}
 use Rattle.grammar.specs.Sentence.{notZero, qosFine, ruleFine}
 use Rattle.reading.specs.Refusal.{Refusal, nr}
 use Rattle.reading.specs.Reader.{Fit, got, _>>_, guard}
 use Rattle.reading.specs.Read.{isText}
 use Rattle.writing.specs.Lists.{flat}
-use Rattle.writing.specs.Handed.{Handed, publish, ack, subscribe, ping, Given, one, lent, pairs, several, Givens, publishGiven, subscribeGiven, ackGiven, strings, filters, belongs}
+use Rattle.writing.specs.Handed.{Handed, publish, ack, subscribe, reply, unsubscribe, ping, Given, one, lent, pairs, several, Givens, publishGiven, subscribeGiven, ackGiven, unsubscribeGiven, strings, filters, belongs}
 use Rattle.writing.specs.Size.{most, restIs, sizeIs}
 
 -- what must hold, and the refusal if it does not
@@ -28,11 +28,12 @@ judge (t ∷ ts) = do
 
 -- ---- the fields that are tested as they are written
 
--- bytes; text; the text and the options byte of a filter
+-- bytes; text; the text and the options byte of a filter; a reason, and those that its kind may give
 pub data Field : Type 0 where
   raw : List ℕ → Field
   word : List ℕ → Field
   filter : List ℕ → ℕ → Field
+  code : List ℕ → ℕ → Field
 
 -- 01, row 18: "written string above 65,535 bytes"
 abbrev pub fits : List ℕ → Test
@@ -47,6 +48,8 @@ abbrev pub fieldTests : Field → List Test
 fieldTests (raw s) = fits s ∷ []
 fieldTests (word s) = fits s ∷ reads s ∷ []
 fieldTests (filter s o) = fits s ∷ reads s ∷ (ruleFine o, nr 14 (3 ∷ [])) ∷ (qosFine o, nr 11 (3 ∷ [])) ∷ []
+-- 02, P1: "an unlisted reason 15, .. the written one where 14 stands"
+fieldTests (code rs c) = (isIn c rs, nr 15 (c ∷ [])) ∷ []
 
 -- 01, table of properties: what is tested of a string of each form
 abbrev pub stringField : Form → List ℕ → Field
@@ -76,8 +79,10 @@ filterField f = filter (f .0) (f .1)
 -- 01, writing order: the fields of each kind, in the order in which they are written
 unfoldable pub fieldsOf : Handed → List Field
 fieldsOf (publish h) = raw (h .topic) ∷ propsFields publishPlace (publishGiven h)
-fieldsOf (ack k h) = propsFields ackPlace (ackGiven h)
+fieldsOf (ack k h) = code (reasonsOf k) (h .reason) ∷ propsFields ackPlace (ackGiven (h .text) (h .user))
 fieldsOf (subscribe h) = propsFields subscribePlace (subscribeGiven h) ++ map filterField (filters h)
+fieldsOf (reply k h) = propsFields ackPlace (ackGiven (h .text) (h .user)) ++ map (code (reasonsOf k)) (h .reasons)
+fieldsOf (unsubscribe h) = propsFields unsubscribePlace (unsubscribeGiven (h .user)) ++ map word (strings (h .topics))
 fieldsOf (ping k) = []
 
 -- ---- the other tests
@@ -96,6 +101,8 @@ abbrev pub numbersOf : Handed → List ℕ
 numbersOf (publish h) = h .subscriptions
 numbersOf (ack k h) = []
 numbersOf (subscribe h) = orNone (h .subscription)
+numbersOf (reply k h) = []
+numbersOf (unsubscribe h) = []
 numbersOf (ping k) = []
 
 -- 01, row 12: "Publish, QoS 1 or 2, identifier 0"
@@ -103,13 +110,17 @@ abbrev pub named : Handed → Bool
 named (publish h) = eqb (h .qos) 0 || notZero (h .ident)
 named (ack k h) = true
 named (subscribe h) = true
+named (reply k h) = true
+named (unsubscribe h) = true
 named (ping k) = true
 
--- 01, row 13: "no filters"
+-- 01, row 13: "no filters"; 02, P1: "with no entry gets 13, .. read or written"
 abbrev pub asked : Handed → Bool
 asked (publish h) = true
 asked (ack k h) = true
 asked (subscribe h) = not (isEmpty (filters h))
+asked (reply k h) = not (isEmpty (h .reasons))
+asked (unsubscribe h) = not (isEmpty (strings (h .topics)))
 asked (ping k) = true
 
 -- 01, row 16: "write size above the limit"

@@ -5,15 +5,16 @@ use mathlib.Core.Option.{Option, none, some}
 use mathlib.Core.List.{List, [], _∷_}
 use Prim.Native.Nat.{ℕ, _%_, _≤_, _<_}
 use lib.ListN.{length}
+use Rattle.grammar.specs.Choice.{isIn}
 use Rattle.grammar.specs.Text.{Utf8}
-use Rattle.grammar.specs.Tables.{Form, publishPlace, subscribePlace, ackPlace}
+use Rattle.grammar.specs.Tables.{Form, publishPlace, subscribePlace, ackPlace, unsubscribePlace}
 use Rattle.grammar.specs.Sentence.{qosFine, ruleFine}
 use Rattle.grammar.specs.Octets.{Each}
 use Rattle.reading.specs.Refusal.{Refusal, nr}
 use Rattle.writing.specs.Lists.{sum}
-use Rattle.writing.specs.Handed.{Run, Handed, publish, ack, subscribe, ping, Given, one, lent, pairs, several, Givens, publishGiven, subscribeGiven, ackGiven, filters}
+use Rattle.writing.specs.Handed.{Run, Handed, publish, ack, subscribe, reply, unsubscribe, ping, Given, one, lent, pairs, several, Givens, publishGiven, subscribeGiven, ackGiven, unsubscribeGiven, strings, filters}
 use Rattle.writing.specs.Size.{most, restIs, sizeIs}
-use Rattle.writing.specs.Order.{Field, raw, word, filter, fieldsOf, numbersOf}
+use Rattle.writing.specs.Order.{Field, raw, word, filter, code, fieldsOf, numbersOf}
 
 -- ---- what belongs together (20)
 
@@ -42,21 +43,24 @@ InBlock block g r = Sorted (g (r .0)) × (block ≡ false → NothingGiven (g (r
 -- 01, row 20, does not apply
 abbrev pub Belongs : Handed → Type 0
 Belongs (publish h) = Each (InBlock (h .block) (publishGiven h)) publishPlace
-Belongs (ack k h) = Each (InBlock (h .block) (ackGiven h)) ackPlace
+Belongs (ack k h) = Each (InBlock (h .block) (ackGiven (h .text) (h .user))) ackPlace
 Belongs (subscribe h) = Each (InBlock (h .block) (subscribeGiven h)) subscribePlace × (AddsUp (h .filters) × (length (h .filters .lengths) ≡ length (h .options)))
+Belongs (reply k h) = Each (InBlock (h .block) (ackGiven (h .text) (h .user))) ackPlace
+Belongs (unsubscribe h) = Each (InBlock (h .block) (unsubscribeGiven (h .user))) unsubscribePlace × AddsUp (h .topics)
 Belongs (ping k) = Unit {0}
 
--- ---- one field (18, 9, 14, 11)
+-- ---- one field (18, 9, 14, 11, 15)
 
 -- 01, row 18, does not apply: at most 65,535 bytes
 abbrev pub Short : List ℕ → Type 0
 Short s = length s ≤ 65535
 
--- a field that can be written: none of 01's rows 18, 9, 14 and 11 applies
+-- a field that can be written: none of 01's rows 18, 9, 14, 11 and 15 applies
 abbrev pub Writable : Field → Type 0
 Writable (raw s) = Short s
 Writable (word s) = Short s × Utf8 s
 Writable (filter s o) = Short s × Utf8 s × (ruleFine o ≡ true) × (qosFine o ≡ true)
+Writable (code rs c) = isIn c rs ≡ true
 
 -- a field that cannot, and the refusal that it is given: 01, writing order: "18, and 9 for text, .. with 14 then 11"
 pub data Faulty : Field → Refusal → Type 0 where
@@ -67,6 +71,7 @@ pub data Faulty : Field → Refusal → Type 0 where
   bad-filter : {s : List ℕ} {o : ℕ} → Short s → (Utf8 s → ⊥) → Faulty (filter s o) (nr 9 [])
   bad-rule : {s : List ℕ} {o : ℕ} → Short s → Utf8 s → ruleFine o ≡ false → Faulty (filter s o) (nr 14 (3 ∷ []))
   bad-qos : {s : List ℕ} {o : ℕ} → Short s → Utf8 s → ruleFine o ≡ true → qosFine o ≡ false → Faulty (filter s o) (nr 11 (3 ∷ []))
+  unlisted : {rs : List ℕ} {c : ℕ} → isIn c rs ≡ false → Faulty (code rs c) (nr 15 (c ∷ []))
 
 -- 01, writing order: "field by field as written": the first field that cannot be written is given k
 pub data FirstFault (k : Refusal) : List Field → Type 0 where
@@ -89,13 +94,17 @@ abbrev pub Unnamed : Handed → Type 0
 Unnamed (publish h) = (h .qos ≡ 0 → ⊥) × (h .ident ≡ 0)
 Unnamed (ack k h) = ⊥
 Unnamed (subscribe h) = ⊥
+Unnamed (reply k h) = ⊥
+Unnamed (unsubscribe h) = ⊥
 Unnamed (ping k) = ⊥
 
--- 01, row 13: "no filters"
+-- 01, row 13: "no filters"; 02, P1: "no entry"
 abbrev pub Unasked : Handed → Type 0
 Unasked (publish h) = ⊥
 Unasked (ack k h) = ⊥
 Unasked (subscribe h) = filters h ≡ []
+Unasked (reply k h) = h .reasons ≡ []
+Unasked (unsubscribe h) = strings (h .topics) ≡ []
 Unasked (ping k) = ⊥
 
 -- 01, row 16, does not apply: at most the limit

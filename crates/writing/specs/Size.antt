@@ -5,9 +5,9 @@ use mathlib.Core.List.{List}
 use Prim.Native.Nat.{ℕ, _+_, _*_, _/_}
 use lib.Dec.{leb, ltb, eqb}
 use lib.ListN.{length}
-use Rattle.grammar.specs.Tables.{Form, u8, u16, u32, number, text, bytes, pair, Place, publishPlace, subscribePlace, ackPlace}
+use Rattle.grammar.specs.Tables.{Form, u8, u16, u32, number, text, bytes, pair, Place, publishPlace, subscribePlace, ackPlace, unsubscribePlace}
 use Rattle.writing.specs.Lists.{total}
-use Rattle.writing.specs.Handed.{AckHanded, Handed, publish, ack, subscribe, ping, Given, one, lent, pairs, several, Givens, publishGiven, subscribeGiven, ackGiven}
+use Rattle.writing.specs.Handed.{Run, AckHanded, Handed, publish, ack, subscribe, reply, unsubscribe, ping, Given, one, lent, pairs, several, Givens, publishGiven, subscribeGiven, ackGiven, unsubscribeGiven}
 
 -- 01, "Lengths": how many bytes spell a number; writing order: "counts four bytes for a subscription identifier too large to write"
 abbrev pub lenLen : ℕ → ℕ
@@ -63,11 +63,17 @@ isPlain h = eqb (h .reason) 0 && not (h .block)
 abbrev pub filtersSize : List ℕ → List ℕ → ℕ
 filtersSize b os = length b + 3 * length os
 
+-- 02, P1: a topic has two bytes of length
+abbrev pub topicsSize : Run → ℕ
+topicsSize r = length (r .bytes) + 2 * length (r .lengths)
+
 -- 01, grammar: R of each kind
 unfoldable pub restIs : Handed → ℕ
 restIs (publish h) = 2 + length (h .topic) + (identSize (h .qos) (h .ident) + (withLength (propsSize publishPlace (publishGiven h)) + length (h .payload)))
-restIs (ack k h) = cond (isPlain h) 2 (3 + withLength (propsSize ackPlace (ackGiven h)))
+restIs (ack k h) = cond (isPlain h) 2 (3 + withLength (propsSize ackPlace (ackGiven (h .text) (h .user))))
 restIs (subscribe h) = 2 + (withLength (propsSize subscribePlace (subscribeGiven h)) + filtersSize (h .filters .bytes) (h .options))
+restIs (reply k h) = 2 + (withLength (propsSize ackPlace (ackGiven (h .text) (h .user))) + length (h .reasons))
+restIs (unsubscribe h) = 2 + (withLength (propsSize unsubscribePlace (unsubscribeGiven (h .user))) + topicsSize (h .topics))
 restIs (ping k) = 0
 
 -- 01, grammar: "A frame is one byte .., a variable length number R, then R bytes"

@@ -7,20 +7,21 @@ use Prim.Native.Nat.{ℕ, _+_, _*_}
 use lib.Dec.{leb}
 use lib.ListN.{length, drop}
 use Rattle.grammar.specs.Choice.{lookup}
-use Rattle.grammar.specs.Tables.{publishPlace, subscribePlace, ackPlace}
+use Rattle.grammar.specs.Tables.{publishPlace, subscribePlace, ackPlace, unsubscribePlace}
 use Rattle.reading.specs.Refusal.{nr}
 use Rattle.reading.specs.Reader.{Fit, got, bad, _>>_, _>>=_, guard}
 use Rattle.writing.specs.Lists.{flat}
-use Rattle.writing.specs.Handed.{Handed, publish, ack, subscribe, ping, publishGiven, subscribeGiven, ackGiven, filters, belongs}
+use Rattle.writing.specs.Handed.{Handed, publish, ack, subscribe, reply, unsubscribe, ping, publishGiven, subscribeGiven, ackGiven, unsubscribeGiven, strings, filters, belongs}
 use Rattle.writing.specs.Spell.{wide, string, counted, block, filterBytes}
 use Rattle.writing.specs.Size.{most, noIdent, isPlain, restIs, sizeIs}
 use Rattle.writing.specs.Order.{permit}
 
 -- ---- the first byte
 
--- 01, grammar: "first byte 0x82 for Subscribe, 0x40 for PubAck, `C0 00` and `D0 00` for pings"
+-- 01, grammar: "first byte 0x82 for Subscribe, 0x40 for PubAck, `C0 00` and `D0 00` for pings"; 02, P1, and MQTT 3.5 to 3.7, 3.9 to 3.11: PubRec 50,
+-- PubRel 62, PubComp 70, SubAck 90, Unsubscribe A2, UnsubAck B0
 unfoldable pub firsts : List (ℕ × ℕ)
-firsts = (4, 0x40) ∷ (8, 0x82) ∷ (12, 0xC0) ∷ (13, 0xD0) ∷ []
+firsts = (4, 0x40) ∷ (5, 0x50) ∷ (6, 0x62) ∷ (7, 0x70) ∷ (8, 0x82) ∷ (9, 0x90) ∷ (10, 0xA2) ∷ (11, 0xB0) ∷ (12, 0xC0) ∷ (13, 0xD0) ∷ []
 
 -- 0 for a kind that is not in the table
 abbrev firstOrZero : Option ℕ → ℕ
@@ -36,6 +37,8 @@ unfoldable pub firstByte : Handed → ℕ
 firstByte (publish h) = 0x30 + (8 * h .dup + (2 * h .qos + h .retain))
 firstByte (ack k h) = firstOf k
 firstByte (subscribe h) = firstOf 8
+firstByte (reply k h) = firstOf k
+firstByte (unsubscribe h) = firstOf 10
 firstByte (ping k) = firstOf k
 
 -- ---- the R bytes
@@ -47,8 +50,10 @@ identBytes q i = cond (noIdent q i) [] (wide 2 i)
 -- 01, grammar: each kind
 unfoldable pub bodyBytes : Handed → List ℕ
 bodyBytes (publish h) = string (h .topic) ++ (identBytes (h .qos) (h .ident) ++ (block publishPlace (publishGiven h) ++ h .payload))
-bodyBytes (ack k h) = wide 2 (h .ident) ++ cond (isPlain h) [] (h .reason ∷ block ackPlace (ackGiven h))
+bodyBytes (ack k h) = wide 2 (h .ident) ++ cond (isPlain h) [] (h .reason ∷ block ackPlace (ackGiven (h .text) (h .user)))
 bodyBytes (subscribe h) = wide 2 (h .ident) ++ (block subscribePlace (subscribeGiven h) ++ flat filterBytes (filters h))
+bodyBytes (reply k h) = wide 2 (h .ident) ++ (block ackPlace (ackGiven (h .text) (h .user)) ++ h .reasons)
+bodyBytes (unsubscribe h) = wide 2 (h .ident) ++ (block unsubscribePlace (unsubscribeGiven (h .user)) ++ flat string (strings (h .topics)))
 bodyBytes (ping k) = []
 
 -- 01, grammar: "A frame is one byte .., a variable length number R, then R bytes"
