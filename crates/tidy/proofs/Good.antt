@@ -7,22 +7,22 @@ use Prim.Native.Nat.{ℕ, _+_, _*_, _/_, _%_, _≤_, _<_}
 use native.Mathlib.Omega.{arith}
 use lib.ListN.{length, length-append, length-map}
 use Rattle.grammar.specs.Choice.{isEmpty}
-use Rattle.grammar.specs.Tables.{Form, u8, u16, u32, number, text, bytes, pair, publishPlace, subscribePlace, ackPlace}
-use Rattle.grammar.specs.Record.{num, str, lastOf, allOf, PublishProps, publishProps, SubscribeProps, subscribeProps, AckProps, ackProps, Publish, Filter, Subscribe, Ack, mkFilter}
+use Rattle.grammar.specs.Tables.{Form, u8, u16, u32, number, text, bytes, pair, publishPlace, subscribePlace, ackPlace, unsubscribePlace, reasonsOf}
+use Rattle.grammar.specs.Record.{num, str, lastOf, allOf, PublishProps, publishProps, SubscribeProps, subscribeProps, AckProps, ackProps, UnsubscribeProps, unsubscribeProps, Publish, Filter, Subscribe, Ack, Reply, Unsubscribe, mkFilter}
 use Rattle.grammar.specs.Sentence.{Value, Prop, asList, qosFine, ruleFine, someOf, Packet}
 use Rattle.grammar.specs.Record as g
 use Rattle.grammar.specs.Octets.{Each, nil, _&_, Octets}
 use Rattle.writing.specs.Lists.{flat, total, beside}
-use Rattle.writing.specs.Handed.{PublishHanded, SubscribeHanded, AckHanded, Handed, publish, ack, subscribe, ping, publishGiven, subscribeGiven, ackGiven, filters}
+use Rattle.writing.specs.Handed.{PublishHanded, SubscribeHanded, AckHanded, ReplyHanded, UnsubscribeHanded, Lent, Run, Handed, publish, ack, subscribe, reply, unsubscribe, ping, publishGiven, subscribeGiven, ackGiven, unsubscribeGiven, strings, filters}
 use Rattle.writing.specs.Size.{most, withLength, propsSize, isPlain, restIs, sizeIs}
-use Rattle.writing.specs.Order.{stringField, filterField, fieldsOf, orNone, numbersOf}
+use Rattle.writing.specs.Order.{word, code, stringField, filterField, fieldsOf, orNone, numbersOf}
 use Rattle.writing.specs.Refuse.{Writable, Small, Countable, Unnamed, Unasked, Accepts}
-use Rattle.writing.specs.Meant.{publishSet, subscribeSet, ackSet, thePublish, theAck, meant, Below, Typed, Plain}
+use Rattle.writing.specs.Meant.{publishSet, subscribeSet, ackSet, unsubscribeSet, thePublish, theAck, theReply, meant, Below, Typed, Plain}
 use Rattle.writing.proofs.Each.{each-append, rows-of}
 use Rattle.writing.proofs.Values.{Suits, an-u8, an-u16, an-u32, a-number, a-text, a-bytes, low-qos, low-rule, low-filter}
-use Rattle.tidy.specs.Tidy.{optionsByte, publishFrom, ackFrom, subscribeFrom, noPublish, noAck, noSubscribe, withSet, handedOf}
+use Rattle.tidy.specs.Tidy.{optionsByte, lentIn, stringsIn, runOf, publishFrom, ackFrom, subscribeFrom, replyFrom, unsubscribeFrom, noPublish, noAck, noSubscribe, noUnsubscribe, withSet, handedOf}
 use Rattle.tidy.proofs.Has.{SuitsIn}
-use Rattle.tidy.proofs.Said.{PublishSaid, AckSaid, FilterSaid, filterSize, SubscribeSaid, Said}
+use Rattle.tidy.proofs.Said.{PublishSaid, AckSaid, FilterSaid, filterSize, SubscribeSaid, ReasonSaid, ReplySaid, TopicSaid, UnsubscribeSaid, Said}
 use Rattle.tidy.proofs.Rows.{Perhaps, last-suits, all-suits, num-back, str-back, numbers-back, run-back, run-octets, run-adds, users-octets, users-back, RowGiven, row-one, row-lent, row-pairs, row-several}
 use Rattle.tidy.proofs.Blocks.{Distinct, rows-belong, rows-sound, rows-light, rows-filled, with-list, set-list}
 
@@ -167,10 +167,15 @@ publish-good p w =
 
 -- ---- acknowledgements
 
-module _ (p : Ack (List ℕ) List) (ps : List Prop) (ss : Each (SuitsIn ackPlace) ps) where
-  abbrev ackIt : AckHanded
-  ackIt = ackFrom p (not (isEmpty ps)) (ackProps (List ℕ) List asList ps)
+-- what is handed over for 31 and for 38
+abbrev textIt : List Prop → Lent
+textIt ps = lentIn (lastOf 31 ps)
 
+abbrev userIt : List Prop → Run
+userIt ps = runOf (stringsIn (allOf 38 ps))
+
+-- the row of every acknowledgement
+module _ (ps : List Prop) (ss : Each (SuitsIn ackPlace) ps) where
   ack-text : Perhaps (Suits text) (lastOf 31 ps)
   unfolding ackPlace
   ack-text = last-suits ackPlace 31 text refl ss
@@ -179,16 +184,19 @@ module _ (p : Ack (List ℕ) List) (ps : List Prop) (ss : Each (SuitsIn ackPlace
   unfolding ackPlace
   ack-user = all-suits ackPlace 38 pair refl ss
 
-  ack-rows : Each (λ r. RowGiven (r .0) (r .1) ps (ackGiven ackIt (r .0))) ackPlace
-  unfolding ackPlace ackGiven ackProps
-  ack-rows = rows-of (λ r. RowGiven (r .0) (r .1) ps (ackGiven ackIt (r .0))) ackPlace
+  ack-rows : Each (λ r. RowGiven (r .0) (r .1) ps (ackGiven (textIt ps) (userIt ps) (r .0))) ackPlace
+  unfolding ackPlace ackGiven
+  ack-rows = rows-of (λ r. RowGiven (r .0) (r .1) ps (ackGiven (textIt ps) (userIt ps) (r .0))) ackPlace
       (row-lent 31 text ps (str-back text-str ack-text .1) (str-back text-str ack-text .2)
       & (row-pairs 38 ps ack-user
       & nil))
 
-  ack-set-back : ackSet ackIt ≡ ackProps (List ℕ) List asList ps
+  ack-set-back : ackSet (textIt ps) (userIt ps) ≡ ackProps (List ℕ) List asList ps
   unfolding ackProps
   ack-set-back = rw (str-back text-str ack-text .2, users-back ack-user)
+
+abbrev ackIt : Ack (List ℕ) List → List Prop → AckHanded
+ackIt p ps = ackFrom p (not (isEmpty ps)) (ackProps (List ℕ) List asList ps)
 
 ack-distinct : Distinct ackPlace
 unfolding ackPlace
@@ -202,29 +210,138 @@ plain-small : (t : Bool) (n : ℕ) → 3 + n ≤ most → cond t 2 (3 + n) ≤ m
 plain-small true n h = omega arith
 plain-small false n h = h
 
-ack-good : (k : ℕ) (p : Ack (List ℕ) List) (w : AckSaid k p) → Good (g.ack k p) (ack k (ackIt p (w .props .list) (w .props .suits)))
+ack-good : (k : ℕ) (p : Ack (List ℕ) List) (w : AckSaid k p) → Good (g.ack k p) (ack k (ackIt p (w .props .list)))
 unfolding restIs fieldsOf meant ackProps
 ack-good k p w =
     let ps : List Prop = w .props .list in
-    let h : AckHanded = ackIt p ps (w .props .suits) in
-    let rows = ack-rows p ps (w .props .suits) in
-    let l = rows-light (ackGiven h) ps rows ack-distinct (w .size) (w .props .light) (omega (arith, w .light)) in
+    let h : AckHanded = ackIt p ps in
+    let rows = ack-rows ps (w .props .suits) in
+    let l = rows-light (ackGiven (h .text) (h .user)) ps rows ack-distinct (w .size) (w .props .light) (omega (arith, w .light)) in
     record {
       accepts = fitting (ack k h) (record {
-        belongs = rows-belong (ackGiven h) ps rows;
-        fields = rows-sound (ackGiven h) ps rows;
-        rest = plain-small (isPlain h) (withLength (propsSize ackPlace (ackGiven h))) (omega (arith, w .light));
+        belongs = rows-belong (ackGiven (h .text) (h .user)) ps rows;
+        fields = w .reason & rows-sound (ackGiven (h .text) (h .user)) ps rows;
+        rest = plain-small (isPlain h) (withLength (propsSize ackPlace (ackGiven (h .text) (h .user)))) (omega (arith, w .light));
       }) (λ f. f) nil (λ f. f);
       typed = record {
-        reasons = w .reasons;
         kind = w .kind;
-        reason = w .reason;
+        reason = w .octet;
         ident = w .ident;
-        text = str-back text-str (ack-text p ps (w .props .suits)) .0;
-        user = users-octets (ack-user p ps (w .props .suits));
+        text = str-back text-str (ack-text ps (w .props .suits)) .0;
+        user = users-octets (ack-user ps (w .props .suits));
       };
-      plain = rows-filled (ackGiven h) ps rows (w .props .suits);
-      means = ap (λ (o : Option (AckProps (List ℕ) List)). theAck k h o) (set-list (ackProps (List ℕ) List asList) ps (ackSet h) (ack-set-back p ps (w .props .suits)) ∙ sym (w .props .is));
+      plain = rows-filled (ackGiven (h .text) (h .user)) ps rows (w .props .suits);
+      means = ap (λ (o : Option (AckProps (List ℕ) List)). theAck k h o) (set-list (ackProps (List ℕ) List asList) ps (ackSet (h .text) (h .user)) (ack-set-back ps (w .props .suits)) ∙ sym (w .props .is));
+    }
+
+-- ---- replies
+
+abbrev replyIt : Reply (List ℕ) List → List Prop → ReplyHanded
+replyIt p ps = replyFrom p (not (isEmpty ps)) (ackProps (List ℕ) List asList ps)
+
+reasons-sound : (rs : List ℕ) {cs : List ℕ} → Each (ReasonSaid rs) cs → Each Writable (map (code rs) cs)
+reasons-sound rs nil = nil
+reasons-sound rs (p & ps) = p .0 & reasons-sound rs ps
+
+reasons-octets : (rs : List ℕ) {cs : List ℕ} → Each (ReasonSaid rs) cs → Octets cs
+reasons-octets rs nil = nil
+reasons-octets rs (p & ps) = p .1 & reasons-octets rs ps
+
+reasons-size : (cs : List ℕ) → total (λ c. 1) cs ≡ length cs
+reasons-size [] = refl
+reasons-size (c ∷ cs) = let e = reasons-size cs in omega arith
+
+some-there : {A : Type 0} (l : List A) → someOf l ≡ true → l ≡ [] → ⊥
+some-there [] t e = false≢true t
+some-there (a ∷ l) t e = let z : _≡_ {A = ℕ} 0 1 = cc in omega arith
+
+reply-good : (k : ℕ) (p : Reply (List ℕ) List) (w : ReplySaid k p) → Good (g.reply k p) (reply k (replyIt p (w .props .list)))
+unfolding restIs fieldsOf meant ackProps
+reply-good k p w =
+    let ps : List Prop = w .props .list in
+    let h : ReplyHanded = replyIt p ps in
+    let rows = ack-rows ps (w .props .suits) in
+    let l = rows-light (ackGiven (h .text) (h .user)) ps rows ack-distinct (w .size) (w .props .light) (omega (arith, w .light)) in
+    record {
+      accepts = fitting (reply k h) (record {
+        belongs = rows-belong (ackGiven (h .text) (h .user)) ps rows;
+        fields = each-append (rows-sound (ackGiven (h .text) (h .user)) ps rows) (reasons-sound (reasonsOf k) (w .reasons));
+        rest = omega (arith, w .light, reasons-size (p .reasons));
+      }) (λ f. f) nil (some-there (p .reasons) (w .asked));
+      typed = record {
+        kind = w .kind;
+        ident = w .ident;
+        text = str-back text-str (ack-text ps (w .props .suits)) .0;
+        user = users-octets (ack-user ps (w .props .suits));
+        reasons = reasons-octets (reasonsOf k) (w .reasons);
+      };
+      plain = rows-filled (ackGiven (h .text) (h .user)) ps rows (w .props .suits);
+      means = ap (λ (o : Option (AckProps (List ℕ) List)). theReply k h o) (set-list (ackProps (List ℕ) List asList) ps (ackSet (h .text) (h .user)) (ack-set-back ps (w .props .suits)) ∙ sym (w .props .is));
+    }
+
+-- ---- Unsubscribe
+
+module _ (ps : List Prop) (ss : Each (SuitsIn unsubscribePlace) ps) where
+  unsubscribe-user : Each (Suits pair) (allOf 38 ps)
+  unfolding unsubscribePlace
+  unsubscribe-user = all-suits unsubscribePlace 38 pair refl ss
+
+  unsubscribe-rows : Each (λ r. RowGiven (r .0) (r .1) ps (unsubscribeGiven (userIt ps) (r .0))) unsubscribePlace
+  unfolding unsubscribePlace unsubscribeGiven
+  unsubscribe-rows = rows-of (λ r. RowGiven (r .0) (r .1) ps (unsubscribeGiven (userIt ps) (r .0))) unsubscribePlace (row-pairs 38 ps unsubscribe-user & nil)
+
+  unsubscribe-set-back : unsubscribeSet (userIt ps) ≡ unsubscribeProps (List ℕ) List asList ps
+  unfolding unsubscribeProps
+  unsubscribe-set-back = rw (users-back unsubscribe-user)
+
+unsubscribe-distinct : Distinct unsubscribePlace
+unfolding unsubscribePlace
+unsubscribe-distinct = (refl, tt)
+
+unsubscribe-none : unsubscribeProps (List ℕ) List asList [] ≡ noUnsubscribe
+unfolding unsubscribeProps allOf
+unsubscribe-none = refl
+
+abbrev unsubscribeIt : Unsubscribe (List ℕ) List → List Prop → UnsubscribeHanded
+unsubscribeIt p ps = unsubscribeFrom p (not (isEmpty ps)) (unsubscribeProps (List ℕ) List asList ps)
+
+-- the topics that are handed over
+record TopicsBack (ts : List (List ℕ)) : Type 0 where
+  sound : Each Writable (map word ts)
+  octets : Each Octets ts
+  sum : length (flat (λ s. s) ts) + 2 * length (map length ts) ≡ total (λ s. 2 + length s) ts
+
+topics-back : {ts : List (List ℕ)} → Each TopicSaid ts → TopicsBack ts
+topics-back nil = record { sound = nil; octets = nil; sum = refl }
+topics-back (_&_ {a = t} {l = ts} w ws) =
+    let r = topics-back ws in
+    let h : Writable (word t) = (w .0, w .1) in
+    record {
+      sound = h & r .sound;
+      octets = w .2 & r .octets;
+      sum = rw (length-append t (flat (λ s. s) ts)) (omega (arith, r .sum));
+    }
+
+unsubscribe-good : (p : Unsubscribe (List ℕ) List) (w : UnsubscribeSaid p) → Good (g.unsubscribe p) (unsubscribe (unsubscribeIt p (w .props .list)))
+unfolding restIs fieldsOf meant unsubscribeProps
+unsubscribe-good p w =
+    let ps : List Prop = w .props .list in
+    let h : UnsubscribeHanded = unsubscribeIt p ps in
+    let rows = unsubscribe-rows ps (w .props .suits) in
+    let l = rows-light (unsubscribeGiven (h .user)) ps rows unsubscribe-distinct (w .size) (w .props .light) (omega (arith, w .light)) in
+    let b = topics-back (w .topics) in
+    let e : strings (h .topics) ≡ p .topics = run-back (p .topics) in
+    record {
+      accepts = fitting (unsubscribe h) (record {
+        belongs = (rows-belong (unsubscribeGiven (h .user)) ps rows, run-adds (p .topics));
+        fields = each-append (rows-sound (unsubscribeGiven (h .user)) ps rows) (rw e (b .sound));
+        rest = omega (arith, w .light, b .sum);
+      }) (λ f. f) nil (λ q. some-there (p .topics) (w .asked) (sym e ∙ q));
+      typed = record { ident = w .ident; user = users-octets (unsubscribe-user ps (w .props .suits)); topics = run-octets (b .octets) };
+      plain = rows-filled (unsubscribeGiven (h .user)) ps rows (w .props .suits);
+      means =
+          ap (λ (ts : List (List ℕ)). g.unsubscribe (record { ident = p .ident; props = cond (not (isEmpty ps)) (some (unsubscribeSet (h .user))) none; topics = ts })) e
+          ∙ ap (λ (o : Option (UnsubscribeProps (List ℕ) List)). g.unsubscribe (record { ident = p .ident; props = o; topics = p .topics })) (set-list (unsubscribeProps (List ℕ) List asList) ps (unsubscribeSet (h .user)) (unsubscribe-set-back ps (w .props .suits)) ∙ sym (w .props .is));
     }
 
 -- ---- Subscribe
@@ -359,4 +476,12 @@ good (g.subscribe p) w =
     subst (λ (h : SubscribeHanded). Good (g.subscribe p) (subscribe h))
     (sym (ap (withSet (subscribeFrom p) noSubscribe) (w .props .is) ∙ with-list (subscribeProps (List ℕ) List asList) (subscribeFrom p) noSubscribe subscribe-none (w .props .list)))
     (subscribe-good p w)
+good (g.reply k p) w =
+    subst (λ (h : ReplyHanded). Good (g.reply k p) (reply k h))
+    (sym (ap (withSet (replyFrom p) noAck) (w .props .is) ∙ with-list (ackProps (List ℕ) List asList) (replyFrom p) noAck ack-none (w .props .list)))
+    (reply-good k p w)
+good (g.unsubscribe p) w =
+    subst (λ (h : UnsubscribeHanded). Good (g.unsubscribe p) (unsubscribe h))
+    (sym (ap (withSet (unsubscribeFrom p) noUnsubscribe) (w .props .is) ∙ with-list (unsubscribeProps (List ℕ) List asList) (unsubscribeFrom p) noUnsubscribe unsubscribe-none (w .props .list)))
+    (unsubscribe-good p w)
 good (g.ping k) w = ping-good k w

@@ -38,7 +38,7 @@ has-many P w h _ _ (more {a = a} {vs = vs} {b = b} {c = c} g m) o =
 
 -- ---- numbers
 
-has-byte : Has Byte (λ x n. Octet x × (n ≡ 1))
+pub has-byte : Has Byte (λ x n. Octet x × (n ≡ 1))
 has-byte _ _ byte o = (each-head o, refl)
 
 big-bound : (n : ℕ) (b : List ℕ) → Octets b → bigFrom n b < suc n * 256 ^ length b

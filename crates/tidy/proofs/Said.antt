@@ -2,7 +2,7 @@
 use mathlib.Core.Path.{_≡_, refl, sym, ap, _∙_}
 use mathlib.Core.Bool.{Bool, true, false, not, _||_, cond, false≢true}
 use mathlib.Core.Option.{Option, none, some}
-use mathlib.Core.List.{List, [], _++_}
+use mathlib.Core.List.{List, [], _∷_, _++_}
 use Prim.Native.Nat.{ℕ, zero, suc, _+_, _≤_, _<_}
 use native.Mathlib.Omega.{arith}
 use lib.Dec.{eqb}
@@ -11,18 +11,18 @@ use Rattle.grammar.specs.Choice.{isIn, lookup}
 use Rattle.grammar.specs.Gram.{nothing, mapped, only, both, sized, is}
 use Rattle.grammar.specs.Number.{byte}
 use Rattle.grammar.specs.Text.{Utf8}
-use Rattle.grammar.specs.Tables.{publishPlace, subscribePlace, ackPlace, reasons, Layout, aPublish, anAck, aSubscribe, aPing, kinds}
-use Rattle.grammar.specs.Record.{AckProps, Publish, Filter, Subscribe, Ack, kindOf, flagQos, mkFilter}
-use Rattle.grammar.specs.Sentence.{Any, publishOf, subscribeOf, ackOf, notThree, notZero, Ident, qosFine, ruleFine, FilterOf, someOf, AckRest, plain, coded, full, Packet, Fields, body, framed, Sentence}
+use Rattle.grammar.specs.Tables.{publishPlace, subscribePlace, ackPlace, unsubscribePlace, reasons, releaseReasons, Layout, aPublish, anAck, aSubscribe, aReply, anUnsubscribe, aPing, kinds, listed, reasonsOf}
+use Rattle.grammar.specs.Record.{AckProps, Publish, Filter, Subscribe, Ack, Reply, Unsubscribe, kindOf, flagQos, mkFilter}
+use Rattle.grammar.specs.Sentence.{Any, publishOf, subscribeOf, ackOf, unsubscribeOf, notThree, notZero, Ident, qosFine, ruleFine, FilterOf, someOf, AckRest, plain, coded, full, ReasonOf, Text, Packet, Fields, body, framed, Sentence}
 use Rattle.grammar.specs.Record as g
-use Rattle.grammar.specs.Octets.{Each, nil, Octets}
+use Rattle.grammar.specs.Octets.{Each, nil, _&_, Octet, Octets}
 use Rattle.reading.proofs.Lists.{lookup-each}
 use Rattle.writing.specs.Lists.{total}
 use Rattle.writing.specs.Size.{most, identSize}
 use Rattle.writing.specs.Refuse.{Short}
-use Rattle.writing.proofs.Each.{each-tail, each-left, each-right}
+use Rattle.writing.proofs.Each.{each-head, each-tail, each-left, each-right}
 use Rattle.writing.proofs.Tests.{eq-not, all-when}
-use Rattle.tidy.proofs.Has.{has-many, has-big, has-number, has-string, FromList, has-block}
+use Rattle.tidy.proofs.Has.{has-many, has-byte, has-big, has-number, has-string, FromList, has-block}
 
 -- ---- each kind; `size` is what the block may take
 
@@ -43,9 +43,9 @@ pub record PublishSaid (p : Publish (List ℕ) List) : Type 0 where
 
 -- an acknowledgement of the kind k
 pub record AckSaid (k : ℕ) (p : Ack (List ℕ) List) : Type 0 where
-  pub reasons : List ℕ
-  pub kind : lookup kinds k ≡ some (anAck reasons)
-  pub reason : isIn (p .reason) reasons ≡ true
+  pub kind : lookup kinds k ≡ some (anAck (reasonsOf k))
+  pub reason : isIn (p .reason) (reasonsOf k) ≡ true
+  pub octet : p .reason < 256
   pub ident : p .ident < 65536
   pub size : ℕ
   pub props : FromList ackPlace ackOf (p .props) size
@@ -74,11 +74,40 @@ pub record SubscribeSaid (p : Subscribe (List ℕ) List) : Type 0 where
   pub asked : someOf (p .filters) ≡ true
   pub light : 2 + (size + total filterSize (p .filters)) ≤ most
 
+-- a reason of the list
+abbrev pub ReasonSaid : List ℕ → ℕ → Type 0
+ReasonSaid rs c = (isIn c rs ≡ true) × Octet c
+
+-- a SubAck or UnsubAck of the kind k
+pub record ReplySaid (k : ℕ) (p : Reply (List ℕ) List) : Type 0 where
+  pub kind : lookup kinds k ≡ some (aReply (reasonsOf k))
+  pub ident : p .ident < 65536
+  pub size : ℕ
+  pub props : FromList ackPlace ackOf (p .props) size
+  pub reasons : Each (ReasonSaid (reasonsOf k)) (p .reasons)
+  pub asked : someOf (p .reasons) ≡ true
+  pub light : 2 + (size + total (λ c. 1) (p .reasons)) ≤ most
+
+-- a topic
+abbrev pub TopicSaid : List ℕ → Type 0
+TopicSaid s = Short s × Utf8 s × Octets s
+
+-- an Unsubscribe
+pub record UnsubscribeSaid (p : Unsubscribe (List ℕ) List) : Type 0 where
+  pub ident : p .ident < 65536
+  pub size : ℕ
+  pub props : FromList unsubscribePlace unsubscribeOf (p .props) size
+  pub topics : Each TopicSaid (p .topics)
+  pub asked : someOf (p .topics) ≡ true
+  pub light : 2 + (size + total (λ s. 2 + length s) (p .topics)) ≤ most
+
 -- each kind
 abbrev pub Said : Packet → Type 0
 Said (g.publish p) = PublishSaid p
 Said (g.ack k p) = AckSaid k p
 Said (g.subscribe p) = SubscribeSaid p
+Said (g.reply k p) = ReplySaid k p
+Said (g.unsubscribe p) = UnsubscribeSaid p
 Said (g.ping k) = lookup kinds k ≡ some aPing
 
 -- ---- Publish
@@ -131,21 +160,29 @@ publish-said x _ _ (only t (mapped (both {a = s} {b = b₁} {d = d₁} g₁ (bot
 
 -- ---- acknowledgements
 
+-- a kind's reasons are those of its layout
+kind-lists : (k : ℕ) (f : Layout) → lookup kinds k ≡ some f → reasonsOf k ≡ listed (some f)
+unfolding reasonsOf
+kind-lists k f e = ap listed e
+
 -- every kind of acknowledgement can give success
 abbrev hasZero : Layout → Bool
 hasZero aPublish = true
 hasZero (anAck rs) = isIn 0 rs
 hasZero aSubscribe = true
+hasZero (aReply rs) = true
+hasZero anUnsubscribe = true
 hasZero aPing = true
 
 -- by computation over the table
 kinds-zero : (k : ℕ) (l : Layout) → lookup kinds k ≡ some l → hasZero l ≡ true
-unfolding kinds reasons
+unfolding kinds reasons releaseReasons
 kinds-zero = lookup-each (λ r. hasZero (r .1) ≡ true) (all-when (λ r. hasZero (r .1)) (λ r. (λ e. e, λ e. e)) kinds .0 refl)
 
 -- reason and block of an acknowledgement, in n bytes
 record RestSaid (rs : List ℕ) (v : ℕ × Option (AckProps (List ℕ) List)) (n : ℕ) : Type 0 where
   reason : isIn (v .0) rs ≡ true
+  octet : v .0 < 256
   size : ℕ
   props : FromList ackPlace ackOf (v .1) size
   light : 2 + n ≤ most → 3 + size ≤ most
@@ -154,15 +191,16 @@ no-props : (n : ℕ) → 1 ≤ n → FromList ackPlace ackOf none n
 no-props n h = record { list = []; is = refl; suits = nil; light = omega arith }
 
 rest-said : (rs : List ℕ) → isIn 0 rs ≡ true → (v : ℕ × Option (AckProps (List ℕ) List)) (b : List ℕ) → AckRest rs v b → Octets b → RestSaid rs v (length b)
-rest-said rs z _ _ plain o = record { reason = z; size = 1; props = no-props 1 (omega arith); light = λ _. omega arith }
-rest-said rs z _ _ (coded t) o = record { reason = t; size = 1; props = no-props 1 (omega arith); light = λ _. omega arith }
-rest-said rs z _ _ (full {ps = ps} {b = b} t g) o = record { reason = t; size = length b; props = has-block ackPlace ackOf ps b g (each-tail o); light = λ l. omega arith }
+rest-said rs z _ _ plain o = record { reason = z; octet = omega arith; size = 1; props = no-props 1 (omega arith); light = λ _. omega arith }
+rest-said rs z _ _ (coded t) o = record { reason = t; octet = each-head o; size = 1; props = no-props 1 (omega arith); light = λ _. omega arith }
+rest-said rs z _ _ (full {ps = ps} {b = b} t g) o = record { reason = t; octet = each-head o; size = length b; props = has-block ackPlace ackOf ps b g (each-tail o); light = λ l. omega arith }
 
 ack-said : (rs : List ℕ) (x : ℕ) → lookup kinds (kindOf x) ≡ some (anAck rs) → (v : Packet) (b : List ℕ) → Fields (anAck rs) x v b → Octets b → length b ≤ most → Said v
 ack-said rs x e _ _ (mapped (both {a = i} {c = v} {b = c} {d = d} g w)) o l =
     let (h, n) = has-big 2 i c g (each-left c d o) in
     let r = rest-said rs (kinds-zero (kindOf x) (anAck rs) e) v d w (each-right c d o) in
-    record { reasons = rs; kind = e; reason = r .reason; ident = omega arith; size = r .size; props = r .props; light = r .light (omega (arith, length-append c d)) }
+    let q = kind-lists (kindOf x) (anAck rs) e in
+    record { kind = rw q e; reason = rw q (r .reason); octet = r .octet; ident = omega arith; size = r .size; props = r .props; light = r .light (omega (arith, length-append c d)) }
 
 -- ---- Subscribe
 
@@ -185,12 +223,52 @@ subscribe-said x _ _ (mapped (both {a = i} {b = b₁} {d = d₁} g₁ (both {a =
       light = omega (arith, length-append b₁ d₁, length-append b₂ d₂);
     }
 
+-- ---- replies and Unsubscribe
+
+has-reason : (rs : List ℕ) (c : ℕ) (b : List ℕ) → ReasonOf rs c b → Octets b → ReasonSaid rs c × (1 ≤ length b)
+has-reason rs c b (only t g) o = let (h, e) = has-byte c b g o in ((t, h), omega arith)
+
+reply-said : (rs : List ℕ) (x : ℕ) → lookup kinds (kindOf x) ≡ some (aReply rs) → (v : Packet) (b : List ℕ) → Fields (aReply rs) x v b → Octets b → length b ≤ most → Said v
+reply-said rs x e _ _ (mapped (both {a = i} {b = b₁} {d = d₁} g₁ (both {a = a} {c = cs} {b = b₂} {d = d₂} g₂ (only t m)))) o l =
+    let q₁ = each-right b₁ d₁ o in
+    let q = kind-lists (kindOf x) (aReply rs) e in
+    let (h, n) = has-big 2 i b₁ g₁ (each-left b₁ d₁ o) in
+    let (ws, k) = has-many (ReasonSaid rs) (λ c. 1) (has-reason rs) cs d₂ m (each-right b₂ d₂ q₁) in
+    record {
+      kind = rw q e;
+      ident = omega arith;
+      size = length b₂;
+      props = has-block ackPlace ackOf a b₂ g₂ (each-left b₂ d₂ q₁);
+      reasons = rw q ws;
+      asked = t;
+      light = omega (arith, length-append b₁ d₁, length-append b₂ d₂);
+    }
+
+has-topic : (s b : List ℕ) → Text s b → Octets b → TopicSaid s × (2 + length s ≤ length b)
+has-topic s b g o = let (h, u, w, e) = has-string Utf8 s b g o in ((h, u, w), omega arith)
+
+unsubscribe-said : (x : ℕ) (v : Packet) (b : List ℕ) → Fields anUnsubscribe x v b → Octets b → length b ≤ most → Said v
+unsubscribe-said x _ _ (mapped (both {a = i} {b = b₁} {d = d₁} g₁ (both {a = a} {c = ts} {b = b₂} {d = d₂} g₂ (only t m)))) o l =
+    let q₁ = each-right b₁ d₁ o in
+    let (h, n) = has-big 2 i b₁ g₁ (each-left b₁ d₁ o) in
+    let (ws, k) = has-many TopicSaid (λ s. 2 + length s) has-topic ts d₂ m (each-right b₂ d₂ q₁) in
+    record {
+      ident = omega arith;
+      size = length b₂;
+      props = has-block unsubscribePlace unsubscribeOf a b₂ g₂ (each-left b₂ d₂ q₁);
+      topics = ws;
+      asked = t;
+      light = omega (arith, length-append b₁ d₁, length-append b₂ d₂);
+    }
+
 -- ---- all
 
 fields-said : (l : Layout) (x : ℕ) → lookup kinds (kindOf x) ≡ some l → (v : Packet) (b : List ℕ) → Fields l x v b → Octets b → length b ≤ most → Said v
 fields-said aPublish x e v b w = publish-said x v b w
 fields-said (anAck rs) x e v b w = ack-said rs x e v b w
 fields-said aSubscribe x e v b w = subscribe-said x v b w
+fields-said (aReply rs) x e v b w = reply-said rs x e v b w
+fields-said anUnsubscribe x e v b w = unsubscribe-said x v b w
 fields-said aPing x e _ b (mapped w) = λ o l. e
 
 pub sentence-said : (v : Packet) (b : List ℕ) → Sentence v b → Octets b → Said v

@@ -5,13 +5,13 @@ use mathlib.Core.List.{List, [], _∷_, map}
 use Prim.Native.Nat.{ℕ, _+_, _*_}
 use lib.ListN.{length}
 use Rattle.grammar.specs.Record as g
-use Rattle.grammar.specs.Record.{num, str, duo, PublishProps, SubscribeProps, AckProps, Filter}
+use Rattle.grammar.specs.Record.{num, str, duo, PublishProps, SubscribeProps, AckProps, UnsubscribeProps, Filter}
 use Rattle.grammar.specs.Sentence.{Value, Packet}
 use Rattle.reading.specs.Refusal.{nr, Answer, accepted, refused}
 use Rattle.reading.specs.Reader.{Fit, bad}
 use Rattle.reading.specs.Read.{readOf}
 use Rattle.writing.specs.Lists.{flat}
-use Rattle.writing.specs.Handed.{Lent, Run, PublishHanded, SubscribeHanded, AckHanded, Handed, publish, ack, subscribe, ping}
+use Rattle.writing.specs.Handed.{Lent, Run, PublishHanded, SubscribeHanded, AckHanded, ReplyHanded, UnsubscribeHanded, Handed, publish, ack, subscribe, reply, unsubscribe, ping}
 use Rattle.writing.specs.Size.{sizeIs}
 use Rattle.writing.specs.Write.{writeOf}
 
@@ -90,6 +90,14 @@ subscribeFrom p b s = record {
   options = map optionsByte (p .filters);
 }
 
+-- 02, P1: SubAck and UnsubAck
+abbrev pub replyFrom : g.Reply (List ℕ) List → Bool → AckProps (List ℕ) List → ReplyHanded
+replyFrom p b s = record { ident = p .ident; block = b; text = lentIn (s .reason); user = runOf (stringsIn (s .user)); reasons = p .reasons }
+
+-- 02, P1: Unsubscribe
+abbrev pub unsubscribeFrom : g.Unsubscribe (List ℕ) List → Bool → UnsubscribeProps (List ℕ) List → UnsubscribeHanded
+unsubscribeFrom p b s = record { ident = p .ident; block = b; user = runOf (stringsIn (s .user)); topics = runOf (p .topics) }
+
 -- a set with nothing in it
 abbrev pub noPublish : PublishProps (List ℕ) List
 noPublish = record { format = none; expiry = none; alias = none; response = none; correlation = none; user = []; subscriptions = []; content = none }
@@ -102,6 +110,10 @@ noAck = record { reason = none; user = [] }
 abbrev pub noSubscribe : SubscribeProps (List ℕ) List
 noSubscribe = record { ident = none; user = [] }
 
+-- the same of an Unsubscribe
+abbrev pub noUnsubscribe : UnsubscribeProps (List ℕ) List
+noUnsubscribe = record { user = [] }
+
 -- f of presence and set; e is the set where there is none
 abbrev pub withSet : {A B : Type 0} → (Bool → A → B) → A → Option A → B
 withSet f e none = f false e
@@ -112,6 +124,8 @@ unfoldable pub handedOf : Packet → Handed
 handedOf (g.publish p) = publish (withSet (publishFrom p) noPublish (p .props))
 handedOf (g.ack k p) = ack k (withSet (ackFrom p) noAck (p .props))
 handedOf (g.subscribe p) = subscribe (withSet (subscribeFrom p) noSubscribe (p .props))
+handedOf (g.reply k p) = reply k (withSet (replyFrom p) noAck (p .props))
+handedOf (g.unsubscribe p) = unsubscribe (withSet (unsubscribeFrom p) noUnsubscribe (p .props))
 handedOf (g.ping k) = ping k
 
 -- ---- the tidy form of the frame that a stream begins with

@@ -193,6 +193,24 @@ subscribe-frame h e =
     frame-sum (subscribe h) w
     ∙ rw (length-props subscribePlace (h .block) (subscribeGiven h) (w .0), append-assoc (short (propsSize subscribePlace (subscribeGiven h))) (propsBytes subscribePlace (subscribeGiven h)) (flat filterBytes (filters h)))
 
+pub reply-frame : (k : ℕ) (h : ReplyHanded) → belongs (reply k h) ≡ true → frameBytes (reply k h)
+    ≡ firstByte (reply k h) ∷ (short (restIs (reply k h)) ++ (wide 2 (h .ident)
+    ++ (short (propsSize ackPlace (ackGiven (h .text) (h .user))) ++ (propsBytes ackPlace (ackGiven (h .text) (h .user)) ++ h .reasons))))
+unfolding bodyBytes block counted
+reply-frame k h e =
+    let w : Belongs (reply k h) = belongs-when (reply k h) .0 e in
+    frame-sum (reply k h) w
+    ∙ rw (length-props ackPlace (h .block) (ackGiven (h .text) (h .user)) w, append-assoc (short (propsSize ackPlace (ackGiven (h .text) (h .user)))) (propsBytes ackPlace (ackGiven (h .text) (h .user))) (h .reasons))
+
+pub unsubscribe-frame : (h : UnsubscribeHanded) → belongs (unsubscribe h) ≡ true → frameBytes (unsubscribe h)
+    ≡ firstByte (unsubscribe h) ∷ (short (restIs (unsubscribe h)) ++ (wide 2 (h .ident)
+    ++ (short (propsSize unsubscribePlace (unsubscribeGiven (h .user))) ++ (propsBytes unsubscribePlace (unsubscribeGiven (h .user)) ++ flat string (strings (h .topics))))))
+unfolding bodyBytes block counted
+unsubscribe-frame h e =
+    let w : Belongs (unsubscribe h) = belongs-when (unsubscribe h) .0 e in
+    frame-sum (unsubscribe h) w
+    ∙ rw (length-props unsubscribePlace (h .block) (unsubscribeGiven (h .user)) (w .0), append-assoc (short (propsSize unsubscribePlace (unsubscribeGiven (h .user)))) (propsBytes unsubscribePlace (unsubscribeGiven (h .user))) (flat string (strings (h .topics))))
+
 pub ping-frame : (k : ℕ) → frameBytes (ping k) ≡ firstByte (ping k) ∷ (short 0 ++ [])
 unfolding frameBytes bodyBytes counted
 ping-frame k = refl
