@@ -4,13 +4,13 @@ use mathlib.Core.Option.{Option, none, some}
 use mathlib.Core.List.{List, [], _∷_, _++_, map}
 use Prim.Native.Nat.{ℕ}
 use Rattle.grammar.specs.Text.{rows}
-use Rattle.grammar.specs.Tables.{publishPlace, subscribePlace, ackPlace, reasons, kinds}
-use Rattle.grammar.specs.Record.{Val, num, str, duo, lastOf, allOf, PublishProps, publishProps, subscribeProps, AckProps, ackProps, publish, ack, subscribe, ping}
+use Rattle.grammar.specs.Tables.{publishPlace, subscribePlace, ackPlace, unsubscribePlace, reasons, releaseReasons, subAckReasons, unsubAckReasons, kinds}
+use Rattle.grammar.specs.Record.{Val, num, str, duo, lastOf, allOf, PublishProps, publishProps, subscribeProps, AckProps, ackProps, unsubscribeProps, publish, ack, subscribe, reply, unsubscribe, ping}
 use Rattle.grammar.specs.Sentence.{Packet}
 use Rattle.reading.specs.Refusal.{nr, Answer, accepted, refused, within, over}
 use Rattle.reading.specs.Reader.{Fit, got, bad, noneOf, neverOf, mapOf, onlyOf, thenOf, sizedOf, isFit, mapFit, handFit, onlyFit, thenFit, exactFit, runFit, chainFit}
-use Rattle.reading.specs.Read.{bigOf, byteOf, groupOf, numOf, identOf, followOf, restOf, charOf, isText, frameOf, bodyAnswer, stringFit, bytesOf, textOf, valueOf, valueAt, propertyOf, propertiesFit, blockOf, ackBlockFit, ackRestFit, filterOf, filtersFit, messageFit, fieldsFit, layoutFit, bodyFit, wholeAnswer, frameAnswer, readAs, readOf}
-use Rattle.reading.specs.Place.{Span, asPlaces, Placed, readPlacedOf, again, valuesAt, userAt, subscriptionAt, filterAt}
+use Rattle.reading.specs.Read.{bigOf, byteOf, groupOf, numOf, identOf, followOf, restOf, charOf, isText, frameOf, bodyAnswer, stringFit, bytesOf, textOf, valueOf, valueAt, propertyOf, propertiesFit, blockOf, ackBlockFit, ackRestFit, reasonsFit, filterOf, filtersFit, topicsFit, messageFit, fieldsFit, layoutFit, bodyFit, wholeAnswer, frameAnswer, readAs, readOf}
+use Rattle.reading.specs.Place.{Span, asPlaces, Placed, readPlacedOf, again, valuesAt, userAt, subscriptionAt, filterAt, reasonAt, topicAt}
 
 -- a limit, a stream, and the answer
 pub record Case : Type 0 where
@@ -119,6 +119,34 @@ more =
     ∷ case none (0x40 ∷ 0x06 ∷ 0x00 ∷ 0x01 ∷ 0x00 ∷ 0x01 ∷ 0xFF ∷ 0x00 ∷ []) (refused 10 (255 ∷ []) 8)
     ∷ []
 
+-- 02, P1: flags are ignored, identifier 0 passes; the reasons of each kind; 13 and 15
+abbrev pub six : List Case
+six =
+    -- the other three publish acknowledgements: R = 2, 3 and from 4; PubRec has PubAck's reasons, PubRel and PubComp have 00 and 92
+    case none (0x5F ∷ 0x02 ∷ 0x00 ∷ 0x00 ∷ []) (accepted (ack 5 (record { ident = 0; reason = 0; props = none })) 4)
+    ∷ case none (0x50 ∷ 0x03 ∷ 0x00 ∷ 0x0A ∷ 0x99 ∷ []) (accepted (ack 5 (record { ident = 10; reason = 0x99; props = none })) 5)
+    ∷ case none (0x50 ∷ 0x03 ∷ 0x00 ∷ 0x0A ∷ 0x92 ∷ []) (refused 15 (0x92 ∷ []) 5)
+    ∷ case none (0x60 ∷ 0x08 ∷ 0x00 ∷ 0x0A ∷ 0x92 ∷ 0x04 ∷ 0x1F ∷ 0x00 ∷ 0x01 ∷ 0x61 ∷ []) (accepted (ack 6 (record { ident = 10; reason = 0x92; props = some (record { reason = some (str (0x61 ∷ [])); user = [] }) })) 10)
+    ∷ case none (0x62 ∷ 0x03 ∷ 0x00 ∷ 0x0A ∷ 0x10 ∷ []) (refused 15 (0x10 ∷ []) 5)
+    ∷ case none (0x70 ∷ 0x03 ∷ 0x00 ∷ 0x0A ∷ 0x92 ∷ []) (accepted (ack 7 (record { ident = 10; reason = 0x92; props = none })) 5)
+    ∷ case none (0x70 ∷ 0x05 ∷ 0x00 ∷ 0x0A ∷ 0x00 ∷ 0x00 ∷ 0x00 ∷ []) (refused 7 [] 7)
+    -- SubAck and UnsubAck: a block always, then one reason or more; the block's fault before the reasons'
+    ∷ case none (0x9F ∷ 0x05 ∷ 0x00 ∷ 0x00 ∷ 0x00 ∷ 0x02 ∷ 0xA2 ∷ []) (accepted (reply 9 (record { ident = 0; props = none; reasons = 0x02 ∷ 0xA2 ∷ [] })) 7)
+    ∷ case none (0x90 ∷ 0x02 ∷ 0x00 ∷ 0x01 ∷ []) (refused 7 [] 4)
+    ∷ case none (0x90 ∷ 0x03 ∷ 0x00 ∷ 0x01 ∷ 0x00 ∷ []) (refused 13 [] 5)
+    ∷ case none (0x90 ∷ 0x05 ∷ 0x00 ∷ 0x01 ∷ 0x00 ∷ 0x00 ∷ 0x11 ∷ []) (refused 15 (0x11 ∷ []) 7)
+    ∷ case none (0x90 ∷ 0x06 ∷ 0x00 ∷ 0x01 ∷ 0x02 ∷ 0x0B ∷ 0x01 ∷ 0x03 ∷ []) (refused 10 (11 ∷ []) 8)
+    ∷ case none (0x90 ∷ 0x00 ∷ []) (refused 5 [] 2)
+    ∷ case none (0xB0 ∷ 0x0A ∷ 0x00 ∷ 0x01 ∷ 0x05 ∷ 0x26 ∷ 0x00 ∷ 0x00 ∷ 0x00 ∷ 0x00 ∷ 0x11 ∷ 0x00 ∷ []) (accepted (reply 11 (record { ident = 1; props = some (record { reason = none; user = duo [] [] ∷ [] }); reasons = 0x11 ∷ 0x00 ∷ [] })) 12)
+    ∷ case none (0xB0 ∷ 0x04 ∷ 0x00 ∷ 0x01 ∷ 0x00 ∷ 0x01 ∷ []) (refused 15 (1 ∷ []) 6)
+    -- Unsubscribe: 38 alone, topics are texts
+    ∷ case none (0xA0 ∷ 0x08 ∷ 0x00 ∷ 0x00 ∷ 0x00 ∷ 0x00 ∷ 0x01 ∷ 0x61 ∷ 0x00 ∷ 0x00 ∷ []) (accepted (unsubscribe (record { ident = 0; props = none; topics = (0x61 ∷ []) ∷ [] ∷ [] })) 10)
+    ∷ case none (0xA2 ∷ 0x03 ∷ 0x00 ∷ 0x01 ∷ 0x00 ∷ []) (refused 13 [] 5)
+    ∷ case none (0xA2 ∷ 0x05 ∷ 0x00 ∷ 0x01 ∷ 0x02 ∷ 0x0B ∷ 0x01 ∷ []) (refused 10 (11 ∷ []) 7)
+    ∷ case none (0xA2 ∷ 0x06 ∷ 0x00 ∷ 0x01 ∷ 0x00 ∷ 0x00 ∷ 0x01 ∷ 0xFF ∷ []) (refused 9 [] 8)
+    ∷ case none (0xA2 ∷ 0x04 ∷ 0x00 ∷ 0x01 ∷ 0x00 ∷ 0x00 ∷ []) (refused 7 [] 6)
+    ∷ []
+
 -- ---- places and items
 
 abbrev span : ℕ → ℕ → Span
@@ -156,6 +184,8 @@ placed = (
   })) 13,
 )
     ∷ (two, accepted (subscribe (record { ident = 1; props = none; filters = span 5 10 })) 15)
+    ∷ (0x90 ∷ 0x05 ∷ 0x00 ∷ 0x01 ∷ 0x00 ∷ 0x02 ∷ 0xA2 ∷ [], accepted (reply 9 (record { ident = 1; props = none; reasons = span 5 2 })) 7)
+    ∷ (0xA2 ∷ 0x06 ∷ 0x00 ∷ 0x01 ∷ 0x00 ∷ 0x00 ∷ 0x01 ∷ 0x61 ∷ [], accepted (unsubscribe (record { ident = 1; props = none; topics = span 5 3 })) 8)
     ∷ (acks, accepted (ack 4 (record { ident = 10; reason = 0x99; props = some (record { reason = some (str (span 9 1)); user = span 6 11 }) })) 17)
     ∷ []
 
@@ -175,11 +205,14 @@ items =
 
 abbrev Right : Type 0
 Right =
-    (map (λ (c : Case). readOf (c .limit) (c .sent)) (bench ++ more) ≡ map (λ (c : Case). c .answer) (bench ++ more))
+    (map (λ (c : Case). readOf (c .limit) (c .sent)) (bench ++ more ++ six) ≡ map (λ (c : Case). c .answer) (bench ++ more ++ six))
     × (map (λ (c : List ℕ × Answer Placed). readPlacedOf none (c .0)) placed ≡ map (λ (c : List ℕ × Answer Placed). c .1) placed)
     × (items ≡ got (num 3) ∷ bad (nr 21 []) ∷ bad (nr 21 []) ∷ bad (nr 21 []) ∷ bad (nr 21 []) ∷ got (duo (span 13 1) (span 16 1)) ∷ bad (nr 21 []) ∷ [])
     × (filterAt asPlaces two (span 5 10) 1 ≡ got (record { path = span 11 3; qos = 2; noLocal = 0; preserve = 0; rule = 0 }))
+    × (reasonAt (0x02 ∷ 0xA2 ∷ []) (span 0 2) subAckReasons 1 ≡ got 0xA2)
+    × (reasonAt (0x02 ∷ 0xA2 ∷ []) (span 0 2) unsubAckReasons 0 ≡ bad (nr 21 []))
+    × (topicAt asPlaces (0x00 ∷ 0x01 ∷ 0x61 ∷ []) (span 0 3) 0 ≡ got (span 2 1))
 
 pub right : Right
-unfolding rows publishPlace subscribePlace ackPlace reasons kinds lastOf allOf publishProps ackProps subscribeProps noneOf neverOf mapOf onlyOf thenOf sizedOf isFit mapFit handFit onlyFit thenFit exactFit runFit chainFit byteOf followOf restOf charOf isText bigOf groupOf numOf stringFit bytesOf textOf valueOf valueAt propertyOf propertiesFit blockOf ackBlockFit ackRestFit identOf filterOf filtersFit messageFit fieldsFit layoutFit bodyFit within over frameOf bodyAnswer wholeAnswer frameAnswer readAs again valuesAt userAt subscriptionAt filterAt
-right = (refl, refl, refl, refl)
+unfolding rows publishPlace subscribePlace ackPlace unsubscribePlace reasons releaseReasons subAckReasons unsubAckReasons kinds lastOf allOf publishProps ackProps subscribeProps unsubscribeProps noneOf neverOf mapOf onlyOf thenOf sizedOf isFit mapFit handFit onlyFit thenFit exactFit runFit chainFit byteOf followOf restOf charOf isText bigOf groupOf numOf stringFit bytesOf textOf valueOf valueAt propertyOf propertiesFit blockOf ackBlockFit ackRestFit identOf reasonsFit filterOf filtersFit topicsFit messageFit fieldsFit layoutFit bodyFit within over frameOf bodyAnswer wholeAnswer frameAnswer readAs again valuesAt userAt subscriptionAt filterAt reasonAt topicAt
+right = (refl, refl, refl, refl, refl, refl, refl)

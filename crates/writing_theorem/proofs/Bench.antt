@@ -7,12 +7,12 @@ use Prim.Native.Nat.{ℕ, _+_, _<_}
 use native.Mathlib.Omega.{arith}
 use lib.ListN.{replicate, length-replicate}
 use Rattle.grammar.specs.Text.{rows}
-use Rattle.grammar.specs.Tables.{publishPlace, subscribePlace, ackPlace}
+use Rattle.grammar.specs.Tables.{publishPlace, subscribePlace, ackPlace, unsubscribePlace, reasons, releaseReasons, subAckReasons, unsubAckReasons, kinds, reasonsOf}
 use Rattle.grammar.specs.Octets.{Each, nil, _&_}
 use Rattle.reading.specs.Refusal.{nr}
 use Rattle.reading.specs.Reader.{Fit, got, bad, noneOf, neverOf, mapOf, onlyOf, thenOf, runFit, chainFit}
 use Rattle.reading.specs.Read.{byteOf, followOf, restOf, charOf, isText}
-use Rattle.writing.specs.Handed.{Lent, Run, PublishHanded, Handed, publish, ack, subscribe, ping, publishGiven, subscribeGiven, ackGiven, filters, blockBelongs, filtersBelong, belongs}
+use Rattle.writing.specs.Handed.{Lent, Run, PublishHanded, Handed, publish, ack, subscribe, reply, unsubscribe, ping, publishGiven, subscribeGiven, ackGiven, unsubscribeGiven, filters, blockBelongs, filtersBelong, belongs}
 use Rattle.writing.specs.Spell.{wide, spellStep, spell, short, string, numeral, value, propsBytes, counted, block}
 use Rattle.writing.specs.Size.{most, propsSize, restIs, sizeIs}
 use Rattle.writing.specs.Order.{judge, raw, propsFields, fieldsOf, permit}
@@ -171,6 +171,18 @@ bench =
     -- identifier 0 of a Subscribe and of a PubAck
     ∷ case none 9 (subscribe (record { ident = 0; block = false; subscription = none; user = run [] []; filters = run a (1 ∷ []); options = 1 ∷ [] })) (got (0x82 ∷ 0x07 ∷ 0x00 ∷ 0x00 ∷ 0x00 ∷ 0x00 ∷ 0x01 ∷ 0x61 ∷ 0x01 ∷ []))
     ∷ case none 4 (ack 4 (record { ident = 0; reason = 0; block = false; text = no; user = run [] [] })) (got (0x40 ∷ 0x02 ∷ 0x00 ∷ 0x00 ∷ []))
+    -- 02, P1: 15 before the text of the block; four bytes for a plain success; first bytes; 31 before 38
+    ∷ case none 20 (acked 0x11 true (yes (0xFF ∷ [])) (run [] [])) (bad (nr 15 (0x11 ∷ [])))
+    ∷ case none 4 (ack 6 (record { ident = 10; reason = 0; block = false; text = no; user = run [] [] })) (got (0x62 ∷ 0x02 ∷ 0x00 ∷ 0x0A ∷ []))
+    ∷ case none 6 (ack 7 (record { ident = 10; reason = 0x92; block = false; text = no; user = run [] [] })) (got (0x70 ∷ 0x04 ∷ 0x00 ∷ 0x0A ∷ 0x92 ∷ 0x00 ∷ []))
+    ∷ case none 6 (ack 5 (record { ident = 10; reason = 0x92; block = false; text = no; user = run [] [] })) (bad (nr 15 (0x92 ∷ [])))
+    ∷ case none 16 (reply 9 (record { ident = 0; block = true; text = yes a; user = run [] (0 ∷ 0 ∷ []); reasons = 0x00 ∷ 0xA2 ∷ [] })) (got (0x90 ∷ 0x0E ∷ 0x00 ∷ 0x00 ∷ 0x09 ∷ 0x1F ∷ 0x00 ∷ 0x01 ∷ 0x61 ∷ 0x26 ∷ 0x00 ∷ 0x00 ∷ 0x00 ∷ 0x00 ∷ 0x00 ∷ 0xA2 ∷ []))
+    ∷ case none 0 (reply 11 (record { ident = 0; block = true; text = yes (0xFF ∷ []); user = run [] []; reasons = 0x01 ∷ [] })) (bad (nr 9 []))
+    ∷ case (some 0) 0 (reply 11 (record { ident = 0; block = false; text = no; user = run [] []; reasons = 0x11 ∷ 0x01 ∷ [] })) (bad (nr 15 (1 ∷ [])))
+    ∷ case none 0 (reply 11 (record { ident = 0; block = false; text = no; user = run [] []; reasons = [] })) (bad (nr 13 []))
+    ∷ case none 9 (unsubscribe (record { ident = 1; block = false; user = run [] []; topics = run a (1 ∷ []) })) (got (0xA2 ∷ 0x06 ∷ 0x00 ∷ 0x01 ∷ 0x00 ∷ 0x00 ∷ 0x01 ∷ 0x61 ∷ []))
+    ∷ case none 9 (unsubscribe (record { ident = 1; block = false; user = run [] []; topics = run a (2 ∷ []) })) (bad (nr 20 []))
+    ∷ case none 0 (unsubscribe (record { ident = 1; block = false; user = run [] []; topics = run [] [] })) (bad (nr 13 []))
     -- pings
     ∷ case none 2 (ping 12) (got (0xC0 ∷ 0x00 ∷ []))
     ∷ case none 2 (ping 13) (got (0xD0 ∷ 0x00 ∷ []))
@@ -179,7 +191,7 @@ bench =
     ∷ []
 
 pub bench-right : map (λ (c : Case). writeOf (c .limit) (c .room) (c .handed)) bench ≡ map (λ (c : Case). c .answer) bench
-unfolding rows publishPlace subscribePlace ackPlace noneOf neverOf mapOf onlyOf thenOf runFit chainFit byteOf followOf restOf charOf isText spell spellStep publishGiven subscribeGiven ackGiven filters blockBelongs filtersBelong belongs wide short string numeral value propsBytes counted block propsSize restIs sizeIs judge propsFields fieldsOf permit firsts firstOf firstByte bodyBytes frameBytes writeOf
+unfolding rows publishPlace subscribePlace ackPlace unsubscribePlace reasons releaseReasons subAckReasons unsubAckReasons kinds reasonsOf noneOf neverOf mapOf onlyOf thenOf runFit chainFit byteOf followOf restOf charOf isText spell spellStep publishGiven subscribeGiven ackGiven unsubscribeGiven filters blockBelongs filtersBelong belongs wide short string numeral value propsBytes counted block propsSize restIs sizeIs judge propsFields fieldsOf permit firsts firstOf firstByte bodyBytes frameBytes writeOf
 bench-right = refl
 
 -- ---- sizes, asked alone: no 18, 9, 14, 11, 12, 13, nor 17 for an identifier; 20 for what does not belong together
@@ -197,18 +209,20 @@ sizes =
     ∷ (acked 0 false no (run [] []), got 4)
     ∷ (acked 0 true no (run [] []), got 6)
     ∷ (acked 0x10 false no (run [] []), got 6)
+    ∷ (reply 9 (record { ident = 0; block = false; text = no; user = run [] []; reasons = 0x07 ∷ [] }), got 6)
+    ∷ (unsubscribe (record { ident = 0; block = false; user = run [] []; topics = run [] [] }), got 5)
     ∷ (ping 12, got 2)
     ∷ []
 
 pub sizes-right : map (λ (z : Handed × Fit ℕ). sizeOf (z .0)) sizes ≡ map (λ (z : Handed × Fit ℕ). z .1) sizes
-unfolding publishPlace subscribePlace ackPlace publishGiven subscribeGiven ackGiven filters blockBelongs filtersBelong belongs propsSize restIs sizeIs sizeOf
+unfolding publishPlace subscribePlace ackPlace unsubscribePlace publishGiven subscribeGiven ackGiven unsubscribeGiven filters blockBelongs filtersBelong belongs propsSize restIs sizeIs sizeOf
 sizes-right = refl
 
 -- ---- outputs: the first size bytes are set and the rest is kept; a refused write leaves it as it stood
 
 pub out-right : map (λ (z : List ℕ × Handed). outOf none (z .0) (z .1)) ((1 ∷ 2 ∷ 3 ∷ [], ping 13) ∷ (1 ∷ [], ping 13) ∷ (7 ∷ 7 ∷ 7 ∷ 7 ∷ 7 ∷ [], acked 0 false no (run [] [])) ∷ [])
     ≡ (0xD0 ∷ 0x00 ∷ 3 ∷ []) ∷ (1 ∷ []) ∷ (0x40 ∷ 0x02 ∷ 0x00 ∷ 0x0A ∷ 7 ∷ []) ∷ []
-unfolding ackPlace ackGiven blockBelongs belongs spell spellStep wide short counted propsSize restIs sizeIs judge propsFields fieldsOf permit firsts firstOf firstByte bodyBytes frameBytes writeOf outOf
+unfolding ackPlace reasonsOf kinds reasons ackGiven blockBelongs belongs spell spellStep wide short counted propsSize restIs sizeIs judge propsFields fieldsOf permit firsts firstOf firstByte bodyBytes frameBytes writeOf outOf
 out-right = refl
 
 -- ---- 17 for R: a payload too long to be counted here one by one
