@@ -5,7 +5,7 @@ use mathlib.Core.List.{List, [], _∷_, _++_, map}
 use Prim.Native.Nat.{ℕ}
 use Rattle.grammar.specs.Text.{rows}
 use Rattle.grammar.specs.Tables.{publishPlace, subscribePlace, ackPlace, unsubscribePlace, reasons, releaseReasons, subAckReasons, unsubAckReasons, kinds}
-use Rattle.grammar.specs.Record.{Val, num, str, duo, lastOf, allOf, PublishProps, publishProps, subscribeProps, AckProps, ackProps, unsubscribeProps, publish, ack, subscribe, reply, unsubscribe, ping}
+use Rattle.grammar.specs.Record.{Val, num, str, duo, lastOf, allOf, PublishProps, publishProps, propsOf, Props, publish, ack, subscribe, reply, unsubscribe, ping}
 use Rattle.grammar.specs.Sentence.{Packet}
 use Rattle.reading.specs.Refusal.{nr, Answer, accepted, refused, within, over}
 use Rattle.reading.specs.Reader.{Fit, got, bad, noneOf, neverOf, mapOf, onlyOf, thenOf, sizedOf, isFit, mapFit, handFit, onlyFit, thenFit, exactFit, runFit, chainFit}
@@ -26,7 +26,7 @@ abbrev message : List ℕ → Option (PublishProps (List ℕ) List) → List ℕ
 message t ps p = publish (record { dup = 0; qos = 0; retain = 0; topic = t; ident = 0; props = ps; payload = p })
 
 -- a PubAck with identifier 10
-abbrev acked : ℕ → Option (AckProps (List ℕ) List) → Packet
+abbrev acked : ℕ → Option (Props (List ℕ) List) → Packet
 acked r ps = ack 4 (record { ident = 10; reason = r; props = ps })
 
 -- 01's frame with topic a/b and payload hi
@@ -95,7 +95,7 @@ more =
     ∷ case none (0x30 ∷ 0x0B ∷ 0x00 ∷ 0x00 ∷ 0x08 ∷ 0x02 ∷ 0x01 ∷ 0x02 ∷ 0x03 ∷ 0x04 ∷ 0x23 ∷ 0x01 ∷ 0x02 ∷ []) (accepted (message [] (some (record { format = none; expiry = some (num 16909060); alias = some (num 258); response = none; correlation = none; user = []; subscriptions = []; content = none })) []) 13)
     ∷ case none (0x30 ∷ 0x18 ∷ 0x00 ∷ 0x01 ∷ 0x61 ∷ 0x14 ∷ 0x03 ∷ 0x00 ∷ 0x01 ∷ 0x61 ∷ 0x26 ∷ 0x00 ∷ 0x01 ∷ 0x61 ∷ 0x00 ∷ 0x01 ∷ 0x62 ∷ 0x03 ∷ 0x00 ∷ 0x01 ∷ 0x62 ∷ 0x26 ∷ 0x00 ∷ 0x00 ∷ 0x00 ∷ 0x00 ∷ []) (accepted (message (0x61 ∷ []) (some (record { format = none; expiry = none; alias = none; response = none; correlation = none; user = duo (0x61 ∷ []) (0x62 ∷ []) ∷ duo [] [] ∷ []; subscriptions = []; content = some (str (0x62 ∷ [])) })) []) 26)
     -- Subscribe: identifier 0, both properties, every option; 9, 7, 11
-    ∷ case none (0x82 ∷ 0x10 ∷ 0x00 ∷ 0x00 ∷ 0x09 ∷ 0x0B ∷ 0x05 ∷ 0x26 ∷ 0x00 ∷ 0x01 ∷ 0x6B ∷ 0x00 ∷ 0x01 ∷ 0x76 ∷ 0x00 ∷ 0x01 ∷ 0x61 ∷ 0xEE ∷ []) (accepted (subscribe (record { ident = 0; props = some (record { ident = some (num 5); user = duo (0x6B ∷ []) (0x76 ∷ []) ∷ [] }); filters = record { path = 0x61 ∷ []; qos = 2; noLocal = 1; preserve = 1; rule = 2 } ∷ [] })) 18)
+    ∷ case none (0x82 ∷ 0x10 ∷ 0x00 ∷ 0x00 ∷ 0x09 ∷ 0x0B ∷ 0x05 ∷ 0x26 ∷ 0x00 ∷ 0x01 ∷ 0x6B ∷ 0x00 ∷ 0x01 ∷ 0x76 ∷ 0x00 ∷ 0x01 ∷ 0x61 ∷ 0xEE ∷ []) (accepted (subscribe (record { ident = 0; props = some (record { reason = none; ident = some (num 5); user = duo (0x6B ∷ []) (0x76 ∷ []) ∷ [] }); filters = record { path = 0x61 ∷ []; qos = 2; noLocal = 1; preserve = 1; rule = 2 } ∷ [] })) 18)
     ∷ case none (0x82 ∷ 0x07 ∷ 0x00 ∷ 0x01 ∷ 0x00 ∷ 0x00 ∷ 0x01 ∷ 0x61 ∷ 0x03 ∷ []) (refused 11 (3 ∷ []) 9)
     ∷ case none (0x82 ∷ 0x07 ∷ 0x00 ∷ 0x01 ∷ 0x00 ∷ 0x00 ∷ 0x01 ∷ 0x61 ∷ 0x04 ∷ []) (accepted (subscribe (record { ident = 1; props = none; filters = record { path = 0x61 ∷ []; qos = 0; noLocal = 1; preserve = 0; rule = 0 } ∷ [] })) 9)
     ∷ case none (0x82 ∷ 0x07 ∷ 0x00 ∷ 0x01 ∷ 0x00 ∷ 0x00 ∷ 0x01 ∷ 0x61 ∷ 0xC8 ∷ []) (accepted (subscribe (record { ident = 1; props = none; filters = record { path = 0x61 ∷ []; qos = 0; noLocal = 0; preserve = 1; rule = 0 } ∷ [] })) 9)
@@ -110,7 +110,7 @@ more =
     ∷ case none (0x8F ∷ 0x07 ∷ 0x00 ∷ 0x01 ∷ 0x00 ∷ 0x00 ∷ 0x01 ∷ 0x61 ∷ 0x01 ∷ []) (accepted (subscribe (record { ident = 1; props = none; filters = record { path = 0x61 ∷ []; qos = 1; noLocal = 0; preserve = 0; rule = 0 } ∷ [] })) 9)
     ∷ case none (0x4F ∷ 0x02 ∷ 0x00 ∷ 0x00 ∷ []) (accepted (ack 4 (record { ident = 0; reason = 0; props = none })) 4)
     -- PubAck: both properties; L = 0, in two bytes; 15 before the block, 10 before the bytes after it
-    ∷ case none (0x40 ∷ 0x0F ∷ 0x00 ∷ 0x0A ∷ 0x99 ∷ 0x0B ∷ 0x1F ∷ 0x00 ∷ 0x01 ∷ 0x61 ∷ 0x26 ∷ 0x00 ∷ 0x01 ∷ 0x6B ∷ 0x00 ∷ 0x01 ∷ 0x76 ∷ []) (accepted (acked 0x99 (some (record { reason = some (str (0x61 ∷ [])); user = duo (0x6B ∷ []) (0x76 ∷ []) ∷ [] }))) 17)
+    ∷ case none (0x40 ∷ 0x0F ∷ 0x00 ∷ 0x0A ∷ 0x99 ∷ 0x0B ∷ 0x1F ∷ 0x00 ∷ 0x01 ∷ 0x61 ∷ 0x26 ∷ 0x00 ∷ 0x01 ∷ 0x6B ∷ 0x00 ∷ 0x01 ∷ 0x76 ∷ []) (accepted (acked 0x99 (some (record { reason = some (str (0x61 ∷ [])); ident = none; user = duo (0x6B ∷ []) (0x76 ∷ []) ∷ [] }))) 17)
     ∷ case none (0x40 ∷ 0x05 ∷ 0x00 ∷ 0x0A ∷ 0x10 ∷ 0x80 ∷ 0x00 ∷ []) (accepted (acked 0x10 none) 7)
     ∷ case none (0x40 ∷ 0x01 ∷ 0x00 ∷ []) (refused 7 [] 3)
     ∷ case none (0x40 ∷ 0x03 ∷ 0x00 ∷ 0x0A ∷ 0x11 ∷ []) (refused 15 (0x11 ∷ []) 5)
@@ -126,7 +126,7 @@ six =
     case none (0x5F ∷ 0x02 ∷ 0x00 ∷ 0x00 ∷ []) (accepted (ack 5 (record { ident = 0; reason = 0; props = none })) 4)
     ∷ case none (0x50 ∷ 0x03 ∷ 0x00 ∷ 0x0A ∷ 0x99 ∷ []) (accepted (ack 5 (record { ident = 10; reason = 0x99; props = none })) 5)
     ∷ case none (0x50 ∷ 0x03 ∷ 0x00 ∷ 0x0A ∷ 0x92 ∷ []) (refused 15 (0x92 ∷ []) 5)
-    ∷ case none (0x60 ∷ 0x08 ∷ 0x00 ∷ 0x0A ∷ 0x92 ∷ 0x04 ∷ 0x1F ∷ 0x00 ∷ 0x01 ∷ 0x61 ∷ []) (accepted (ack 6 (record { ident = 10; reason = 0x92; props = some (record { reason = some (str (0x61 ∷ [])); user = [] }) })) 10)
+    ∷ case none (0x60 ∷ 0x08 ∷ 0x00 ∷ 0x0A ∷ 0x92 ∷ 0x04 ∷ 0x1F ∷ 0x00 ∷ 0x01 ∷ 0x61 ∷ []) (accepted (ack 6 (record { ident = 10; reason = 0x92; props = some (record { reason = some (str (0x61 ∷ [])); ident = none; user = [] }) })) 10)
     ∷ case none (0x62 ∷ 0x03 ∷ 0x00 ∷ 0x0A ∷ 0x10 ∷ []) (refused 15 (0x10 ∷ []) 5)
     ∷ case none (0x70 ∷ 0x03 ∷ 0x00 ∷ 0x0A ∷ 0x92 ∷ []) (accepted (ack 7 (record { ident = 10; reason = 0x92; props = none })) 5)
     ∷ case none (0x70 ∷ 0x05 ∷ 0x00 ∷ 0x0A ∷ 0x00 ∷ 0x00 ∷ 0x00 ∷ []) (refused 7 [] 7)
@@ -137,7 +137,7 @@ six =
     ∷ case none (0x90 ∷ 0x05 ∷ 0x00 ∷ 0x01 ∷ 0x00 ∷ 0x00 ∷ 0x11 ∷ []) (refused 15 (0x11 ∷ []) 7)
     ∷ case none (0x90 ∷ 0x06 ∷ 0x00 ∷ 0x01 ∷ 0x02 ∷ 0x0B ∷ 0x01 ∷ 0x03 ∷ []) (refused 10 (11 ∷ []) 8)
     ∷ case none (0x90 ∷ 0x00 ∷ []) (refused 5 [] 2)
-    ∷ case none (0xB0 ∷ 0x0A ∷ 0x00 ∷ 0x01 ∷ 0x05 ∷ 0x26 ∷ 0x00 ∷ 0x00 ∷ 0x00 ∷ 0x00 ∷ 0x11 ∷ 0x00 ∷ []) (accepted (reply 11 (record { ident = 1; props = some (record { reason = none; user = duo [] [] ∷ [] }); reasons = 0x11 ∷ 0x00 ∷ [] })) 12)
+    ∷ case none (0xB0 ∷ 0x0A ∷ 0x00 ∷ 0x01 ∷ 0x05 ∷ 0x26 ∷ 0x00 ∷ 0x00 ∷ 0x00 ∷ 0x00 ∷ 0x11 ∷ 0x00 ∷ []) (accepted (reply 11 (record { ident = 1; props = some (record { reason = none; ident = none; user = duo [] [] ∷ [] }); reasons = 0x11 ∷ 0x00 ∷ [] })) 12)
     ∷ case none (0xB0 ∷ 0x04 ∷ 0x00 ∷ 0x01 ∷ 0x00 ∷ 0x01 ∷ []) (refused 15 (1 ∷ []) 6)
     -- Unsubscribe: 38 alone, topics are texts
     ∷ case none (0xA0 ∷ 0x08 ∷ 0x00 ∷ 0x00 ∷ 0x00 ∷ 0x00 ∷ 0x01 ∷ 0x61 ∷ 0x00 ∷ 0x00 ∷ []) (accepted (unsubscribe (record { ident = 0; props = none; topics = (0x61 ∷ []) ∷ [] ∷ [] })) 10)
@@ -186,7 +186,7 @@ placed = (
     ∷ (two, accepted (subscribe (record { ident = 1; props = none; filters = span 5 10 })) 15)
     ∷ (0x90 ∷ 0x05 ∷ 0x00 ∷ 0x01 ∷ 0x00 ∷ 0x02 ∷ 0xA2 ∷ [], accepted (reply 9 (record { ident = 1; props = none; reasons = span 5 2 })) 7)
     ∷ (0xA2 ∷ 0x06 ∷ 0x00 ∷ 0x01 ∷ 0x00 ∷ 0x00 ∷ 0x01 ∷ 0x61 ∷ [], accepted (unsubscribe (record { ident = 1; props = none; topics = span 5 3 })) 8)
-    ∷ (acks, accepted (ack 4 (record { ident = 10; reason = 0x99; props = some (record { reason = some (str (span 9 1)); user = span 6 11 }) })) 17)
+    ∷ (acks, accepted (ack 4 (record { ident = 10; reason = 0x99; props = some (record { reason = some (str (span 9 1)); ident = none; user = span 6 11 }) })) 17)
     ∷ []
 
 -- items: the third identifier, none after it; no user property; no item of a place that cuts the block, or lies outside; a pair of an acknowledgement
@@ -214,5 +214,5 @@ Right =
     × (topicAt asPlaces (0x00 ∷ 0x01 ∷ 0x61 ∷ []) (span 0 3) 0 ≡ got (span 2 1))
 
 pub right : Right
-unfolding rows publishPlace subscribePlace ackPlace unsubscribePlace reasons releaseReasons subAckReasons unsubAckReasons kinds lastOf allOf publishProps ackProps subscribeProps unsubscribeProps noneOf neverOf mapOf onlyOf thenOf sizedOf isFit mapFit handFit onlyFit thenFit exactFit runFit chainFit byteOf followOf restOf charOf isText bigOf groupOf numOf stringFit bytesOf textOf valueOf valueAt propertyOf propertiesFit blockOf ackBlockFit ackRestFit identOf reasonsFit filterOf filtersFit topicsFit messageFit fieldsFit layoutFit bodyFit within over frameOf bodyAnswer wholeAnswer frameAnswer readAs again valuesAt userAt subscriptionAt filterAt reasonAt topicAt
+unfolding rows publishPlace subscribePlace ackPlace unsubscribePlace reasons releaseReasons subAckReasons unsubAckReasons kinds lastOf allOf publishProps propsOf noneOf neverOf mapOf onlyOf thenOf sizedOf isFit mapFit handFit onlyFit thenFit exactFit runFit chainFit byteOf followOf restOf charOf isText bigOf groupOf numOf stringFit bytesOf textOf valueOf valueAt propertyOf propertiesFit blockOf ackBlockFit ackRestFit identOf reasonsFit filterOf filtersFit topicsFit messageFit fieldsFit layoutFit bodyFit within over frameOf bodyAnswer wholeAnswer frameAnswer readAs again valuesAt userAt subscriptionAt filterAt reasonAt topicAt
 right = (refl, refl, refl, refl, refl, refl, refl)

@@ -61,31 +61,16 @@ publishProps S L keep ps = record {
   content = lastOf 3 ps;
 }
 
--- 01, table of properties, row Subscribe
-pub record SubscribeProps (S : Type 0) (L : Type 0 → Type 0) : Type 0 where
+-- 01, table of properties, rows Subscribe and PubAck; 02, P1, row Unsubscribe: one record for the blocks of all three. What is not in the
+-- row of a place does not stand in its block, so its field is none there
+pub record Props (S : Type 0) (L : Type 0 → Type 0) : Type 0 where
+  pub reason : Option (Val S)
   pub ident : Option (Val S)
   pub user : L (Val S)
 
--- 01, table of properties, row Subscribe; here 11 is no list
-unfoldable pub subscribeProps : (S : Type 0) (L : Type 0 → Type 0) (keep : List (Val S) → L (Val S)) → List (PropOf S) → SubscribeProps S L
-subscribeProps S L keep ps = record { ident = lastOf 11 ps; user = keep (allOf 38 ps) }
-
--- 01, table of properties, row PubAck
-pub record AckProps (S : Type 0) (L : Type 0 → Type 0) : Type 0 where
-  pub reason : Option (Val S)
-  pub user : L (Val S)
-
--- 01, table of properties, row PubAck
-unfoldable pub ackProps : (S : Type 0) (L : Type 0 → Type 0) (keep : List (Val S) → L (Val S)) → List (PropOf S) → AckProps S L
-ackProps S L keep ps = record { reason = lastOf 31 ps; user = keep (allOf 38 ps) }
-
--- 02, P1: row Unsubscribe
-pub record UnsubscribeProps (S : Type 0) (L : Type 0 → Type 0) : Type 0 where
-  pub user : L (Val S)
-
--- 02, P1: row Unsubscribe
-unfoldable pub unsubscribeProps : (S : Type 0) (L : Type 0 → Type 0) (keep : List (Val S) → L (Val S)) → List (PropOf S) → UnsubscribeProps S L
-unsubscribeProps S L keep ps = record { user = keep (allOf 38 ps) }
+-- 01, table of properties: the fields by their identifiers; here 11 is no list
+unfoldable pub propsOf : (S : Type 0) (L : Type 0 → Type 0) (keep : List (Val S) → L (Val S)) → List (PropOf S) → Props S L
+propsOf S L keep ps = record { reason = lastOf 31 ps; ident = lastOf 11 ps; user = keep (allOf 38 ps) }
 
 -- ---- the records
 
@@ -110,25 +95,25 @@ pub record Filter (S : Type 0) : Type 0 where
 -- 01, grammar: "Subscribe (8)"
 pub record Subscribe (S : Type 0) (L : Type 0 → Type 0) : Type 0 where
   pub ident : ℕ
-  pub props : Option (SubscribeProps S L)
+  pub props : Option (Props S L)
   pub filters : L (Filter S)
 
 -- 01, grammar: "PubAck (4)"
 pub record Ack (S : Type 0) (L : Type 0 → Type 0) : Type 0 where
   pub ident : ℕ
   pub reason : ℕ
-  pub props : Option (AckProps S L)
+  pub props : Option (Props S L)
 
 -- 02, P1: SubAck and UnsubAck, a reason for each filter or topic
 pub record Reply (S : Type 0) (L : Type 0 → Type 0) : Type 0 where
   pub ident : ℕ
-  pub props : Option (AckProps S L)
+  pub props : Option (Props S L)
   pub reasons : L ℕ
 
 -- 02, P1: Unsubscribe
 pub record Unsubscribe (S : Type 0) (L : Type 0 → Type 0) : Type 0 where
   pub ident : ℕ
-  pub props : Option (UnsubscribeProps S L)
+  pub props : Option (Props S L)
   pub topics : L S
 
 -- 01, modules: "Publish, Subscribe, PubAck, PingReq, PingResp"; 02, P1: the other acknowledgements, and Unsubscribe; acknowledgements,
@@ -180,7 +165,7 @@ abbrev pub mkPublish : {S : Type 0} {L : Type 0 → Type 0} → ℕ → S × (�
 mkPublish x v = publish (record { dup = flagDup x; qos = flagQos x; retain = flagRetain x; topic = v .0; ident = v .1 .0; props = v .1 .1 .0; payload = v .1 .1 .1 })
 
 -- 01, grammar, PubAck: identifier, reason, block
-abbrev pub mkAck : {S : Type 0} {L : Type 0 → Type 0} → ℕ → ℕ × (ℕ × Option (AckProps S L)) → PacketOf S L
+abbrev pub mkAck : {S : Type 0} {L : Type 0 → Type 0} → ℕ → ℕ × (ℕ × Option (Props S L)) → PacketOf S L
 mkAck x v = ack (kindOf x) (record { ident = v .0; reason = v .1 .0; props = v .1 .1 })
 
 -- 01, grammar, Subscribe: "text, then an options byte"
@@ -188,15 +173,15 @@ abbrev pub mkFilter : {S : Type 0} → S × ℕ → Filter S
 mkFilter v = record { path = v .0; qos = optionQos (v .1); noLocal = optionNoLocal (v .1); preserve = optionPreserve (v .1); rule = optionRule (v .1) }
 
 -- 01, grammar, Subscribe: identifier, block, filters
-abbrev pub mkSubscribe : {S : Type 0} {L : Type 0 → Type 0} → ℕ × (Option (SubscribeProps S L) × L (Filter S)) → PacketOf S L
+abbrev pub mkSubscribe : {S : Type 0} {L : Type 0 → Type 0} → ℕ × (Option (Props S L) × L (Filter S)) → PacketOf S L
 mkSubscribe v = subscribe (record { ident = v .0; props = v .1 .0; filters = v .1 .1 })
 
 -- 02, P1, SubAck and UnsubAck: identifier, block, reasons
-abbrev pub mkReply : {S : Type 0} {L : Type 0 → Type 0} → ℕ → ℕ × (Option (AckProps S L) × L ℕ) → PacketOf S L
+abbrev pub mkReply : {S : Type 0} {L : Type 0 → Type 0} → ℕ → ℕ × (Option (Props S L) × L ℕ) → PacketOf S L
 mkReply x v = reply (kindOf x) (record { ident = v .0; props = v .1 .0; reasons = v .1 .1 })
 
 -- 02, P1, Unsubscribe: identifier, block, topics
-abbrev pub mkUnsubscribe : {S : Type 0} {L : Type 0 → Type 0} → ℕ × (Option (UnsubscribeProps S L) × L S) → PacketOf S L
+abbrev pub mkUnsubscribe : {S : Type 0} {L : Type 0 → Type 0} → ℕ × (Option (Props S L) × L S) → PacketOf S L
 mkUnsubscribe v = unsubscribe (record { ident = v .0; props = v .1 .0; topics = v .1 .1 })
 
 -- 01, grammar, PingReq and PingResp: "flags and any R bytes ignored"

@@ -10,7 +10,7 @@ use Rattle.grammar.specs.Number.{Byte, Big, Spells}
 use Rattle.grammar.specs.Text.{Utf8}
 use Rattle.grammar.specs.Gram.{Gram, Nothing, Map, Only, Then, Sized, Many, Is}
 use Rattle.grammar.specs.Tables.{Form, u8, u16, u32, number, text, bytes, pair, Place, publishPlace, subscribePlace, ackPlace, unsubscribePlace, Layout, aPublish, anAck, aSubscribe, aReply, anUnsubscribe, aPing, kinds}
-use Rattle.grammar.specs.Record.{Val, num, str, duo, PropOf, unlessEmpty, PublishProps, publishProps, SubscribeProps, subscribeProps, AckProps, ackProps, UnsubscribeProps, unsubscribeProps, Filter, PacketOf, kindOf, flagQos, optionQos, optionRule, mkPublish, mkAck, mkFilter, mkSubscribe, mkReply, mkUnsubscribe, mkPing}
+use Rattle.grammar.specs.Record.{Val, num, str, duo, PropOf, unlessEmpty, PublishProps, publishProps, Props, propsOf, Filter, PacketOf, kindOf, flagQos, optionQos, optionRule, mkPublish, mkAck, mkFilter, mkSubscribe, mkReply, mkUnsubscribe, mkPing}
 
 -- ---- strings
 
@@ -66,17 +66,9 @@ asList vs = vs
 abbrev pub publishOf : List Prop → Option (PublishProps (List ℕ) List)
 publishOf = unlessEmpty (publishProps (List ℕ) List asList)
 
--- 01, grammar: a Subscribe block
-abbrev pub subscribeOf : List Prop → Option (SubscribeProps (List ℕ) List)
-subscribeOf = unlessEmpty (subscribeProps (List ℕ) List asList)
-
--- 01, grammar: a PubAck block
-abbrev pub ackOf : List Prop → Option (AckProps (List ℕ) List)
-ackOf = unlessEmpty (ackProps (List ℕ) List asList)
-
--- 02, P1: an Unsubscribe block
-abbrev pub unsubscribeOf : List Prop → Option (UnsubscribeProps (List ℕ) List)
-unsubscribeOf = unlessEmpty (unsubscribeProps (List ℕ) List asList)
+-- 01, grammar: a block at any other place
+abbrev pub propsIf : List Prop → Option (Props (List ℕ) List)
+propsIf = unlessEmpty (propsOf (List ℕ) List asList)
 
 -- ---- Publish
 
@@ -118,10 +110,10 @@ someOf fs = not (isEmpty fs)
 -- ---- acknowledgements, by the reasons rs that they may give
 
 -- 01, grammar, PubAck: "at R = 2 success and no block; at R = 3 a reason and no block; from R = 4 a reason and a block that ends the frame"
-pub data AckRest (rs : List ℕ) : ℕ × Option (AckProps (List ℕ) List) → List ℕ → Type 0 where
+pub data AckRest (rs : List ℕ) : ℕ × Option (Props (List ℕ) List) → List ℕ → Type 0 where
   plain : AckRest rs (0, none) []
   coded : {c : ℕ} → isIn c rs ≡ true → AckRest rs (c, none) (c ∷ [])
-  full : {c : ℕ} {ps : Option (AckProps (List ℕ) List)} {b : List ℕ} → isIn c rs ≡ true → Block ackPlace ackOf ps b → AckRest rs (c, ps) (c ∷ b)
+  full : {c : ℕ} {ps : Option (Props (List ℕ) List)} {b : List ℕ} → isIn c rs ≡ true → Block ackPlace propsIf ps b → AckRest rs (c, ps) (c ∷ b)
 
 -- ---- replies, by the reasons rs that they may give
 
@@ -140,9 +132,9 @@ abbrev pub Fields : Layout → ℕ → Packet → List ℕ → Type 0
 Fields aPublish x =
     Only (publishGood x) (Map (mkPublish x) (Then Bytes (λ _. Then (Ident (flagQos x)) (λ _. Then (Block publishPlace publishOf) (λ _. Is Any)))))
 Fields (anAck rs) x = Map (mkAck x) (Then (Big 2) (λ _. AckRest rs))
-Fields aSubscribe x = Map mkSubscribe (Then (Big 2) (λ _. Then (Block subscribePlace subscribeOf) (λ _. Only someOf (Many FilterOf))))
-Fields (aReply rs) x = Map (mkReply x) (Then (Big 2) (λ _. Then (Block ackPlace ackOf) (λ _. Only someOf (Many (ReasonOf rs)))))
-Fields anUnsubscribe x = Map mkUnsubscribe (Then (Big 2) (λ _. Then (Block unsubscribePlace unsubscribeOf) (λ _. Only someOf (Many Text))))
+Fields aSubscribe x = Map mkSubscribe (Then (Big 2) (λ _. Then (Block subscribePlace propsIf) (λ _. Only someOf (Many FilterOf))))
+Fields (aReply rs) x = Map (mkReply x) (Then (Big 2) (λ _. Then (Block ackPlace propsIf) (λ _. Only someOf (Many (ReasonOf rs)))))
+Fields anUnsubscribe x = Map mkUnsubscribe (Then (Big 2) (λ _. Then (Block unsubscribePlace propsIf) (λ _. Only someOf (Many Text))))
 Fields aPing x = Map (mkPing x) (Is Any)
 
 -- 01, grammar: "kind in the high four bits": one that is carried, and its fields

@@ -13,15 +13,15 @@ use Rattle.grammar.specs.Gram.{Gram, done, more, Many, Solid}
 use Rattle.grammar.specs.Text.{Utf8}
 use Rattle.grammar.specs.Tables.{Form, u8, u16, u32, number, text, bytes, pair, Place, publishPlace, subscribePlace, ackPlace, unsubscribePlace, Layout, aPublish, anAck, aSubscribe, aReply, anUnsubscribe, aPing, kinds, reserved, isPing}
 use Rattle.grammar.specs.Record.{num, str, kindOf, flagQos, mkPublish, mkAck, mkFilter, mkSubscribe, mkReply, mkUnsubscribe, mkPing}
-use Rattle.grammar.specs.Sentence.{Text, Prop, duoOf, Block, ackOf, notThree, notZero, qosFine, ruleFine, someOf, ReasonOf, Packet}
+use Rattle.grammar.specs.Sentence.{Text, Prop, duoOf, Block, propsIf, notThree, notZero, qosFine, ruleFine, someOf, ReasonOf, Packet}
 use Rattle.reading.specs.Refusal.{Refusal, nr, Answer, cut, crossed, lacking, within, over}
 use Rattle.reading.specs.Fault.{Fault, Sound, ManyFault, ExactFault, BytesFault, TextFault, ValueFault, PropertyFault, noId, unknown, value, BlockFault, AckFault, reason, block, IdentFault, FilterFault, SomeFault, noEntry, entry, FiltersFault, ReasonFault, MessageFault, PublishFault, qos, fields, FieldsFault, BodyFault, kind, noBytes, foreign, content, FrameFault, Passing, Verdict, says, breaks, noFrame}
 use Rattle.reading.specs.Reader.{Fit, got, bad, Reader, isFit, onlyFit, exactFit, runFit, chainFit, manyFit}
-use Rattle.reading.specs.Read.{identOf, isText, anyBytes, asBytes, someFit, reasonsFit, frameOf, bodyAnswer, stringFit, bytesOf, textOf, valueOf, valueAt, propertyOf, propertiesFit, blockOf, publishAs, subscribeAs, ackAs, unsubscribeAs, ackBlockFit, ackRestFit, filterOf, filtersFit, topicsFit, messageFit, fieldsFit, layoutFit, bodyFit, wholeAnswer, frameAnswer, readAs, readOf}
+use Rattle.reading.specs.Read.{identOf, isText, anyBytes, asBytes, someFit, reasonsFit, frameOf, bodyAnswer, stringFit, bytesOf, textOf, valueOf, valueAt, propertyOf, propertiesFit, blockOf, publishAs, propsAs, ackBlockFit, ackRestFit, filterOf, filtersFit, topicsFit, messageFit, fieldsFit, layoutFit, bodyFit, wholeAnswer, frameAnswer, readAs, readOf}
 use Rattle.reading.proofs.Lists.{none-left}
 use Rattle.reading.proofs.Reading.{Reads, reads-only, fills-many}
 use Rattle.reading.proofs.Fields.{reads-byte, reads-big, reads-num, text-fine, reads-bytes, reads-text, reads-property, property-solid}
-use Rattle.reading.proofs.Packets.{reads-ack, reads-ident, reads-filter, filter-solid, reads-publish-block, reads-subscribe-block, reads-unsubscribe-block, reason-solid, text-solid, kind-fine, fills-body}
+use Rattle.reading.proofs.Packets.{reads-props, reads-ident, reads-filter, filter-solid, reads-publish-block, reason-solid, text-solid, kind-fine, fills-body}
 use Rattle.reading.proofs.Demand.{reads-length, reads-frame, whole-answer}
 use Rattle.reading.proofs.Refusing.{got-bad, of-bind, of-guard, RefusesBy, refuses-byte, refuses-big, refuses-num, refuses-none, refuses-map, refuses-fit, refuses-hand, refuses-then, refuses-end, refuses-only, refuses-exact, refuses-many, refuses-sized, refuses-is}
 
@@ -77,8 +77,8 @@ refuses-block place f = refuses-sized crossed (reads-num cut 4) (refuses-num cut
 -- ---- bodies
 
 module _ (rs : List ℕ) (end : ℕ) where
-  ack-block : RefusesBy (exactFit (blockOf asBytes ackPlace (ackAs asBytes) end) cut) (ExactFault (Block ackPlace ackOf) (BlockFault ackPlace) cut)
-  ack-block = refuses-exact (refuses-block ackPlace (ackAs asBytes) end) (reads-ack end) cut
+  ack-block : RefusesBy (exactFit (blockOf asBytes ackPlace (propsAs asBytes) end) cut) (ExactFault (Block ackPlace propsIf) (BlockFault ackPlace) cut)
+  ack-block = refuses-exact (refuses-block ackPlace (propsAs asBytes) end) (reads-props ackPlace end) cut
 
   block-fault : (c : ℕ) (r : List ℕ) (k : Refusal) → isIn c rs ≡ true → ackBlockFit asBytes end r ≡ bad k → AckFault rs (c ∷ r) k
   unfolding ackBlockFit
@@ -176,17 +176,17 @@ module _ (x end : ℕ) where
   refuses-fields aSubscribe =
       refuses-fit mkSubscribe
       (refuses-end (refuses-big cut 2) (reads-big cut 2)
-      (refuses-end (refuses-block subscribePlace (subscribeAs asBytes) end) (reads-subscribe-block end)
+      (refuses-end (refuses-block subscribePlace (propsAs asBytes) end) (reads-props subscribePlace end)
       (refuses-hand _ refuses-filters end)))
   refuses-fields (aReply rs) =
       refuses-fit (mkReply x)
       (refuses-end (refuses-big cut 2) (reads-big cut 2)
-      (refuses-end (refuses-block ackPlace (ackAs asBytes) end) (reads-ack end)
+      (refuses-end (refuses-block ackPlace (propsAs asBytes) end) (reads-props ackPlace end)
       (refuses-hand _ (refuses-reasons rs) end)))
   refuses-fields anUnsubscribe =
       refuses-fit mkUnsubscribe
       (refuses-end (refuses-big cut 2) (reads-big cut 2)
-      (refuses-end (refuses-block unsubscribePlace (unsubscribeAs asBytes) end) (reads-unsubscribe-block end)
+      (refuses-end (refuses-block unsubscribePlace (propsAs asBytes) end) (reads-props unsubscribePlace end)
       (refuses-hand _ refuses-topics end)))
   refuses-fields aPing = refuses-fit (mkPing x) sound
 

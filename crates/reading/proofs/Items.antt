@@ -11,12 +11,12 @@ use lib.ListN.{length, take, drop, length-drop, take-append-drop}
 use lib.Seq.{length-take-le}
 use Rattle.grammar.specs.Gram.{Gram, Only, Many}
 use Rattle.grammar.specs.Tables.{Place, publishPlace, subscribePlace, ackPlace, unsubscribePlace, reasonsOf}
-use Rattle.grammar.specs.Record.{PropOf, allOf, PublishProps, SubscribeProps, AckProps, UnsubscribeProps, Filter, publish, ack, subscribe, reply, unsubscribe, ping}
+use Rattle.grammar.specs.Record.{PropOf, allOf, PublishProps, Props, Filter, publish, ack, subscribe, reply, unsubscribe, ping}
 use Rattle.grammar.specs.Sentence.{Value, Prop, Text, Property, FilterOf, ReasonOf, someOf, Packet}
 use Rattle.reading.specs.Refusal.{Refusal, nr, accepted}
 use Rattle.reading.specs.Reader.{Fit, got, bad, Filler, _>>=_, _>>_, guard}
 use Rattle.reading.specs.Read.{Shape, asBytes, reasonsFit, propertiesFit, filtersFit, topicsFit, readOf}
-use Rattle.reading.specs.Place.{Span, partOf, heldOf, asPlaces, Placed, readPlacedOf, noItem, orNoItem, again, nthOf, reasonAt, valuesAt, userAt, subscriptionAt, filterAt, topicAt, onGot, ifSome, sayVal, sayProp, sayFilter, sayPublishProps, saySubscribeProps, sayAckProps, sayUnsubscribeProps, say, Lists, OnBoth, neither, each, PublishItems, SubscribeItems, AckItems, UnsubscribeItems, Items, ofPublish, ofAck, ofSubscribe, ofReply, ofUnsubscribe, ofPing}
+use Rattle.reading.specs.Place.{Span, partOf, heldOf, asPlaces, Placed, readPlacedOf, noItem, orNoItem, again, nthOf, reasonAt, valuesAt, userAt, subscriptionAt, filterAt, topicAt, onGot, ifSome, sayVal, sayProp, sayFilter, sayPublishProps, sayProps, say, Lists, OnBoth, neither, each, PublishItems, PropsItems, Items, ofPublish, ofAck, ofSubscribe, ofReply, ofUnsubscribe, ofPing}
 use Rattle.reading.proofs.Lists.{T-of}
 use Rattle.reading.proofs.Reading.{bad-got, got-inj, from-got, from-bind, Fills}
 use Rattle.reading.proofs.Forget.{Like, gots, bads, Via, like-bind, like-guard, like-is, Stands, Drops}
@@ -250,25 +250,19 @@ module _ (s : List ℕ) where
       from-bind (valuesAt asBytes s (ps .subscriptions) publishPlace 11) _ λ ns e′.
       from-got (PublishItems s ps) _ (user-lists publishPlace (ps .user) us e, subscription-lists (ps .subscriptions) ns e′)
 
-  subscribe-items : (ps : SubscribeProps Span (λ A. Span)) (qs : SubscribeProps (List ℕ) List) → saySubscribeProps s ps ≡ got qs → SubscribeItems s ps qs
-  subscribe-items ps = from-bind (valuesAt asBytes s (ps .user) subscribePlace 38) _ λ us e. from-got (SubscribeItems s ps) _ (user-lists subscribePlace (ps .user) us e)
-
-  ack-items : (ps : AckProps Span (λ A. Span)) (qs : AckProps (List ℕ) List) → sayAckProps s ps ≡ got qs → AckItems s ps qs
-  ack-items ps = from-bind (valuesAt asBytes s (ps .user) ackPlace 38) _ λ us e. from-got (AckItems s ps) _ (user-lists ackPlace (ps .user) us e)
-
-  unsubscribe-items : (ps : UnsubscribeProps Span (λ A. Span)) (qs : UnsubscribeProps (List ℕ) List) → sayUnsubscribeProps s ps ≡ got qs → UnsubscribeItems s ps qs
-  unsubscribe-items ps = from-bind (valuesAt asBytes s (ps .user) unsubscribePlace 38) _ λ us e. from-got (UnsubscribeItems s ps) _ (user-lists unsubscribePlace (ps .user) us e)
+  props-items : (place : Place) (ps : Props Span (λ A. Span)) (qs : Props (List ℕ) List) → sayProps s place ps ≡ got qs → PropsItems s place ps qs
+  props-items place ps = from-bind (valuesAt asBytes s (ps .user) place 38) _ λ us e. from-got (PropsItems s place ps) _ (user-lists place (ps .user) us e)
 
   -- so of any placed record that says w
   pub say-items : (v : Placed) (w : Packet) → say s v ≡ got w → Items s v w
   say-items (publish m) = from-bind (ifSome (sayPublishProps s) (m .props)) _ λ ps e. from-got (Items s (publish m)) _ (ofPublish (if-some (sayPublishProps s) publish-items (m .props) ps e))
-  say-items (ack k m) = from-bind (ifSome (sayAckProps s) (m .props)) _ λ ps e. from-got (Items s (ack k m)) _ (ofAck (if-some (sayAckProps s) ack-items (m .props) ps e))
-  say-items (subscribe m) = from-bind (ifSome (saySubscribeProps s) (m .props)) _ λ ps e. from-bind (again (filtersFit asBytes) s (m .filters)) _ λ fs e′.
-      from-got (Items s (subscribe m)) _ (ofSubscribe (if-some (saySubscribeProps s) subscribe-items (m .props) ps e) (filter-lists (m .filters) fs e′))
-  say-items (reply k m) = from-bind (ifSome (sayAckProps s) (m .props)) _ λ ps e. from-bind (again (reasonsFit (reasonsOf k)) s (m .reasons)) _ λ cs e′.
-      from-got (Items s (reply k m)) _ (ofReply (if-some (sayAckProps s) ack-items (m .props) ps e) (reason-lists (m .reasons) (reasonsOf k) cs e′))
-  say-items (unsubscribe m) = from-bind (ifSome (sayUnsubscribeProps s) (m .props)) _ λ ps e. from-bind (again (topicsFit asBytes) s (m .topics)) _ λ ts e′.
-      from-got (Items s (unsubscribe m)) _ (ofUnsubscribe (if-some (sayUnsubscribeProps s) unsubscribe-items (m .props) ps e) (topic-lists (m .topics) ts e′))
+  say-items (ack k m) = from-bind (ifSome (sayProps s ackPlace) (m .props)) _ λ ps e. from-got (Items s (ack k m)) _ (ofAck (if-some (sayProps s ackPlace) (props-items ackPlace) (m .props) ps e))
+  say-items (subscribe m) = from-bind (ifSome (sayProps s subscribePlace) (m .props)) _ λ ps e. from-bind (again (filtersFit asBytes) s (m .filters)) _ λ fs e′.
+      from-got (Items s (subscribe m)) _ (ofSubscribe (if-some (sayProps s subscribePlace) (props-items subscribePlace) (m .props) ps e) (filter-lists (m .filters) fs e′))
+  say-items (reply k m) = from-bind (ifSome (sayProps s ackPlace) (m .props)) _ λ ps e. from-bind (again (reasonsFit (reasonsOf k)) s (m .reasons)) _ λ cs e′.
+      from-got (Items s (reply k m)) _ (ofReply (if-some (sayProps s ackPlace) (props-items ackPlace) (m .props) ps e) (reason-lists (m .reasons) (reasonsOf k) cs e′))
+  say-items (unsubscribe m) = from-bind (ifSome (sayProps s unsubscribePlace) (m .props)) _ λ ps e. from-bind (again (topicsFit asBytes) s (m .topics)) _ λ ts e′.
+      from-got (Items s (unsubscribe m)) _ (ofUnsubscribe (if-some (sayProps s unsubscribePlace) (props-items unsubscribePlace) (m .props) ps e) (topic-lists (m .topics) ts e′))
   say-items (ping k) = from-got (Items s (ping k)) (ping k) ofPing
 
 -- 01: of a record that was read, with places v and in bytes w: the items from 0 on are w's lists, in order, and then 21

@@ -8,38 +8,38 @@ use lib.Dec.{eqb}
 use borrow.Author.Tests.{eqb-true}
 use Rattle.grammar.specs.Choice.{isIn, lookup, isEmpty}
 use Rattle.grammar.specs.Gram.{Gram, Only, only, Many, Solid}
-use Rattle.grammar.specs.Tables.{publishPlace, subscribePlace, ackPlace, unsubscribePlace, Layout, aPublish, anAck, aSubscribe, aReply, anUnsubscribe, aPing, kinds, reserved, isPing}
-use Rattle.grammar.specs.Record.{AckProps, kindOf, flagQos, mkPublish, mkAck, mkFilter, mkSubscribe, mkReply, mkUnsubscribe, mkPing}
-use Rattle.grammar.specs.Sentence.{Any, Text, Block, publishOf, subscribeOf, ackOf, unsubscribeOf, notThree, notZero, Ident, publishGood, qosFine, ruleFine, FilterOf, someOf, AckRest, plain, coded, full, ReasonOf, Packet, Fields, Body, body}
+use Rattle.grammar.specs.Tables.{Place, publishPlace, subscribePlace, ackPlace, unsubscribePlace, Layout, aPublish, anAck, aSubscribe, aReply, anUnsubscribe, aPing, kinds, reserved, isPing}
+use Rattle.grammar.specs.Record.{Props, kindOf, flagQos, mkPublish, mkAck, mkFilter, mkSubscribe, mkReply, mkUnsubscribe, mkPing}
+use Rattle.grammar.specs.Sentence.{Any, Text, Block, publishOf, propsIf, notThree, notZero, Ident, publishGood, qosFine, ruleFine, FilterOf, someOf, AckRest, plain, coded, full, ReasonOf, Packet, Fields, Body, body}
 use Rattle.reading.specs.Refusal.{Refusal, cut}
 use Rattle.reading.specs.Reader.{got, Filler, _>>=_, _>>_, guard}
-use Rattle.reading.specs.Read.{identOf, anyBytes, asBytes, reasonsFit, blockOf, publishAs, subscribeAs, ackAs, unsubscribeAs, ackBlockFit, ackRestFit, filterOf, filtersFit, topicsFit, messageFit, fieldsFit, layoutFit, bodyFit}
+use Rattle.reading.specs.Read.{identOf, anyBytes, asBytes, reasonsFit, blockOf, publishAs, propsAs, ackBlockFit, ackRestFit, filterOf, filtersFit, topicsFit, messageFit, fieldsFit, layoutFit, bodyFit}
 use Rattle.reading.proofs.Reading.{bad-got, from-got, from-bind, from-guard, Reads, Fills, reads-none, reads-map, reads-only, reads-then, fills-map, fills-as, fills-many, fills-then, fills-exact, fills-only, fills-is, solid-map, solid-then, solid-sized, solid-only}
 use Rattle.reading.proofs.Fields.{reads-byte, byte-solid, reads-big, big-solid, any-fine, fills-string, reads-bytes, reads-text, reads-block, block-solid}
 
 -- ---- PubAck
 
-pub reads-ack : (end : ℕ) → Reads (blockOf asBytes ackPlace (ackAs asBytes) end) (Block ackPlace ackOf)
-reads-ack = reads-block ackPlace (ackAs asBytes) ackOf (λ _ _ _. refl)
+pub reads-props : (place : Place) (end : ℕ) → Reads (blockOf asBytes place (propsAs asBytes) end) (Block place propsIf)
+reads-props place = reads-block place (propsAs asBytes) propsIf (λ _ _ _. refl)
 
 module _ (rs : List ℕ) (end : ℕ) where
-  full-whole : (c : ℕ) (ps : Option (AckProps (List ℕ) List)) (b : List ℕ) → isIn c rs ≡ true → Block ackPlace ackOf ps b → ackRestFit asBytes rs end (c ∷ b) ≡ got (c, ps)
+  full-whole : (c : ℕ) (ps : Option (Props (List ℕ) List)) (b : List ℕ) → isIn c rs ≡ true → Block ackPlace propsIf ps b → ackRestFit asBytes rs end (c ∷ b) ≡ got (c, ps)
   unfolding ackRestFit ackBlockFit
-  full-whole c ps [] h g = absurd (block-solid ackPlace ackOf ps [] g refl)
-  full-whole c ps (x ∷ b) h g = rw (h, fills-exact cut (reads-ack end) .whole ps (x ∷ b) g)
+  full-whole c ps [] h g = absurd (block-solid ackPlace propsIf ps [] g refl)
+  full-whole c ps (x ∷ b) h g = rw (h, fills-exact cut (reads-props ackPlace end) .whole ps (x ∷ b) g)
 
-  rest-whole : (a : ℕ × Option (AckProps (List ℕ) List)) (b : List ℕ) → AckRest rs a b → ackRestFit asBytes rs end b ≡ got a
+  rest-whole : (a : ℕ × Option (Props (List ℕ) List)) (b : List ℕ) → AckRest rs a b → ackRestFit asBytes rs end b ≡ got a
   unfolding ackRestFit ackBlockFit
   rest-whole _ _ plain = refl
   rest-whole _ _ (coded h) = rw h
   rest-whole _ _ (full {c = c} {ps = ps} {b = b} h g) = full-whole c ps b h g
 
-  block-back : (c : ℕ) (b : List ℕ) → isIn c rs ≡ true → (ps : Option (AckProps (List ℕ) List)) → ackBlockFit asBytes end b ≡ got ps → AckRest rs (c, ps) (c ∷ b)
+  block-back : (c : ℕ) (b : List ℕ) → isIn c rs ≡ true → (ps : Option (Props (List ℕ) List)) → ackBlockFit asBytes end b ≡ got ps → AckRest rs (c, ps) (c ∷ b)
   unfolding ackBlockFit
   block-back c [] h = from-got (λ ps. AckRest rs (c, ps) (c ∷ [])) none (coded h)
-  block-back c (x ∷ r) h = λ ps e. full h (fills-exact cut (reads-ack end) .back (x ∷ r) ps e)
+  block-back c (x ∷ r) h = λ ps e. full h (fills-exact cut (reads-props ackPlace end) .back (x ∷ r) ps e)
 
-  rest-back : (b : List ℕ) (z : ℕ × Option (AckProps (List ℕ) List)) → ackRestFit asBytes rs end b ≡ got z → AckRest rs z b
+  rest-back : (b : List ℕ) (z : ℕ × Option (Props (List ℕ) List)) → ackRestFit asBytes rs end b ≡ got z → AckRest rs z b
   unfolding ackRestFit
   rest-back [] = from-got (λ z. AckRest rs z []) (0, none) plain
   rest-back (c ∷ r) =
@@ -70,12 +70,6 @@ fills-filters end = fills-only someOf _ (fills-many (reads-filter end) filter-so
 
 pub reads-publish-block : (end : ℕ) → Reads (blockOf asBytes publishPlace (publishAs asBytes) end) (Block publishPlace publishOf)
 reads-publish-block = reads-block publishPlace (publishAs asBytes) publishOf (λ _ _ _. refl)
-
-pub reads-subscribe-block : (end : ℕ) → Reads (blockOf asBytes subscribePlace (subscribeAs asBytes) end) (Block subscribePlace subscribeOf)
-reads-subscribe-block = reads-block subscribePlace (subscribeAs asBytes) subscribeOf (λ _ _ _. refl)
-
-pub reads-unsubscribe-block : (end : ℕ) → Reads (blockOf asBytes unsubscribePlace (unsubscribeAs asBytes) end) (Block unsubscribePlace unsubscribeOf)
-reads-unsubscribe-block = reads-block unsubscribePlace (unsubscribeAs asBytes) unsubscribeOf (λ _ _ _. refl)
 
 -- ---- reasons and topics
 
@@ -119,17 +113,17 @@ fills-fields (anAck rs) x end = fills-map (mkAck x) (fills-then (reads-big cut 2
 fills-fields aSubscribe x end =
     fills-map mkSubscribe
     (fills-then (reads-big cut 2)
-    (λ _. fills-then (reads-subscribe-block end)
+    (λ _. fills-then (reads-props subscribePlace end)
     (λ _. fills-as fills-filters end)))
 fills-fields (aReply rs) x end =
     fills-map (mkReply x)
     (fills-then (reads-big cut 2)
-    (λ _. fills-then (reads-ack end)
+    (λ _. fills-then (reads-props ackPlace end)
     (λ _. fills-as (fills-reasons rs) end)))
 fills-fields anUnsubscribe x end =
     fills-map mkUnsubscribe
     (fills-then (reads-big cut 2)
-    (λ _. fills-then (reads-unsubscribe-block end)
+    (λ _. fills-then (reads-props unsubscribePlace end)
     (λ _. fills-as fills-topics end)))
 fills-fields aPing x end = fills-map (mkPing x) (fills-is anyBytes Any cut any-fine)
 

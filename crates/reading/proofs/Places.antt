@@ -14,16 +14,16 @@ use Rattle.grammar.specs.Choice.{isIn, lookup, isEmpty}
 use Rattle.grammar.specs.Gram.{Gram, Only, both, sized, Many, is}
 use Rattle.grammar.specs.Number.{byte}
 use Rattle.grammar.specs.Tables.{Form, u8, u16, u32, number, text, bytes, pair, Place, publishPlace, subscribePlace, ackPlace, unsubscribePlace, Layout, aPublish, anAck, aSubscribe, aReply, anUnsubscribe, aPing, kinds, reserved, isPing, listed, reasonsOf}
-use Rattle.grammar.specs.Record.{Val, num, str, PropOf, lastFrom, lastOf, allOf, unlessEmpty, publishProps, subscribeProps, AckProps, ackProps, unsubscribeProps, kindOf, flagQos, mkPublish, mkAck, mkFilter, mkSubscribe, mkReply, mkUnsubscribe, mkPing}
+use Rattle.grammar.specs.Record.{Val, num, str, PropOf, lastFrom, lastOf, allOf, unlessEmpty, publishProps, propsOf, Props, kindOf, flagQos, mkPublish, mkAck, mkFilter, mkSubscribe, mkReply, mkUnsubscribe, mkPing}
 use Rattle.grammar.specs.Sentence.{Value, Prop, duoOf, Property, notThree, FilterOf, someOf, Packet, Frame}
 use Rattle.reading.specs.Refusal.{Refusal, nr, Answer, accepted, refused, cut, crossed}
 use Rattle.reading.specs.Reader.{Fit, got, bad, Filler, _>>_, guard, isFit}
-use Rattle.reading.specs.Read.{bigOf, byteOf, numOf, identOf, isText, anyBytes, asBytes, reasonsFit, frameOf, bodyAnswer, stringFit, bytesOf, textOf, valueOf, valueAt, propertyOf, propertiesFit, blockOf, publishAs, subscribeAs, ackAs, unsubscribeAs, ackBlockFit, ackRestFit, filterOf, filtersFit, topicsFit, messageFit, fieldsFit, layoutFit, bodyFit, wholeAnswer, frameAnswer, readAs, readOf}
-use Rattle.reading.specs.Place.{Span, spanOf, partOf, heldOf, asPlaces, Placed, readPlacedOf, noItem, orNoItem, again, valuesAt, onGot, onSome, ifSome, sayVal, sayProp, sayFilter, sayPublishProps, saySubscribeProps, sayAckProps, sayUnsubscribeProps, say, sayAnswer}
+use Rattle.reading.specs.Read.{bigOf, byteOf, numOf, identOf, isText, anyBytes, asBytes, reasonsFit, frameOf, bodyAnswer, stringFit, bytesOf, textOf, valueOf, valueAt, propertyOf, propertiesFit, blockOf, publishAs, propsAs, ackBlockFit, ackRestFit, filterOf, filtersFit, topicsFit, messageFit, fieldsFit, layoutFit, bodyFit, wholeAnswer, frameAnswer, readAs, readOf}
+use Rattle.reading.specs.Place.{Span, spanOf, partOf, heldOf, asPlaces, Placed, readPlacedOf, noItem, orNoItem, again, valuesAt, onGot, onSome, ifSome, sayVal, sayProp, sayFilter, sayPublishProps, sayProps, say, sayAnswer}
 use Rattle.reading.proofs.Lists.{T-of}
 use Rattle.reading.proofs.Reading.{bad-got, got-inj, from-got, from-guard, Fills}
 use Rattle.reading.proofs.Fields.{reads-big, reads-num, reads-bytes, reads-text, reads-property, fills-properties}
-use Rattle.reading.proofs.Packets.{reads-ack, reads-ident, reads-filter, fills-filters, reads-publish-block, reads-subscribe-block, reads-unsubscribe-block, fills-reasons, fills-topics}
+use Rattle.reading.proofs.Packets.{reads-props, reads-ident, reads-filter, fills-filters, reads-publish-block, fills-reasons, fills-topics}
 use Rattle.reading.proofs.Demand.{no-accept, reads-length, reads-frame}
 use Rattle.reading.proofs.Forget.{Like, gots, bads, Via, Reading, Both, First, like-bind, like-guard, Stands, stands-rest, stands-within, stands-span, stands-held, Forgets, Drops, forgets-same, drops-same, forgets-map, drops-exact, forgets-then, drops-then, drops-many, drops-map, drops-only, drops-hand, forgets-sized}
 
@@ -147,20 +147,13 @@ module _ (s : List ℕ) where
       let v : (i : ℕ) → valuesAt asBytes s (spanOf b end) publishPlace i ≡ got (allOf i (map (sayProp s) ps)) = λ i. values-right publishPlace i b (map (sayProp s) ps) w e in
       unless-says _ _ _ ps (rw (v 38, v 11, last-says 1 ps, last-says 2 ps, last-says 35 ps, last-says 8 ps, last-says 9 ps, last-says 3 ps))
 
-  subscribe-as : (end : ℕ) (ps : List (PropOf Span)) (b : List ℕ) → Stands s end b → propertiesFit asBytes subscribePlace end b ≡ got (map (sayProp s) ps)
-      → ifSome (saySubscribeProps s) (subscribeAs asPlaces ps b end) ≡ got (subscribeAs asBytes (map (sayProp s) ps) b end)
-  unfolding subscribeProps
-  subscribe-as end ps b w e = unless-says _ _ _ ps (rw (values-right subscribePlace 38 b (map (sayProp s) ps) w e, last-says 11 ps))
+  props-as : (place : Place) (end : ℕ) (ps : List (PropOf Span)) (b : List ℕ) → Stands s end b → propertiesFit asBytes place end b ≡ got (map (sayProp s) ps)
+      → ifSome (sayProps s place) (propsAs asPlaces ps b end) ≡ got (propsAs asBytes (map (sayProp s) ps) b end)
+  unfolding propsOf
+  props-as place end ps b w e = unless-says _ _ _ ps (rw (values-right place 38 b (map (sayProp s) ps) w e, last-says 31 ps, last-says 11 ps))
 
-  ack-as : (end : ℕ) (ps : List (PropOf Span)) (b : List ℕ) → Stands s end b → propertiesFit asBytes ackPlace end b ≡ got (map (sayProp s) ps)
-      → ifSome (sayAckProps s) (ackAs asPlaces ps b end) ≡ got (ackAs asBytes (map (sayProp s) ps) b end)
-  unfolding ackProps
-  ack-as end ps b w e = unless-says _ _ _ ps (rw (values-right ackPlace 38 b (map (sayProp s) ps) w e, last-says 31 ps))
-
-  unsubscribe-as : (end : ℕ) (ps : List (PropOf Span)) (b : List ℕ) → Stands s end b → propertiesFit asBytes unsubscribePlace end b ≡ got (map (sayProp s) ps)
-      → ifSome (sayUnsubscribeProps s) (unsubscribeAs asPlaces ps b end) ≡ got (unsubscribeAs asBytes (map (sayProp s) ps) b end)
-  unfolding unsubscribeProps
-  unsubscribe-as end ps b w e = unless-says _ _ _ ps (rw (values-right unsubscribePlace 38 b (map (sayProp s) ps) w e))
+  props-says : (place : Place) (end : ℕ) → Forgets s end (Reading (ifSome (sayProps s place))) (blockOf asPlaces place (propsAs asPlaces) end) (blockOf asBytes place (propsAs asBytes) end)
+  props-says place = block-says place (propsAs asPlaces) (propsAs asBytes) (ifSome (sayProps s place)) (props-as place)
 
   pub filter-says : (end : ℕ) → Forgets s end (Via (sayFilter s)) (filterOf asPlaces end) (filterOf asBytes end)
   unfolding filterOf
@@ -181,13 +174,13 @@ module _ (s : List ℕ) where
   -- ---- acknowledgements
 
   -- a reason, and a block
-  abbrev Rest : ℕ × Option (AckProps Span (λ A. Span)) → ℕ × Option (AckProps (List ℕ) List) → Type 0
-  Rest = Both (Via (λ c. c)) (Reading (ifSome (sayAckProps s)))
+  abbrev Rest : ℕ × Option (Props Span (λ A. Span)) → ℕ × Option (Props (List ℕ) List) → Type 0
+  Rest = Both (Via (λ c. c)) (Reading (ifSome (sayProps s ackPlace)))
 
-  block-like : (end : ℕ) (l : List ℕ) → Stands s end l → Like (Reading (ifSome (sayAckProps s))) (ackBlockFit asPlaces end l) (ackBlockFit asBytes end l)
+  block-like : (end : ℕ) (l : List ℕ) → Stands s end l → Like (Reading (ifSome (sayProps s ackPlace))) (ackBlockFit asPlaces end l) (ackBlockFit asBytes end l)
   unfolding ackBlockFit
   block-like end [] w = gots refl
-  block-like end (x ∷ r) w = drops-exact (block-says ackPlace (ackAs asPlaces) (ackAs asBytes) (ifSome (sayAckProps s)) ack-as end) cut .like (x ∷ r) w
+  block-like end (x ∷ r) w = drops-exact (props-says ackPlace end) cut .like (x ∷ r) w
 
   rest-like : (rs : List ℕ) (end : ℕ) (l : List ℕ) → Stands s end l → Like Rest (ackRestFit asPlaces rs end l) (ackRestFit asBytes rs end l)
   unfolding ackRestFit
@@ -226,19 +219,19 @@ module _ (s : List ℕ) where
   fields-like aSubscribe x end q l w =
       drops-map
       (drops-then (forgets-same (bigOf cut 2)) (reads-big cut 2)
-      (drops-then (block-says subscribePlace (subscribeAs asPlaces) (subscribeAs asBytes) (ifSome (saySubscribeProps s)) subscribe-as end) (reads-subscribe-block end)
+      (drops-then (props-says subscribePlace end) (reads-props subscribePlace end)
       (drops-hand filters-says end (Reading (again (filtersFit asBytes) s)) _ _ (λ fs gs b w′ e r. again-right fills-filters b gs w′ e))))
       {Q = Reading (say s)} mkSubscribe mkSubscribe (λ a b r. rw (r .1 .0, r .1 .1, r .0)) .like l w
   fields-like (aReply rs) x end q l w =
       drops-map
       (drops-then (forgets-same (bigOf cut 2)) (reads-big cut 2)
-      (drops-then (block-says ackPlace (ackAs asPlaces) (ackAs asBytes) (ifSome (sayAckProps s)) ack-as end) (reads-ack end)
+      (drops-then (props-says ackPlace end) (reads-props ackPlace end)
       (drops-hand (λ e. drops-same (reasonsFit rs e)) end (Reading (again (reasonsFit rs) s)) _ _ (λ cs ds b w′ e r. again-right (fills-reasons rs) b ds w′ e))))
       {Q = Reading (say s)} (mkReply x) (mkReply x) (λ a b r. rw (kind-lists (kindOf x) (aReply rs) q, r .1 .0, r .1 .1, r .0)) .like l w
   fields-like anUnsubscribe x end q l w =
       drops-map
       (drops-then (forgets-same (bigOf cut 2)) (reads-big cut 2)
-      (drops-then (block-says unsubscribePlace (unsubscribeAs asPlaces) (unsubscribeAs asBytes) (ifSome (sayUnsubscribeProps s)) unsubscribe-as end) (reads-unsubscribe-block end)
+      (drops-then (props-says unsubscribePlace end) (reads-props unsubscribePlace end)
       (drops-hand topics-says end (Reading (again (topicsFit asBytes) s)) _ _ (λ ts us b w′ e r. again-right fills-topics b us w′ e))))
       {Q = Reading (say s)} mkUnsubscribe mkUnsubscribe (λ a b r. rw (r .1 .0, r .1 .1, r .0)) .like l w
   fields-like aPing x end q l w = drops-map (drops-same (isFit anyBytes cut)) {Q = Reading (say s)} (mkPing x) (mkPing x) (λ a b r. refl) .like l w

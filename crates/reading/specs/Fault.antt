@@ -12,7 +12,7 @@ use Rattle.grammar.specs.Number.{Byte, Big, Spells}
 use Rattle.grammar.specs.Text.{Utf8}
 use Rattle.grammar.specs.Tables.{Form, u8, u16, u32, number, text, bytes, pair, Place, publishPlace, subscribePlace, ackPlace, unsubscribePlace, Layout, aPublish, anAck, aSubscribe, aReply, anUnsubscribe, aPing, kinds, reserved, isPing}
 use Rattle.grammar.specs.Record.{kindOf, flagQos}
-use Rattle.grammar.specs.Sentence.{Bytes, Text, Property, Block, publishOf, subscribeOf, ackOf, unsubscribeOf, notThree, notZero, Ident, qosFine, ruleFine, FilterOf, ReasonOf, Packet, Body, Frame}
+use Rattle.grammar.specs.Sentence.{Bytes, Text, Property, Block, publishOf, propsIf, notThree, notZero, Ident, qosFine, ruleFine, FilterOf, ReasonOf, Packet, Body, Frame}
 use Rattle.reading.specs.Refusal.{Refusal, nr, Answer, accepted, refused, lacking, within, over}
 
 -- bytes, and the refusal with which they break
@@ -113,7 +113,7 @@ BlockFault place = SizedFault Spells (NumFault (nr 7 []) 4) crossing (ManyFault 
 -- 01, rows 15 and 7: "not one of the nine"; "bytes after a PubAck's block"
 pub data AckFault (rs : List ℕ) : List ℕ → Refusal → Type 0 where
   reason : {c : ℕ} {r : List ℕ} → isIn c rs ≡ false → AckFault rs (c ∷ r) (nr 15 (c ∷ []))
-  block : {c x : ℕ} {r : List ℕ} {k : Refusal} → isIn c rs ≡ true → ExactFault (Block ackPlace ackOf) (BlockFault ackPlace) (nr 7 []) (x ∷ r) k → AckFault rs (c ∷ x ∷ r) k
+  block : {c x : ℕ} {r : List ℕ} {k : Refusal} → isIn c rs ≡ true → ExactFault (Block ackPlace propsIf) (BlockFault ackPlace) (nr 7 []) (x ∷ r) k → AckFault rs (c ∷ x ∷ r) k
 
 -- 01, row 12: "Publish, QoS 1 or 2, identifier 0"
 abbrev pub IdentFault : ℕ → Fault
@@ -150,9 +150,9 @@ pub data PublishFault (x : ℕ) : List ℕ → Refusal → Type 0 where
 abbrev pub FieldsFault : Layout → ℕ → Fault
 FieldsFault aPublish x = PublishFault x
 FieldsFault (anAck rs) x = ThenFault (Big 2) (BigFault (nr 7 []) 2) (AckFault rs)
-FieldsFault aSubscribe x = ThenFault (Big 2) (BigFault (nr 7 []) 2) (ThenFault (Block subscribePlace subscribeOf) (BlockFault subscribePlace) FiltersFault)
-FieldsFault (aReply rs) x = ThenFault (Big 2) (BigFault (nr 7 []) 2) (ThenFault (Block ackPlace ackOf) (BlockFault ackPlace) (SomeFault (ReasonOf rs) (ReasonFault rs)))
-FieldsFault anUnsubscribe x = ThenFault (Big 2) (BigFault (nr 7 []) 2) (ThenFault (Block unsubscribePlace unsubscribeOf) (BlockFault unsubscribePlace) (SomeFault Text TextFault))
+FieldsFault aSubscribe x = ThenFault (Big 2) (BigFault (nr 7 []) 2) (ThenFault (Block subscribePlace propsIf) (BlockFault subscribePlace) FiltersFault)
+FieldsFault (aReply rs) x = ThenFault (Big 2) (BigFault (nr 7 []) 2) (ThenFault (Block ackPlace propsIf) (BlockFault ackPlace) (SomeFault (ReasonOf rs) (ReasonFault rs)))
+FieldsFault anUnsubscribe x = ThenFault (Big 2) (BigFault (nr 7 []) 2) (ThenFault (Block unsubscribePlace propsIf) (BlockFault unsubscribePlace) (SomeFault Text TextFault))
 FieldsFault aPing x = Sound
 
 -- 01, rows 4 to 6, in this order; x is the first byte, x / 16 the kind

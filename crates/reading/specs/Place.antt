@@ -9,7 +9,7 @@ use Prim.Native.Nat.{ℕ, zero, suc, _+_, _-_}
 use lib.Dec.{leb}
 use lib.ListN.{length, take, drop}
 use Rattle.grammar.specs.Tables.{Place, publishPlace, subscribePlace, ackPlace, unsubscribePlace, reasonsOf}
-use Rattle.grammar.specs.Record.{Val, num, str, duo, PropOf, allOf, PublishProps, SubscribeProps, AckProps, UnsubscribeProps, Publish, Filter, Subscribe, Ack, Reply, Unsubscribe, PacketOf, publish, ack, subscribe, reply, unsubscribe, ping}
+use Rattle.grammar.specs.Record.{Val, num, str, duo, PropOf, allOf, PublishProps, Props, Publish, Filter, Subscribe, Ack, Reply, Unsubscribe, PacketOf, publish, ack, subscribe, reply, unsubscribe, ping}
 use Rattle.grammar.specs.Sentence.{Value, Prop, Packet}
 use Rattle.reading.specs.Refusal.{Refusal, nr, Answer, accepted, refused}
 use Rattle.reading.specs.Reader.{Fit, got, bad, Filler, _>>=_, _>>_, guard}
@@ -157,22 +157,10 @@ module _ (s : List ℕ) where
     })
 
   -- a list that cannot be read at its place refuses
-  abbrev pub saySubscribeProps : SubscribeProps Span (λ A. Span) → Fit (SubscribeProps (List ℕ) List)
-  saySubscribeProps ps = do
-    user ← valuesAt asBytes s (ps .user) subscribePlace 38
-    got (record { ident = onSome sayVal (ps .ident); user = user })
-
-  -- a list that cannot be read at its place refuses
-  abbrev pub sayAckProps : AckProps Span (λ A. Span) → Fit (AckProps (List ℕ) List)
-  sayAckProps ps = do
-    user ← valuesAt asBytes s (ps .user) ackPlace 38
-    got (record { reason = onSome sayVal (ps .reason); user = user })
-
-  -- a list that cannot be read at its place refuses
-  abbrev pub sayUnsubscribeProps : UnsubscribeProps Span (λ A. Span) → Fit (UnsubscribeProps (List ℕ) List)
-  sayUnsubscribeProps ps = do
-    user ← valuesAt asBytes s (ps .user) unsubscribePlace 38
-    got (record { user = user })
+  abbrev pub sayProps : Place → Props Span (λ A. Span) → Fit (Props (List ℕ) List)
+  sayProps place ps = do
+    user ← valuesAt asBytes s (ps .user) place 38
+    got (record { reason = onSome sayVal (ps .reason); ident = onSome sayVal (ps .ident); user = user })
 
   -- a packet
   abbrev pub say : Placed → Fit Packet
@@ -188,18 +176,18 @@ module _ (s : List ℕ) where
       payload = heldOf s (m .payload);
     }))
   say (ack k m) = do
-    props ← ifSome sayAckProps (m .props)
+    props ← ifSome (sayProps ackPlace) (m .props)
     got (ack k (record { ident = m .ident; reason = m .reason; props = props }))
   say (subscribe m) = do
-    props ← ifSome saySubscribeProps (m .props)
+    props ← ifSome (sayProps subscribePlace) (m .props)
     filters ← again (filtersFit asBytes) s (m .filters)
     got (subscribe (record { ident = m .ident; props = props; filters = filters }))
   say (reply k m) = do
-    props ← ifSome sayAckProps (m .props)
+    props ← ifSome (sayProps ackPlace) (m .props)
     reasons ← again (reasonsFit (reasonsOf k)) s (m .reasons)
     got (reply k (record { ident = m .ident; props = props; reasons = reasons }))
   say (unsubscribe m) = do
-    props ← ifSome sayUnsubscribeProps (m .props)
+    props ← ifSome (sayProps unsubscribePlace) (m .props)
     topics ← again (topicsFit asBytes) s (m .topics)
     got (unsubscribe (record { ident = m .ident; props = props; topics = topics }))
   say (ping k) = got (ping k)
@@ -225,26 +213,18 @@ module _ (s : List ℕ) where
   abbrev pub PublishItems : PublishProps Span (λ A. Span) → PublishProps (List ℕ) List → Type 0
   PublishItems ps qs = Lists (userAt asPlaces s (ps .user) publishPlace) (sayVal s) (qs .user) × Lists (subscriptionAt asPlaces s (ps .subscriptions)) (sayVal s) (qs .subscriptions)
 
-  -- the list of a Subscribe block
-  abbrev pub SubscribeItems : SubscribeProps Span (λ A. Span) → SubscribeProps (List ℕ) List → Type 0
-  SubscribeItems ps qs = Lists (userAt asPlaces s (ps .user) subscribePlace) (sayVal s) (qs .user)
-
-  -- the list of an acknowledgement's block
-  abbrev pub AckItems : AckProps Span (λ A. Span) → AckProps (List ℕ) List → Type 0
-  AckItems ps qs = Lists (userAt asPlaces s (ps .user) ackPlace) (sayVal s) (qs .user)
-
-  -- the list of an Unsubscribe block
-  abbrev pub UnsubscribeItems : UnsubscribeProps Span (λ A. Span) → UnsubscribeProps (List ℕ) List → Type 0
-  UnsubscribeItems ps qs = Lists (userAt asPlaces s (ps .user) unsubscribePlace) (sayVal s) (qs .user)
+  -- the list of a block at any other place
+  abbrev pub PropsItems : Place → Props Span (λ A. Span) → Props (List ℕ) List → Type 0
+  PropsItems place ps qs = Lists (userAt asPlaces s (ps .user) place) (sayVal s) (qs .user)
 
   -- every list of a packet
   pub data Items : Placed → Packet → Type 0 where
     ofPublish : {m : Publish Span (λ A. Span)} {w : Publish (List ℕ) List} → OnBoth PublishItems (m .props) (w .props) → Items (publish m) (publish w)
-    ofAck : {k : ℕ} {m : Ack Span (λ A. Span)} {w : Ack (List ℕ) List} → OnBoth AckItems (m .props) (w .props) → Items (ack k m) (ack k w)
-    ofSubscribe : {m : Subscribe Span (λ A. Span)} {w : Subscribe (List ℕ) List} → OnBoth SubscribeItems (m .props) (w .props) → Lists (filterAt asPlaces s (m .filters)) (sayFilter s) (w .filters)
+    ofAck : {k : ℕ} {m : Ack Span (λ A. Span)} {w : Ack (List ℕ) List} → OnBoth (PropsItems ackPlace) (m .props) (w .props) → Items (ack k m) (ack k w)
+    ofSubscribe : {m : Subscribe Span (λ A. Span)} {w : Subscribe (List ℕ) List} → OnBoth (PropsItems subscribePlace) (m .props) (w .props) → Lists (filterAt asPlaces s (m .filters)) (sayFilter s) (w .filters)
         → Items (subscribe m) (subscribe w)
-    ofReply : {k : ℕ} {m : Reply Span (λ A. Span)} {w : Reply (List ℕ) List} → OnBoth AckItems (m .props) (w .props) → Lists (reasonAt s (m .reasons) (reasonsOf k)) (λ c. c) (w .reasons)
+    ofReply : {k : ℕ} {m : Reply Span (λ A. Span)} {w : Reply (List ℕ) List} → OnBoth (PropsItems ackPlace) (m .props) (w .props) → Lists (reasonAt s (m .reasons) (reasonsOf k)) (λ c. c) (w .reasons)
         → Items (reply k m) (reply k w)
-    ofUnsubscribe : {m : Unsubscribe Span (λ A. Span)} {w : Unsubscribe (List ℕ) List} → OnBoth UnsubscribeItems (m .props) (w .props) → Lists (topicAt asPlaces s (m .topics)) (heldOf s) (w .topics)
+    ofUnsubscribe : {m : Unsubscribe Span (λ A. Span)} {w : Unsubscribe (List ℕ) List} → OnBoth (PropsItems unsubscribePlace) (m .props) (w .props) → Lists (topicAt asPlaces s (m .topics)) (heldOf s) (w .topics)
         → Items (unsubscribe m) (unsubscribe w)
     ofPing : {k : ℕ} → Items (ping k) (ping k)

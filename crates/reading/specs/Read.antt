@@ -10,7 +10,7 @@ use Rattle.grammar.specs.Choice.{isIn, lookup, isEmpty}
 use Rattle.grammar.specs.Number.{bigFrom}
 use Rattle.grammar.specs.Text.{Range, inRange, rows, rowAt, cons}
 use Rattle.grammar.specs.Tables.{Form, u8, u16, u32, number, text, bytes, pair, Place, publishPlace, subscribePlace, ackPlace, unsubscribePlace, Layout, aPublish, anAck, aSubscribe, aReply, anUnsubscribe, aPing, kinds, reserved, isPing}
-use Rattle.grammar.specs.Record.{Val, num, str, PropOf, unlessEmpty, PublishProps, publishProps, SubscribeProps, subscribeProps, AckProps, ackProps, UnsubscribeProps, unsubscribeProps, Filter, PacketOf, kindOf, flagQos, mkPublish, mkAck, mkFilter, mkSubscribe, mkReply, mkUnsubscribe, mkPing}
+use Rattle.grammar.specs.Record.{Val, num, str, PropOf, unlessEmpty, PublishProps, publishProps, Props, propsOf, Filter, PacketOf, kindOf, flagQos, mkPublish, mkAck, mkFilter, mkSubscribe, mkReply, mkUnsubscribe, mkPing}
 use Rattle.grammar.specs.Sentence.{duoOf, notThree, notZero, qosFine, ruleFine, someOf, Packet}
 use Rattle.reading.specs.Refusal.{Refusal, nr, Answer, accepted, refusedAs, cut, crossed, lacking, within, over}
 use Rattle.reading.specs.Reader.{Fit, got, bad, Reader, Filler, _>>=_, _>>_, guard, noneOf, neverOf, mapOf, onlyOf, thenOf, sizedOf, isFit, mapFit, handFit, onlyFit, thenFit, exactFit, manyFit, isGot}
@@ -156,27 +156,19 @@ module _ (h : Shape) where
   abbrev pub publishAs : List (PropOf (h .Str)) → List ℕ → ℕ → Option (PublishProps (h .Str) (h .Run))
   publishAs ps b end = unlessEmpty (publishProps (h .Str) (h .Run) (λ vs. h .run (Val (h .Str)) vs b end)) ps
 
-  -- 01: "L = 0 means absent"; Subscribe
-  abbrev pub subscribeAs : List (PropOf (h .Str)) → List ℕ → ℕ → Option (SubscribeProps (h .Str) (h .Run))
-  subscribeAs ps b end = unlessEmpty (subscribeProps (h .Str) (h .Run) (λ vs. h .run (Val (h .Str)) vs b end)) ps
-
-  -- 01: "L = 0 means absent"; PubAck
-  abbrev pub ackAs : List (PropOf (h .Str)) → List ℕ → ℕ → Option (AckProps (h .Str) (h .Run))
-  ackAs ps b end = unlessEmpty (ackProps (h .Str) (h .Run) (λ vs. h .run (Val (h .Str)) vs b end)) ps
-
-  -- 02, P1: "L = 0 means absent"; Unsubscribe
-  abbrev pub unsubscribeAs : List (PropOf (h .Str)) → List ℕ → ℕ → Option (UnsubscribeProps (h .Str) (h .Run))
-  unsubscribeAs ps b end = unlessEmpty (unsubscribeProps (h .Str) (h .Run) (λ vs. h .run (Val (h .Str)) vs b end)) ps
+  -- 01: "L = 0 means absent"; any other place
+  abbrev pub propsAs : List (PropOf (h .Str)) → List ℕ → ℕ → Option (Props (h .Str) (h .Run))
+  propsAs ps b end = unlessEmpty (propsOf (h .Str) (h .Run) (λ vs. h .run (Val (h .Str)) vs b end)) ps
 
   -- ---- bodies
 
   -- 01, grammar, PubAck: "at R = 3 a reason and no block; from R = 4 a reason and a block that ends the frame"; row 7: "bytes after a PubAck's block"
-  unfoldable pub ackBlockFit : ℕ → Filler (Option (AckProps (h .Str) (h .Run)))
+  unfoldable pub ackBlockFit : ℕ → Filler (Option (Props (h .Str) (h .Run)))
   ackBlockFit end [] = got none
-  ackBlockFit end (x ∷ r) = exactFit (blockOf ackPlace ackAs end) cut (x ∷ r)
+  ackBlockFit end (x ∷ r) = exactFit (blockOf ackPlace propsAs end) cut (x ∷ r)
 
   -- 01, grammar, PubAck: "at R = 2 success and no block"; row 15: "not one of the nine", tested before the block
-  unfoldable pub ackRestFit : List ℕ → ℕ → Filler (ℕ × Option (AckProps (h .Str) (h .Run)))
+  unfoldable pub ackRestFit : List ℕ → ℕ → Filler (ℕ × Option (Props (h .Str) (h .Run)))
   ackRestFit rs end [] = got (0, none)
   ackRestFit rs end (c ∷ r) = do
     guard (isIn c rs) (nr 15 (c ∷ []))
@@ -207,11 +199,11 @@ module _ (h : Shape) where
     messageFit x end b
   fieldsFit (anAck rs) x end b = mapFit (mkAck x) (thenFit (bigOf cut 2) (λ _. ackRestFit rs end)) b
   fieldsFit aSubscribe x end b =
-      mapFit mkSubscribe (thenFit (bigOf cut 2) (λ _. thenFit (blockOf subscribePlace subscribeAs end) (λ _. handFit (λ vs. h .run (Filter (h .Str)) vs) filtersFit end))) b
+      mapFit mkSubscribe (thenFit (bigOf cut 2) (λ _. thenFit (blockOf subscribePlace propsAs end) (λ _. handFit (λ vs. h .run (Filter (h .Str)) vs) filtersFit end))) b
   fieldsFit (aReply rs) x end b =
-      mapFit (mkReply x) (thenFit (bigOf cut 2) (λ _. thenFit (blockOf ackPlace ackAs end) (λ _. handFit (λ vs. h .run ℕ vs) (reasonsFit rs) end))) b
+      mapFit (mkReply x) (thenFit (bigOf cut 2) (λ _. thenFit (blockOf ackPlace propsAs end) (λ _. handFit (λ vs. h .run ℕ vs) (reasonsFit rs) end))) b
   fieldsFit anUnsubscribe x end b =
-      mapFit mkUnsubscribe (thenFit (bigOf cut 2) (λ _. thenFit (blockOf unsubscribePlace unsubscribeAs end) (λ _. handFit (λ vs. h .run (h .Str) vs) topicsFit end))) b
+      mapFit mkUnsubscribe (thenFit (bigOf cut 2) (λ _. thenFit (blockOf unsubscribePlace propsAs end) (λ _. handFit (λ vs. h .run (h .Str) vs) topicsFit end))) b
   fieldsFit aPing x end b = mapFit (mkPing x) (isFit anyBytes cut) b
 
   -- 01, row 6, as 02's P1 leaves it: "kind 1, 2, .. 14"

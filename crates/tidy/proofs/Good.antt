@@ -8,7 +8,7 @@ use native.Mathlib.Omega.{arith}
 use lib.ListN.{length, length-append, length-map}
 use Rattle.grammar.specs.Choice.{isEmpty}
 use Rattle.grammar.specs.Tables.{Form, u8, u16, u32, number, text, bytes, pair, publishPlace, subscribePlace, ackPlace, unsubscribePlace, reasonsOf}
-use Rattle.grammar.specs.Record.{num, str, lastOf, allOf, PublishProps, publishProps, SubscribeProps, subscribeProps, AckProps, ackProps, UnsubscribeProps, unsubscribeProps, Publish, Filter, Subscribe, Ack, Reply, Unsubscribe, mkFilter}
+use Rattle.grammar.specs.Record.{num, str, lastOf, allOf, PublishProps, publishProps, Props, propsOf, Publish, Filter, Subscribe, Ack, Reply, Unsubscribe, mkFilter}
 use Rattle.grammar.specs.Sentence.{Value, Prop, asList, qosFine, ruleFine, someOf, Packet}
 use Rattle.grammar.specs.Record as g
 use Rattle.grammar.specs.Octets.{Each, nil, _&_, Octets}
@@ -20,10 +20,10 @@ use Rattle.writing.specs.Refuse.{Writable, Small, Countable, Unnamed, Unasked, 
 use Rattle.writing.specs.Meant.{publishSet, subscribeSet, ackSet, unsubscribeSet, thePublish, theAck, theReply, meant, Below, Typed, Plain}
 use Rattle.writing.proofs.Each.{each-append, rows-of}
 use Rattle.writing.proofs.Values.{Suits, an-u8, an-u16, an-u32, a-number, a-text, a-bytes, low-qos, low-rule, low-filter}
-use Rattle.tidy.specs.Tidy.{optionsByte, lentIn, stringsIn, runOf, publishFrom, ackFrom, subscribeFrom, replyFrom, unsubscribeFrom, noPublish, noAck, noSubscribe, noUnsubscribe, withSet, handedOf}
+use Rattle.tidy.specs.Tidy.{optionsByte, lentIn, stringsIn, runOf, publishFrom, ackFrom, subscribeFrom, replyFrom, unsubscribeFrom, noPublish, noProps, withSet, handedOf}
 use Rattle.tidy.proofs.Has.{SuitsIn}
 use Rattle.tidy.proofs.Said.{PublishSaid, AckSaid, FilterSaid, filterSize, SubscribeSaid, ReasonSaid, ReplySaid, TopicSaid, UnsubscribeSaid, Said}
-use Rattle.tidy.proofs.Rows.{Perhaps, last-suits, all-suits, num-back, str-back, numbers-back, run-back, run-octets, run-adds, users-octets, users-back, RowGiven, row-one, row-lent, row-pairs, row-several}
+use Rattle.tidy.proofs.Rows.{Perhaps, last-absent, last-suits, all-suits, num-back, str-back, numbers-back, run-back, run-octets, run-adds, users-octets, users-back, RowGiven, row-one, row-lent, row-pairs, row-several}
 use Rattle.tidy.proofs.Blocks.{Distinct, rows-belong, rows-sound, rows-light, rows-filled, with-list, set-list}
 
 -- ---- values of a form
@@ -191,27 +191,31 @@ module _ (ps : List Prop) (ss : Each (SuitsIn ackPlace) ps) where
       & (row-pairs 38 ps ack-user
       & nil))
 
-  ack-set-back : ackSet (textIt ps) (userIt ps) ≡ ackProps (List ℕ) List asList ps
-  unfolding ackProps
-  ack-set-back = rw (str-back text-str ack-text .2, users-back ack-user)
+  ack-no-ident : lastOf 11 ps ≡ none
+  unfolding ackPlace
+  ack-no-ident = last-absent ackPlace 11 refl ss
+
+  ack-set-back : ackSet (textIt ps) (userIt ps) ≡ propsOf (List ℕ) List asList ps
+  unfolding propsOf
+  ack-set-back = rw (str-back text-str ack-text .2, ack-no-ident, users-back ack-user)
 
 abbrev ackIt : Ack (List ℕ) List → List Prop → AckHanded
-ackIt p ps = ackFrom p (not (isEmpty ps)) (ackProps (List ℕ) List asList ps)
+ackIt p ps = ackFrom p (not (isEmpty ps)) (propsOf (List ℕ) List asList ps)
 
 ack-distinct : Distinct ackPlace
 unfolding ackPlace
 ack-distinct = (refl, (refl, tt))
 
-ack-none : ackProps (List ℕ) List asList [] ≡ noAck
-unfolding ackProps lastOf allOf
-ack-none = refl
+props-none : propsOf (List ℕ) List asList [] ≡ noProps
+unfolding propsOf lastOf allOf
+props-none = refl
 
 plain-small : (t : Bool) (n : ℕ) → 3 + n ≤ most → cond t 2 (3 + n) ≤ most
 plain-small true n h = omega arith
 plain-small false n h = h
 
 ack-good : (k : ℕ) (p : Ack (List ℕ) List) (w : AckSaid k p) → Good (g.ack k p) (ack k (ackIt p (w .props .list)))
-unfolding restIs fieldsOf meant ackProps
+unfolding restIs fieldsOf meant propsOf
 ack-good k p w =
     let ps : List Prop = w .props .list in
     let h : AckHanded = ackIt p ps in
@@ -231,13 +235,13 @@ ack-good k p w =
         user = users-octets (ack-user ps (w .props .suits));
       };
       plain = rows-filled (ackGiven (h .text) (h .user)) ps rows (w .props .suits);
-      means = ap (λ (o : Option (AckProps (List ℕ) List)). theAck k h o) (set-list (ackProps (List ℕ) List asList) ps (ackSet (h .text) (h .user)) (ack-set-back ps (w .props .suits)) ∙ sym (w .props .is));
+      means = ap (λ (o : Option (Props (List ℕ) List)). theAck k h o) (set-list (propsOf (List ℕ) List asList) ps (ackSet (h .text) (h .user)) (ack-set-back ps (w .props .suits)) ∙ sym (w .props .is));
     }
 
 -- ---- replies
 
 abbrev replyIt : Reply (List ℕ) List → List Prop → ReplyHanded
-replyIt p ps = replyFrom p (not (isEmpty ps)) (ackProps (List ℕ) List asList ps)
+replyIt p ps = replyFrom p (not (isEmpty ps)) (propsOf (List ℕ) List asList ps)
 
 reasons-sound : (rs : List ℕ) {cs : List ℕ} → Each (ReasonSaid rs) cs → Each Writable (map (code rs) cs)
 reasons-sound rs nil = nil
@@ -256,7 +260,7 @@ some-there [] t e = false≢true t
 some-there (a ∷ l) t e = let z : _≡_ {A = ℕ} 0 1 = cc in omega arith
 
 reply-good : (k : ℕ) (p : Reply (List ℕ) List) (w : ReplySaid k p) → Good (g.reply k p) (reply k (replyIt p (w .props .list)))
-unfolding restIs fieldsOf meant ackProps
+unfolding restIs fieldsOf meant propsOf
 reply-good k p w =
     let ps : List Prop = w .props .list in
     let h : ReplyHanded = replyIt p ps in
@@ -276,7 +280,7 @@ reply-good k p w =
         reasons = reasons-octets (reasonsOf k) (w .reasons);
       };
       plain = rows-filled (ackGiven (h .text) (h .user)) ps rows (w .props .suits);
-      means = ap (λ (o : Option (AckProps (List ℕ) List)). theReply k h o) (set-list (ackProps (List ℕ) List asList) ps (ackSet (h .text) (h .user)) (ack-set-back ps (w .props .suits)) ∙ sym (w .props .is));
+      means = ap (λ (o : Option (Props (List ℕ) List)). theReply k h o) (set-list (propsOf (List ℕ) List asList) ps (ackSet (h .text) (h .user)) (ack-set-back ps (w .props .suits)) ∙ sym (w .props .is));
     }
 
 -- ---- Unsubscribe
@@ -290,20 +294,19 @@ module _ (ps : List Prop) (ss : Each (SuitsIn unsubscribePlace) ps) where
   unfolding unsubscribePlace unsubscribeGiven
   unsubscribe-rows = rows-of (λ r. RowGiven (r .0) (r .1) ps (unsubscribeGiven (userIt ps) (r .0))) unsubscribePlace (row-pairs 38 ps unsubscribe-user & nil)
 
-  unsubscribe-set-back : unsubscribeSet (userIt ps) ≡ unsubscribeProps (List ℕ) List asList ps
-  unfolding unsubscribeProps
-  unsubscribe-set-back = rw (users-back unsubscribe-user)
+  unsubscribe-nothing : (lastOf 31 ps ≡ none) × (lastOf 11 ps ≡ none)
+  unfolding unsubscribePlace
+  unsubscribe-nothing = (last-absent unsubscribePlace 31 refl ss, last-absent unsubscribePlace 11 refl ss)
+
+  unsubscribe-set-back : unsubscribeSet (userIt ps) ≡ propsOf (List ℕ) List asList ps
+  unfolding propsOf
+  unsubscribe-set-back = rw (unsubscribe-nothing .0, unsubscribe-nothing .1, users-back unsubscribe-user)
 
 unsubscribe-distinct : Distinct unsubscribePlace
 unfolding unsubscribePlace
 unsubscribe-distinct = (refl, tt)
-
-unsubscribe-none : unsubscribeProps (List ℕ) List asList [] ≡ noUnsubscribe
-unfolding unsubscribeProps allOf
-unsubscribe-none = refl
-
 abbrev unsubscribeIt : Unsubscribe (List ℕ) List → List Prop → UnsubscribeHanded
-unsubscribeIt p ps = unsubscribeFrom p (not (isEmpty ps)) (unsubscribeProps (List ℕ) List asList ps)
+unsubscribeIt p ps = unsubscribeFrom p (not (isEmpty ps)) (propsOf (List ℕ) List asList ps)
 
 -- the topics that are handed over
 record TopicsBack (ts : List (List ℕ)) : Type 0 where
@@ -323,7 +326,7 @@ topics-back (_&_ {a = t} {l = ts} w ws) =
     }
 
 unsubscribe-good : (p : Unsubscribe (List ℕ) List) (w : UnsubscribeSaid p) → Good (g.unsubscribe p) (unsubscribe (unsubscribeIt p (w .props .list)))
-unfolding restIs fieldsOf meant unsubscribeProps
+unfolding restIs fieldsOf meant propsOf
 unsubscribe-good p w =
     let ps : List Prop = w .props .list in
     let h : UnsubscribeHanded = unsubscribeIt p ps in
@@ -341,14 +344,14 @@ unsubscribe-good p w =
       plain = rows-filled (unsubscribeGiven (h .user)) ps rows (w .props .suits);
       means =
           ap (λ (ts : List (List ℕ)). g.unsubscribe (record { ident = p .ident; props = cond (not (isEmpty ps)) (some (unsubscribeSet (h .user))) none; topics = ts })) e
-          ∙ ap (λ (o : Option (UnsubscribeProps (List ℕ) List)). g.unsubscribe (record { ident = p .ident; props = o; topics = p .topics })) (set-list (unsubscribeProps (List ℕ) List asList) ps (unsubscribeSet (h .user)) (unsubscribe-set-back ps (w .props .suits)) ∙ sym (w .props .is));
+          ∙ ap (λ (o : Option (Props (List ℕ) List)). g.unsubscribe (record { ident = p .ident; props = o; topics = p .topics })) (set-list (propsOf (List ℕ) List asList) ps (unsubscribeSet (h .user)) (unsubscribe-set-back ps (w .props .suits)) ∙ sym (w .props .is));
     }
 
 -- ---- Subscribe
 
 module _ (p : Subscribe (List ℕ) List) (ps : List Prop) (ss : Each (SuitsIn subscribePlace) ps) where
   abbrev subscribeIt : SubscribeHanded
-  subscribeIt = subscribeFrom p (not (isEmpty ps)) (subscribeProps (List ℕ) List asList ps)
+  subscribeIt = subscribeFrom p (not (isEmpty ps)) (propsOf (List ℕ) List asList ps)
 
   subscribe-ident : Perhaps (Suits number) (lastOf 11 ps)
   unfolding subscribePlace
@@ -359,24 +362,23 @@ module _ (p : Subscribe (List ℕ) List) (ps : List Prop) (ss : Each (SuitsIn su
   subscribe-user = all-suits subscribePlace 38 pair refl ss
 
   subscribe-rows : Each (λ r. RowGiven (r .0) (r .1) ps (subscribeGiven subscribeIt (r .0))) subscribePlace
-  unfolding subscribePlace subscribeGiven subscribeProps
+  unfolding subscribePlace subscribeGiven propsOf
   subscribe-rows = rows-of (λ r. RowGiven (r .0) (r .1) ps (subscribeGiven subscribeIt (r .0))) subscribePlace
       (row-one 11 number ps (num-back Small number-num subscribe-ident .1)
       & (row-pairs 38 ps subscribe-user
       & nil))
 
-  subscribe-set-back : subscribeSet subscribeIt ≡ subscribeProps (List ℕ) List asList ps
-  unfolding subscribeProps
-  subscribe-set-back = rw (num-back Small number-num subscribe-ident .1, users-back subscribe-user)
+  subscribe-no-reason : lastOf 31 ps ≡ none
+  unfolding subscribePlace
+  subscribe-no-reason = last-absent subscribePlace 31 refl ss
+
+  subscribe-set-back : subscribeSet subscribeIt ≡ propsOf (List ℕ) List asList ps
+  unfolding propsOf
+  subscribe-set-back = rw (subscribe-no-reason, num-back Small number-num subscribe-ident .1, users-back subscribe-user)
 
 subscribe-distinct : Distinct subscribePlace
 unfolding subscribePlace
 subscribe-distinct = (refl, (refl, tt))
-
-subscribe-none : subscribeProps (List ℕ) List asList [] ≡ noSubscribe
-unfolding subscribeProps lastOf allOf
-subscribe-none = refl
-
 -- the options that a filter is handed over with are those that were read, with the two high bits 0
 bits-3 : (o : ℕ) → o % 4 + 4 * (o / 4 % 2) ≡ o % 8
 bits-3 o = omega arith
@@ -429,7 +431,7 @@ some-filters [] t e = false≢true t
 some-filters (f ∷ fs) t e = let z : _≡_ {A = ℕ} 0 1 = cc in omega arith
 
 subscribe-good : (p : Subscribe (List ℕ) List) (w : SubscribeSaid p) → Good (g.subscribe p) (subscribe (subscribeIt p (w .props .list) (w .props .suits)))
-unfolding restIs fieldsOf meant subscribeProps filters
+unfolding restIs fieldsOf meant propsOf filters
 subscribe-good p w =
     let ps : List Prop = w .props .list in
     let h : SubscribeHanded = subscribeIt p ps (w .props .suits) in
@@ -448,7 +450,7 @@ subscribe-good p w =
       plain = rows-filled (subscribeGiven h) ps rows (w .props .suits);
       means =
           ap (λ (fs : List (Filter (List ℕ))). g.subscribe (record { ident = p .ident; props = cond (not (isEmpty ps)) (some (subscribeSet h)) none; filters = fs })) (ap (map mkFilter) e ∙ b .back)
-          ∙ ap (λ (o : Option (SubscribeProps (List ℕ) List)). g.subscribe (record { ident = p .ident; props = o; filters = p .filters })) (set-list (subscribeProps (List ℕ) List asList) ps (subscribeSet h) (subscribe-set-back p ps (w .props .suits)) ∙ sym (w .props .is));
+          ∙ ap (λ (o : Option (Props (List ℕ) List)). g.subscribe (record { ident = p .ident; props = o; filters = p .filters })) (set-list (propsOf (List ℕ) List asList) ps (subscribeSet h) (subscribe-set-back p ps (w .props .suits)) ∙ sym (w .props .is));
     }
 
 -- ---- every packet that a sentence says
@@ -470,18 +472,18 @@ good (g.publish p) w =
     (publish-good p w)
 good (g.ack k p) w =
     subst (λ (h : AckHanded). Good (g.ack k p) (ack k h))
-    (sym (ap (withSet (ackFrom p) noAck) (w .props .is) ∙ with-list (ackProps (List ℕ) List asList) (ackFrom p) noAck ack-none (w .props .list)))
+    (sym (ap (withSet (ackFrom p) noProps) (w .props .is) ∙ with-list (propsOf (List ℕ) List asList) (ackFrom p) noProps props-none (w .props .list)))
     (ack-good k p w)
 good (g.subscribe p) w =
     subst (λ (h : SubscribeHanded). Good (g.subscribe p) (subscribe h))
-    (sym (ap (withSet (subscribeFrom p) noSubscribe) (w .props .is) ∙ with-list (subscribeProps (List ℕ) List asList) (subscribeFrom p) noSubscribe subscribe-none (w .props .list)))
+    (sym (ap (withSet (subscribeFrom p) noProps) (w .props .is) ∙ with-list (propsOf (List ℕ) List asList) (subscribeFrom p) noProps props-none (w .props .list)))
     (subscribe-good p w)
 good (g.reply k p) w =
     subst (λ (h : ReplyHanded). Good (g.reply k p) (reply k h))
-    (sym (ap (withSet (replyFrom p) noAck) (w .props .is) ∙ with-list (ackProps (List ℕ) List asList) (replyFrom p) noAck ack-none (w .props .list)))
+    (sym (ap (withSet (replyFrom p) noProps) (w .props .is) ∙ with-list (propsOf (List ℕ) List asList) (replyFrom p) noProps props-none (w .props .list)))
     (reply-good k p w)
 good (g.unsubscribe p) w =
     subst (λ (h : UnsubscribeHanded). Good (g.unsubscribe p) (unsubscribe h))
-    (sym (ap (withSet (unsubscribeFrom p) noUnsubscribe) (w .props .is) ∙ with-list (unsubscribeProps (List ℕ) List asList) (unsubscribeFrom p) noUnsubscribe unsubscribe-none (w .props .list)))
+    (sym (ap (withSet (unsubscribeFrom p) noProps) (w .props .is) ∙ with-list (propsOf (List ℕ) List asList) (unsubscribeFrom p) noProps props-none (w .props .list)))
     (unsubscribe-good p w)
 good (g.ping k) w = ping-good k w

@@ -62,6 +62,20 @@ module _ (place : Place) (i : ℕ) (f : Form) (e : lookup place i ≡ some f) wh
       go r true q = of-row p s q & r
       go r false q = r
 
+-- what is not in the row does not stand in the block
+pub last-absent : (place : Place) (i : ℕ) → lookup place i ≡ none → {ps : List Prop} → Each (SuitsIn place) ps → lastOf i ps ≡ none
+unfolding lastOf
+last-absent place i e nil = refl
+last-absent place i e (_&_ {a = p} {l = ps} s ss) = go (eqb (p .0) i) refl (last-absent place i e ss)
+  where
+    go : (t : Bool) → eqb (p .0) i ≡ t → lastFrom none i ps ≡ none → lastFrom (cond (eqb (p .0) i) (some (p .1)) none) i ps ≡ none
+    go false q h = rw q h
+    go true q h =
+        let (f, (e′, _)) = s in
+        let j : p .0 ≡ i = eqb-true (p .0) i q in
+        let z : none ≡ some f = sym e ∙ ap (lookup place) (sym j) ∙ e′ in
+        cc
+
 -- ---- values there and back
 
 pub num-back : {f : Form} (P : ℕ → Type 0) → ((v : Value) → Suits f v → (n : ℕ) × (v ≡ num n) × P n) → {o : Option Value} → Perhaps (Suits f) o → Each P (orNone (numIn o)) × (numeralOf (numIn o) ≡ o)

@@ -12,8 +12,8 @@ use Rattle.grammar.specs.Gram.{nothing, mapped, only, both, sized, is}
 use Rattle.grammar.specs.Number.{byte}
 use Rattle.grammar.specs.Text.{Utf8}
 use Rattle.grammar.specs.Tables.{publishPlace, subscribePlace, ackPlace, unsubscribePlace, reasons, releaseReasons, Layout, aPublish, anAck, aSubscribe, aReply, anUnsubscribe, aPing, kinds, listed, reasonsOf}
-use Rattle.grammar.specs.Record.{AckProps, Publish, Filter, Subscribe, Ack, Reply, Unsubscribe, kindOf, flagQos, mkFilter}
-use Rattle.grammar.specs.Sentence.{Any, publishOf, subscribeOf, ackOf, unsubscribeOf, notThree, notZero, Ident, qosFine, ruleFine, FilterOf, someOf, AckRest, plain, coded, full, ReasonOf, Text, Packet, Fields, body, framed, Sentence}
+use Rattle.grammar.specs.Record.{Props, Publish, Filter, Subscribe, Ack, Reply, Unsubscribe, kindOf, flagQos, mkFilter}
+use Rattle.grammar.specs.Sentence.{Any, publishOf, propsIf, notThree, notZero, Ident, qosFine, ruleFine, FilterOf, someOf, AckRest, plain, coded, full, ReasonOf, Text, Packet, Fields, body, framed, Sentence}
 use Rattle.grammar.specs.Record as g
 use Rattle.grammar.specs.Octets.{Each, nil, _&_, Octet, Octets}
 use Rattle.reading.proofs.Lists.{lookup-each}
@@ -48,7 +48,7 @@ pub record AckSaid (k : ℕ) (p : Ack (List ℕ) List) : Type 0 where
   pub octet : p .reason < 256
   pub ident : p .ident < 65536
   pub size : ℕ
-  pub props : FromList ackPlace ackOf (p .props) size
+  pub props : FromList ackPlace propsIf (p .props) size
   pub light : 3 + size ≤ most
 
 -- a filter; `options` is the byte that was read
@@ -69,7 +69,7 @@ filterSize f = 3 + length (f .path)
 pub record SubscribeSaid (p : Subscribe (List ℕ) List) : Type 0 where
   pub ident : p .ident < 65536
   pub size : ℕ
-  pub props : FromList subscribePlace subscribeOf (p .props) size
+  pub props : FromList subscribePlace propsIf (p .props) size
   pub filters : Each FilterSaid (p .filters)
   pub asked : someOf (p .filters) ≡ true
   pub light : 2 + (size + total filterSize (p .filters)) ≤ most
@@ -83,7 +83,7 @@ pub record ReplySaid (k : ℕ) (p : Reply (List ℕ) List) : Type 0 where
   pub kind : lookup kinds k ≡ some (aReply (reasonsOf k))
   pub ident : p .ident < 65536
   pub size : ℕ
-  pub props : FromList ackPlace ackOf (p .props) size
+  pub props : FromList ackPlace propsIf (p .props) size
   pub reasons : Each (ReasonSaid (reasonsOf k)) (p .reasons)
   pub asked : someOf (p .reasons) ≡ true
   pub light : 2 + (size + total (λ c. 1) (p .reasons)) ≤ most
@@ -96,7 +96,7 @@ TopicSaid s = Short s × Utf8 s × Octets s
 pub record UnsubscribeSaid (p : Unsubscribe (List ℕ) List) : Type 0 where
   pub ident : p .ident < 65536
   pub size : ℕ
-  pub props : FromList unsubscribePlace unsubscribeOf (p .props) size
+  pub props : FromList unsubscribePlace propsIf (p .props) size
   pub topics : Each TopicSaid (p .topics)
   pub asked : someOf (p .topics) ≡ true
   pub light : 2 + (size + total (λ s. 2 + length s) (p .topics)) ≤ most
@@ -180,20 +180,20 @@ unfolding kinds reasons releaseReasons
 kinds-zero = lookup-each (λ r. hasZero (r .1) ≡ true) (all-when (λ r. hasZero (r .1)) (λ r. (λ e. e, λ e. e)) kinds .0 refl)
 
 -- reason and block of an acknowledgement, in n bytes
-record RestSaid (rs : List ℕ) (v : ℕ × Option (AckProps (List ℕ) List)) (n : ℕ) : Type 0 where
+record RestSaid (rs : List ℕ) (v : ℕ × Option (Props (List ℕ) List)) (n : ℕ) : Type 0 where
   reason : isIn (v .0) rs ≡ true
   octet : v .0 < 256
   size : ℕ
-  props : FromList ackPlace ackOf (v .1) size
+  props : FromList ackPlace propsIf (v .1) size
   light : 2 + n ≤ most → 3 + size ≤ most
 
-no-props : (n : ℕ) → 1 ≤ n → FromList ackPlace ackOf none n
+no-props : (n : ℕ) → 1 ≤ n → FromList ackPlace propsIf none n
 no-props n h = record { list = []; is = refl; suits = nil; light = omega arith }
 
-rest-said : (rs : List ℕ) → isIn 0 rs ≡ true → (v : ℕ × Option (AckProps (List ℕ) List)) (b : List ℕ) → AckRest rs v b → Octets b → RestSaid rs v (length b)
+rest-said : (rs : List ℕ) → isIn 0 rs ≡ true → (v : ℕ × Option (Props (List ℕ) List)) (b : List ℕ) → AckRest rs v b → Octets b → RestSaid rs v (length b)
 rest-said rs z _ _ plain o = record { reason = z; octet = omega arith; size = 1; props = no-props 1 (omega arith); light = λ _. omega arith }
 rest-said rs z _ _ (coded t) o = record { reason = t; octet = each-head o; size = 1; props = no-props 1 (omega arith); light = λ _. omega arith }
-rest-said rs z _ _ (full {ps = ps} {b = b} t g) o = record { reason = t; octet = each-head o; size = length b; props = has-block ackPlace ackOf ps b g (each-tail o); light = λ l. omega arith }
+rest-said rs z _ _ (full {ps = ps} {b = b} t g) o = record { reason = t; octet = each-head o; size = length b; props = has-block ackPlace propsIf ps b g (each-tail o); light = λ l. omega arith }
 
 ack-said : (rs : List ℕ) (x : ℕ) → lookup kinds (kindOf x) ≡ some (anAck rs) → (v : Packet) (b : List ℕ) → Fields (anAck rs) x v b → Octets b → length b ≤ most → Said v
 ack-said rs x e _ _ (mapped (both {a = i} {c = v} {b = c} {d = d} g w)) o l =
@@ -217,7 +217,7 @@ subscribe-said x _ _ (mapped (both {a = i} {b = b₁} {d = d₁} g₁ (both {a =
     record {
       ident = omega arith;
       size = length b₂;
-      props = has-block subscribePlace subscribeOf a b₂ g₂ (each-left b₂ d₂ q₁);
+      props = has-block subscribePlace propsIf a b₂ g₂ (each-left b₂ d₂ q₁);
       filters = ws;
       asked = t;
       light = omega (arith, length-append b₁ d₁, length-append b₂ d₂);
@@ -238,7 +238,7 @@ reply-said rs x e _ _ (mapped (both {a = i} {b = b₁} {d = d₁} g₁ (both {a 
       kind = rw q e;
       ident = omega arith;
       size = length b₂;
-      props = has-block ackPlace ackOf a b₂ g₂ (each-left b₂ d₂ q₁);
+      props = has-block ackPlace propsIf a b₂ g₂ (each-left b₂ d₂ q₁);
       reasons = rw q ws;
       asked = t;
       light = omega (arith, length-append b₁ d₁, length-append b₂ d₂);
@@ -255,7 +255,7 @@ unsubscribe-said x _ _ (mapped (both {a = i} {b = b₁} {d = d₁} g₁ (both {a
     record {
       ident = omega arith;
       size = length b₂;
-      props = has-block unsubscribePlace unsubscribeOf a b₂ g₂ (each-left b₂ d₂ q₁);
+      props = has-block unsubscribePlace propsIf a b₂ g₂ (each-left b₂ d₂ q₁);
       topics = ws;
       asked = t;
       light = omega (arith, length-append b₁ d₁, length-append b₂ d₂);

@@ -5,7 +5,7 @@ use mathlib.Core.List.{List, [], _∷_, map}
 use Prim.Native.Nat.{ℕ, _+_, _*_}
 use lib.ListN.{length}
 use Rattle.grammar.specs.Record as g
-use Rattle.grammar.specs.Record.{num, str, duo, PublishProps, SubscribeProps, AckProps, UnsubscribeProps, Filter}
+use Rattle.grammar.specs.Record.{num, str, duo, PublishProps, Props, Filter}
 use Rattle.grammar.specs.Sentence.{Value, Packet}
 use Rattle.reading.specs.Refusal.{nr, Answer, accepted, refused}
 use Rattle.reading.specs.Reader.{Fit, bad}
@@ -76,11 +76,11 @@ publishFrom p b s = record {
 }
 
 -- 01, grammar: "PubAck (4)"
-abbrev pub ackFrom : g.Ack (List ℕ) List → Bool → AckProps (List ℕ) List → AckHanded
+abbrev pub ackFrom : g.Ack (List ℕ) List → Bool → Props (List ℕ) List → AckHanded
 ackFrom p b s = record { ident = p .ident; reason = p .reason; block = b; text = lentIn (s .reason); user = runOf (stringsIn (s .user)) }
 
 -- 01, grammar: "Subscribe (8)"
-abbrev pub subscribeFrom : g.Subscribe (List ℕ) List → Bool → SubscribeProps (List ℕ) List → SubscribeHanded
+abbrev pub subscribeFrom : g.Subscribe (List ℕ) List → Bool → Props (List ℕ) List → SubscribeHanded
 subscribeFrom p b s = record {
   ident = p .ident;
   block = b;
@@ -91,28 +91,20 @@ subscribeFrom p b s = record {
 }
 
 -- 02, P1: SubAck and UnsubAck
-abbrev pub replyFrom : g.Reply (List ℕ) List → Bool → AckProps (List ℕ) List → ReplyHanded
+abbrev pub replyFrom : g.Reply (List ℕ) List → Bool → Props (List ℕ) List → ReplyHanded
 replyFrom p b s = record { ident = p .ident; block = b; text = lentIn (s .reason); user = runOf (stringsIn (s .user)); reasons = p .reasons }
 
 -- 02, P1: Unsubscribe
-abbrev pub unsubscribeFrom : g.Unsubscribe (List ℕ) List → Bool → UnsubscribeProps (List ℕ) List → UnsubscribeHanded
+abbrev pub unsubscribeFrom : g.Unsubscribe (List ℕ) List → Bool → Props (List ℕ) List → UnsubscribeHanded
 unsubscribeFrom p b s = record { ident = p .ident; block = b; user = runOf (stringsIn (s .user)); topics = runOf (p .topics) }
 
 -- a set with nothing in it
 abbrev pub noPublish : PublishProps (List ℕ) List
 noPublish = record { format = none; expiry = none; alias = none; response = none; correlation = none; user = []; subscriptions = []; content = none }
 
--- the same of an acknowledgement
-abbrev pub noAck : AckProps (List ℕ) List
-noAck = record { reason = none; user = [] }
-
--- the same of a Subscribe
-abbrev pub noSubscribe : SubscribeProps (List ℕ) List
-noSubscribe = record { ident = none; user = [] }
-
--- the same of an Unsubscribe
-abbrev pub noUnsubscribe : UnsubscribeProps (List ℕ) List
-noUnsubscribe = record { user = [] }
+-- the same at any other place
+abbrev pub noProps : Props (List ℕ) List
+noProps = record { reason = none; ident = none; user = [] }
 
 -- f of presence and set; e is the set where there is none
 abbrev pub withSet : {A B : Type 0} → (Bool → A → B) → A → Option A → B
@@ -122,10 +114,10 @@ withSet f e (some s) = f true s
 -- what is handed over to have the packet written
 unfoldable pub handedOf : Packet → Handed
 handedOf (g.publish p) = publish (withSet (publishFrom p) noPublish (p .props))
-handedOf (g.ack k p) = ack k (withSet (ackFrom p) noAck (p .props))
-handedOf (g.subscribe p) = subscribe (withSet (subscribeFrom p) noSubscribe (p .props))
-handedOf (g.reply k p) = reply k (withSet (replyFrom p) noAck (p .props))
-handedOf (g.unsubscribe p) = unsubscribe (withSet (unsubscribeFrom p) noUnsubscribe (p .props))
+handedOf (g.ack k p) = ack k (withSet (ackFrom p) noProps (p .props))
+handedOf (g.subscribe p) = subscribe (withSet (subscribeFrom p) noProps (p .props))
+handedOf (g.reply k p) = reply k (withSet (replyFrom p) noProps (p .props))
+handedOf (g.unsubscribe p) = unsubscribe (withSet (unsubscribeFrom p) noProps (p .props))
 handedOf (g.ping k) = ping k
 
 -- ---- the tidy form of the frame that a stream begins with

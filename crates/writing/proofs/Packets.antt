@@ -13,7 +13,7 @@ use Rattle.grammar.specs.Gram.{Only, both, sized, is}
 use Rattle.grammar.specs.Number.{byte, Big}
 use Rattle.grammar.specs.Tables.{publishPlace, subscribePlace, ackPlace, unsubscribePlace, Layout, aPublish, anAck, aSubscribe, aReply, anUnsubscribe, aPing, kinds, reasonsOf}
 use Rattle.grammar.specs.Record.{kindOf, flagQos, mkPublish, mkAck, mkFilter, mkSubscribe, mkReply, mkUnsubscribe, mkPing}
-use Rattle.grammar.specs.Sentence.{Any, Block, publishOf, subscribeOf, ackOf, unsubscribeOf, notThree, notZero, Ident, publishGood, someOf, AckRest, plain, full, Packet, Fields, body, framed, Sentence}
+use Rattle.grammar.specs.Sentence.{Any, Block, publishOf, propsIf, notThree, notZero, Ident, publishGood, someOf, AckRest, plain, full, Packet, Fields, body, framed, Sentence}
 use Rattle.grammar.specs.Octets.{Each, nil, _&_, Octet, Octets}
 use Rattle.reading.proofs.Lists.{T-of, lookup-each}
 use Rattle.writing.specs.Lists.{flat, beside}
@@ -167,14 +167,14 @@ ack-rows t u o o′ (a & (b & nil)) = rows-of (RightRow ackPlace (ackGiven t u))
 
 -- the block of every acknowledgement
 ack-block : (t : Lent) (u : Run) → Octets (t .bytes) → Octets (u .bytes) → Each Writable (propsFields ackPlace (ackGiven t u)) → length (block ackPlace (ackGiven t u)) ≤ most
-    → Says (Block ackPlace ackOf) (ackOf (map propOf (entries ackPlace (ackGiven t u)))) (block ackPlace (ackGiven t u))
+    → Says (Block ackPlace propsIf) (propsIf (map propOf (entries ackPlace (ackGiven t u)))) (block ackPlace (ackGiven t u))
 unfolding propsFields block
-ack-block t u o o′ p l = says-block ackPlace ackOf (ackGiven t u) (ack-rows t u o o′ (each-flat _ ackPlace p)) (block-fits (propsBytes ackPlace (ackGiven t u)) l)
+ack-block t u o o′ p l = says-block ackPlace propsIf (ackGiven t u) (ack-rows t u o o′ (each-flat _ ackPlace p)) (block-fits (propsBytes ackPlace (ackGiven t u)) l)
 
 ack-rest : (k : ℕ) (h : AckHanded) (t : AckTyped k h) → Each (InBlock (h .block) (ackGiven (h .text) (h .user))) ackPlace → isIn (h .reason) (reasonsOf k) ≡ true
     → Each Writable (propsFields ackPlace (ackGiven (h .text) (h .user)))
     → (b : Bool) → isPlain h ≡ b → length (cond b [] (h .reason ∷ block ackPlace (ackGiven (h .text) (h .user)))) ≤ most
-    → Says (AckRest (reasonsOf k)) (h .reason, ackOf (map propOf (entries ackPlace (ackGiven (h .text) (h .user))))) (cond b [] (h .reason ∷ block ackPlace (ackGiven (h .text) (h .user))))
+    → Says (AckRest (reasonsOf k)) (h .reason, propsIf (map propOf (entries ackPlace (ackGiven (h .text) (h .user))))) (cond b [] (h .reason ∷ block ackPlace (ackGiven (h .text) (h .user))))
 ack-rest k h t w c p true e l =
     let (success, absent) = plain-when h .0 e in
     rw (nothing-entries ackPlace (h .block) (ackGiven (h .text) (h .user)) w absent, success) (record { spelled = plain; octets = nil })
@@ -187,7 +187,7 @@ ack-fields : (k : ℕ) (h : AckHanded) (t : AckTyped k h) → First k → Belong
 unfolding fieldsOf bodyBytes said
 ack-fields k h t f w p l =
     let m : length (cond (isPlain h) [] (h .reason ∷ block ackPlace (ackGiven (h .text) (h .user)))) ≤ most = omega (arith, simp length-append at l) in
-    let same : mkAck (firstOf k) (h .ident, (h .reason, ackOf (map propOf (entries ackPlace (ackGiven (h .text) (h .user)))))) ≡ said (ack k h) = rw (f .kind, ack-says (h .text) (h .user)) in
+    let same : mkAck (firstOf k) (h .ident, (h .reason, propsIf (map propOf (entries ackPlace (ackGiven (h .text) (h .user)))))) ≡ said (ack k h) = rw (f .kind, ack-says (h .text) (h .user)) in
     rw (← same) (says-map (mkAck (firstOf k)) (says-then (says-wide 2 (h .ident) (omega (arith, t .ident))) (ack-rest k h t w (each-head p) (each-tail p) (isPlain h) refl m)))
 
 -- ---- replies
@@ -200,7 +200,7 @@ reply-fields k h t f p a l =
     let m : length (block ackPlace (ackGiven (h .text) (h .user))) ≤ most = omega (arith, simp length-append at l) in
     let s₂ = ack-block (h .text) (h .user) (t .text) (t .user) (each-left ps (map (code (reasonsOf k)) (h .reasons)) p) m in
     let s₃ = says-reasons (reasonsOf k) (h .reasons) (t .reasons) (each-right ps (map (code (reasonsOf k)) (h .reasons)) p) in
-    let same : mkReply (firstOf k) (h .ident, (ackOf (map propOf (entries ackPlace (ackGiven (h .text) (h .user)))), h .reasons)) ≡ said (reply k h) = rw (f .kind, ack-says (h .text) (h .user)) in
+    let same : mkReply (firstOf k) (h .ident, (propsIf (map propOf (entries ackPlace (ackGiven (h .text) (h .user)))), h .reasons)) ≡ said (reply k h) = rw (f .kind, ack-says (h .text) (h .user)) in
     rw (← same) (says-map (mkReply (firstOf k)) (says-then (says-wide 2 (h .ident) (omega (arith, t .ident))) (says-then s₂ (says-only someOf a s₃))))
 
 -- ---- Unsubscribe
@@ -216,10 +216,10 @@ unfolding fieldsOf propsFields bodyBytes said block
 unsubscribe-fields h t p a l =
     let ps : List Field = flat (λ r. givenFields (r .1) (unsubscribeGiven (h .user) (r .0))) unsubscribePlace in
     let m : length (counted (propsBytes unsubscribePlace (unsubscribeGiven (h .user)))) ≤ most = omega (arith, simp length-append at l) in
-    let s₂ = says-block unsubscribePlace unsubscribeOf (unsubscribeGiven (h .user)) (unsubscribe-rows (h .user) (t .user) (each-flat _ unsubscribePlace (each-left ps (map word (strings (h .topics))) p)))
+    let s₂ = says-block unsubscribePlace propsIf (unsubscribeGiven (h .user)) (unsubscribe-rows (h .user) (t .user) (each-flat _ unsubscribePlace (each-left ps (map word (strings (h .topics))) p)))
         (block-fits (propsBytes unsubscribePlace (unsubscribeGiven (h .user))) m) in
     let s₃ = says-topics (strings (h .topics)) (each-piece (h .topics .lengths) (t .topics)) (each-right ps (map word (strings (h .topics))) p) in
-    let same : mkUnsubscribe (h .ident, (unsubscribeOf (map propOf (entries unsubscribePlace (unsubscribeGiven (h .user)))), strings (h .topics))) ≡ said (unsubscribe h) = rw (unsubscribe-says (h .user)) in
+    let same : mkUnsubscribe (h .ident, (propsIf (map propOf (entries unsubscribePlace (unsubscribeGiven (h .user)))), strings (h .topics))) ≡ said (unsubscribe h) = rw (unsubscribe-says (h .user)) in
     rw (← same) (says-map mkUnsubscribe (says-then (says-wide 2 (h .ident) (omega (arith, t .ident))) (says-then s₂ (says-only someOf a s₃))))
 
 -- ---- Subscribe
@@ -248,9 +248,9 @@ subscribe-fields h t p q a l =
     let ps : List Field = flat (λ r. givenFields (r .1) (subscribeGiven h (r .0))) subscribePlace in
     let m : length (counted (propsBytes subscribePlace (subscribeGiven h))) ≤ most = omega (arith, simp length-append at l) in
     let s₁ = says-wide 2 (h .ident) (omega (arith, t .ident)) in
-    let s₂ = says-block subscribePlace subscribeOf (subscribeGiven h) (subscribe-rows h t (each-flat _ subscribePlace (each-left ps (map filterField fs) p)) q) (block-fits (propsBytes subscribePlace (subscribeGiven h)) m) in
+    let s₂ = says-block subscribePlace propsIf (subscribeGiven h) (subscribe-rows h t (each-flat _ subscribePlace (each-left ps (map filterField fs) p)) q) (block-fits (propsBytes subscribePlace (subscribeGiven h)) m) in
     let s₃ = says-filters fs (each-beside (h .options) (each-piece (h .filters .lengths) (t .filters))) (each-right ps (map filterField fs) p) in
-    let same : mkSubscribe (h .ident, (subscribeOf (map propOf (entries subscribePlace (subscribeGiven h))), map mkFilter fs)) ≡ said (subscribe h) = rw (subscribe-says h) in
+    let same : mkSubscribe (h .ident, (propsIf (map propOf (entries subscribePlace (subscribeGiven h))), map mkFilter fs)) ≡ said (subscribe h) = rw (subscribe-says h) in
     rw (← same) (says-map mkSubscribe (says-then s₁ (says-then s₂ (says-only someOf (some-mapped fs a) s₃))))
 
 -- ---- all

@@ -7,8 +7,8 @@ use Prim.Native.Nat.{ℕ}
 use lib.Dec.{eqb}
 use Rattle.grammar.specs.Choice.{isEmpty}
 use Rattle.grammar.specs.Tables.{Form, Place, publishPlace, subscribePlace, ackPlace, unsubscribePlace}
-use Rattle.grammar.specs.Record.{str, lastFrom, lastOf, allOf, unlessEmpty, publishProps, subscribeProps, ackProps, unsubscribeProps}
-use Rattle.grammar.specs.Sentence.{Value, Prop, asList, publishOf, subscribeOf, ackOf, unsubscribeOf}
+use Rattle.grammar.specs.Record.{str, lastFrom, lastOf, allOf, unlessEmpty, publishProps, propsOf}
+use Rattle.grammar.specs.Sentence.{Value, Prop, asList, publishOf, propsIf}
 use Rattle.writing.specs.Lists.{flat}
 use Rattle.writing.specs.Handed.{Lent, Run, PublishHanded, SubscribeHanded, one, lent, pairs, several, Givens, publishGiven, subscribeGiven, ackGiven, unsubscribeGiven, items, Entry, propOf, tag, entries}
 use Rattle.writing.specs.Meant.{numeralOf, stringOf, publishSet, subscribeSet, ackSet, unsubscribeSet, nonePublish, noneAck, noneSubscribe, noneUnsubscribe}
@@ -99,20 +99,22 @@ publish-set h = rw (
     every : (i : ℕ) → allOf i (map propOf (entries publishPlace (publishGiven h))) ≡ allRow i publishPlace (publishGiven h)
     every i = all-entries i publishPlace (publishGiven h)
 
-ack-set : (t : Lent) (u : Run) → ackProps (List ℕ) List asList (map propOf (entries ackPlace (ackGiven t u))) ≡ ackSet t u
-unfolding ackProps ackPlace ackGiven
+ack-set : (t : Lent) (u : Run) → propsOf (List ℕ) List asList (map propOf (entries ackPlace (ackGiven t u))) ≡ ackSet t u
+unfolding propsOf ackPlace ackGiven
 ack-set t u = rw (
   last-entries 31 ackPlace (ackGiven t u) ∙ last-lent t,
+  last-entries 11 ackPlace (ackGiven t u),
   all-entries 38 ackPlace (ackGiven t u) ∙ append-nil (items (pairs u)),
 )
 
-unsubscribe-set : (u : Run) → unsubscribeProps (List ℕ) List asList (map propOf (entries unsubscribePlace (unsubscribeGiven u))) ≡ unsubscribeSet u
-unfolding unsubscribeProps unsubscribePlace unsubscribeGiven
-unsubscribe-set u = rw (all-entries 38 unsubscribePlace (unsubscribeGiven u) ∙ append-nil (items (pairs u)))
+unsubscribe-set : (u : Run) → propsOf (List ℕ) List asList (map propOf (entries unsubscribePlace (unsubscribeGiven u))) ≡ unsubscribeSet u
+unfolding propsOf unsubscribePlace unsubscribeGiven
+unsubscribe-set u = rw (last-entries 31 unsubscribePlace (unsubscribeGiven u), last-entries 11 unsubscribePlace (unsubscribeGiven u), all-entries 38 unsubscribePlace (unsubscribeGiven u) ∙ append-nil (items (pairs u)))
 
-subscribe-set : (h : SubscribeHanded) → subscribeProps (List ℕ) List asList (map propOf (entries subscribePlace (subscribeGiven h))) ≡ subscribeSet h
-unfolding subscribeProps subscribePlace subscribeGiven
+subscribe-set : (h : SubscribeHanded) → propsOf (List ℕ) List asList (map propOf (entries subscribePlace (subscribeGiven h))) ≡ subscribeSet h
+unfolding propsOf subscribePlace subscribeGiven
 subscribe-set h = rw (
+  last-entries 31 subscribePlace (subscribeGiven h),
   last-entries 11 subscribePlace (subscribeGiven h) ∙ last-one (h .subscription),
   all-entries 38 subscribePlace (subscribeGiven h) ∙ append-nil (items (pairs (h .user))),
 )
@@ -125,11 +127,11 @@ unless-empty f (x ∷ es) a e = ap some e
 pub publish-says : (h : PublishHanded) → publishOf (map propOf (entries publishPlace (publishGiven h))) ≡ cond (nonePublish h) none (some (publishSet h))
 publish-says h = unless-empty (publishProps (List ℕ) List asList) (entries publishPlace (publishGiven h)) (publishSet h) (publish-set h)
 
-pub ack-says : (t : Lent) (u : Run) → ackOf (map propOf (entries ackPlace (ackGiven t u))) ≡ cond (noneAck t u) none (some (ackSet t u))
-ack-says t u = unless-empty (ackProps (List ℕ) List asList) (entries ackPlace (ackGiven t u)) (ackSet t u) (ack-set t u)
+pub ack-says : (t : Lent) (u : Run) → propsIf (map propOf (entries ackPlace (ackGiven t u))) ≡ cond (noneAck t u) none (some (ackSet t u))
+ack-says t u = unless-empty (propsOf (List ℕ) List asList) (entries ackPlace (ackGiven t u)) (ackSet t u) (ack-set t u)
 
-pub unsubscribe-says : (u : Run) → unsubscribeOf (map propOf (entries unsubscribePlace (unsubscribeGiven u))) ≡ cond (noneUnsubscribe u) none (some (unsubscribeSet u))
-unsubscribe-says u = unless-empty (unsubscribeProps (List ℕ) List asList) (entries unsubscribePlace (unsubscribeGiven u)) (unsubscribeSet u) (unsubscribe-set u)
+pub unsubscribe-says : (u : Run) → propsIf (map propOf (entries unsubscribePlace (unsubscribeGiven u))) ≡ cond (noneUnsubscribe u) none (some (unsubscribeSet u))
+unsubscribe-says u = unless-empty (propsOf (List ℕ) List asList) (entries unsubscribePlace (unsubscribeGiven u)) (unsubscribeSet u) (unsubscribe-set u)
 
-pub subscribe-says : (h : SubscribeHanded) → subscribeOf (map propOf (entries subscribePlace (subscribeGiven h))) ≡ cond (noneSubscribe h) none (some (subscribeSet h))
-subscribe-says h = unless-empty (subscribeProps (List ℕ) List asList) (entries subscribePlace (subscribeGiven h)) (subscribeSet h) (subscribe-set h)
+pub subscribe-says : (h : SubscribeHanded) → propsIf (map propOf (entries subscribePlace (subscribeGiven h))) ≡ cond (noneSubscribe h) none (some (subscribeSet h))
+subscribe-says h = unless-empty (propsOf (List ℕ) List asList) (entries subscribePlace (subscribeGiven h)) (subscribeSet h) (subscribe-set h)

@@ -7,7 +7,7 @@ use Prim.Native.Nat.{ℕ, _<_}
 use lib.Dec.{eqb}
 use Rattle.grammar.specs.Choice.{lookup, isEmpty}
 use Rattle.grammar.specs.Tables.{publishPlace, subscribePlace, ackPlace, unsubscribePlace, anAck, aReply, aPing, kinds, reasonsOf}
-use Rattle.grammar.specs.Record.{num, str, PublishProps, SubscribeProps, AckProps, UnsubscribeProps, mkFilter}
+use Rattle.grammar.specs.Record.{num, str, PublishProps, Props, mkFilter}
 use Rattle.grammar.specs.Sentence.{Value, Packet}
 use Rattle.grammar.specs.Record as g
 use Rattle.grammar.specs.Octets.{Octets}
@@ -38,16 +38,16 @@ publishSet h = record {
 }
 
 -- 01, table of properties, row Subscribe
-abbrev pub subscribeSet : SubscribeHanded → SubscribeProps (List ℕ) List
-subscribeSet h = record { ident = numeralOf (h .subscription); user = duos (strings (h .user)) }
+abbrev pub subscribeSet : SubscribeHanded → Props (List ℕ) List
+subscribeSet h = record { reason = none; ident = numeralOf (h .subscription); user = duos (strings (h .user)) }
 
 -- 01, table of properties, row PubAck
-abbrev pub ackSet : Lent → Run → AckProps (List ℕ) List
-ackSet text user = record { reason = stringOf text; user = duos (strings user) }
+abbrev pub ackSet : Lent → Run → Props (List ℕ) List
+ackSet text user = record { reason = stringOf text; ident = none; user = duos (strings user) }
 
 -- 02, P1: row Unsubscribe
-abbrev pub unsubscribeSet : Run → UnsubscribeProps (List ℕ) List
-unsubscribeSet user = record { user = duos (strings user) }
+abbrev pub unsubscribeSet : Run → Props (List ℕ) List
+unsubscribeSet user = record { reason = none; ident = none; user = duos (strings user) }
 
 -- ---- packets, with an identifier and a set of properties
 
@@ -56,19 +56,19 @@ abbrev pub thePublish : PublishHanded → ℕ → Option (PublishProps (List ℕ
 thePublish h i ps = g.publish (record { dup = h .dup; qos = h .qos; retain = h .retain; topic = h .topic; ident = i; props = ps; payload = h .payload })
 
 -- 01, grammar: "PubAck (4)"; k is the number of the kind
-abbrev pub theAck : ℕ → AckHanded → Option (AckProps (List ℕ) List) → Packet
+abbrev pub theAck : ℕ → AckHanded → Option (Props (List ℕ) List) → Packet
 theAck k h ps = g.ack k (record { ident = h .ident; reason = h .reason; props = ps })
 
 -- 01, grammar: "Subscribe (8)"
-abbrev pub theSubscribe : SubscribeHanded → Option (SubscribeProps (List ℕ) List) → Packet
+abbrev pub theSubscribe : SubscribeHanded → Option (Props (List ℕ) List) → Packet
 theSubscribe h ps = g.subscribe (record { ident = h .ident; props = ps; filters = map mkFilter (filters h) })
 
 -- 02, P1: SubAck and UnsubAck
-abbrev pub theReply : ℕ → ReplyHanded → Option (AckProps (List ℕ) List) → Packet
+abbrev pub theReply : ℕ → ReplyHanded → Option (Props (List ℕ) List) → Packet
 theReply k h ps = g.reply k (record { ident = h .ident; props = ps; reasons = h .reasons })
 
 -- 02, P1: Unsubscribe
-abbrev pub theUnsubscribe : UnsubscribeHanded → Option (UnsubscribeProps (List ℕ) List) → Packet
+abbrev pub theUnsubscribe : UnsubscribeHanded → Option (Props (List ℕ) List) → Packet
 theUnsubscribe h ps = g.unsubscribe (record { ident = h .ident; props = ps; topics = strings (h .topics) })
 
 -- the record: what the caller means
