@@ -8,9 +8,9 @@ use Rattle.reading.specs.Reader.{Fit, got, bad}
 use Rattle.reading.specs.Place.{Placed}
 use Rattle.reading.specs.Place as place
 use Rattle.records.specs.Told.{toldError, backSpan}
-use Rattle.records.specs.Answered.{told, toldSized, toldWritten, toldUser, toldIdentifier, toldFilterItem, toldGotReason, toldGotRule}
+use Rattle.records.specs.Answered.{told, toldSized, toldWritten, toldUser, toldIdentifier, toldFilterItem, toldGotRule}
 use Rattle.records.proofs.Laws.{injective-by}
-use Rattle.records.proofs.Told.{backError, back-error, backFit, backReason, back-reason, backRule, back-rule, back-span}
+use Rattle.records.proofs.Told.{backError, back-error, backFit, backRule, back-rule, back-span}
 use Rattle.records.proofs.Said.{backFilter, back-filter, backPacket, back-packet}
 use Rattle.records.specs.declared.answer.Read.{Read}
 use Rattle.records.specs.declared.answer.Sized.{Sized}
@@ -18,7 +18,6 @@ use Rattle.records.specs.declared.answer.Written.{Written}
 use Rattle.records.specs.declared.answer.UserItem.{UserItem}
 use Rattle.records.specs.declared.answer.IdentifierItem.{IdentifierItem}
 use Rattle.records.specs.declared.answer.FilterItem.{FilterItem}
-use Rattle.records.specs.declared.puback_record.GotReason.{GotReason}
 use Rattle.records.specs.declared.subscribe_record.GotRule.{GotRule}
 
 -- ---- reading
@@ -93,14 +92,7 @@ unfolding backFilterItem
 back-filter-item (FilterItem.Filter f) = ap FilterItem.Filter (back-filter f)
 back-filter-item FilterItem.NoItem = refl
 
--- ---- reasons and forward rules
-
-abbrev pub backGotReason : Fit ℕ → GotReason
-backGotReason = backFit (λ n. GotReason.Value (backReason n)) GotReason.Refused
-
-pub back-got-reason : (r : GotReason) → backGotReason (toldGotReason r) ≡ r
-back-got-reason (GotReason.Value a) = ap GotReason.Value (back-reason a)
-back-got-reason (GotReason.Refused e) = ap GotReason.Refused (back-error e)
+-- ---- forward rules
 
 abbrev pub backGotRule : Fit ℕ → GotRule
 backGotRule = backFit (λ n. GotRule.Value (backRule n)) GotRule.Refused

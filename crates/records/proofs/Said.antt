@@ -3,24 +3,24 @@ use mathlib.Core.Bool.{cond}
 use mathlib.Core.Path.{_≡_, refl, ap}
 use mathlib.Core.Option.{Option, none, some}
 use lib.Dec.{eqb}
-use Rattle.grammar.specs.Record.{PublishProps, SubscribeProps, AckProps, publish, ack, subscribe, ping}
+use Rattle.grammar.specs.Record.{PublishProps, Props, publish, ack, subscribe, reply, unsubscribe, ping}
 use Rattle.grammar.specs.Record as record-of
 use Rattle.reading.specs.Place.{Placed}
 use Rattle.reading.specs.Place as place
-use Rattle.records.specs.Said.{toldPublishProperties, toldSubscribeProperties, toldPubAckProperties, toldPublishBlock, toldSubscribeBlock, toldPubAckBlock, toldPublish, toldFilter, toldSubscribe, toldPubAck, toldPacket}
+use Rattle.records.specs.Said.{toldPublishProperties, toldProperties, toldPublishBlock, toldBlock, toldPublish, toldFilter, toldSubscribe, toldAck, toldReply, toldUnsubscribe, toldPacket}
 use Rattle.records.specs.declared.packet_record.Packet.{Packet}
-use Rattle.records.specs.declared.puback_record.PubAck.{PubAck}
-use Rattle.records.specs.declared.puback_record.PubAckProperties.{PubAckProperties}
-use Rattle.records.specs.declared.puback_record.MaybePubAckProperties.{MaybePubAckProperties}
+use Rattle.records.specs.declared.ack_record.Ack.{Ack}
+use Rattle.records.specs.declared.properties_record.Properties.{Properties}
+use Rattle.records.specs.declared.properties_record.MaybeProperties.{MaybeProperties}
 use Rattle.records.specs.declared.publish_record.Publish.{Publish}
 use Rattle.records.specs.declared.publish_record.PublishProperties.{PublishProperties}
 use Rattle.records.specs.declared.publish_record.MaybePublishProperties.{MaybePublishProperties}
 use Rattle.records.specs.declared.subscribe_record.Filter.{Filter}
 use Rattle.records.specs.declared.subscribe_record.Subscribe.{Subscribe}
-use Rattle.records.specs.declared.subscribe_record.SubscribeProperties.{SubscribeProperties}
-use Rattle.records.specs.declared.subscribe_record.MaybeSubscribeProperties.{MaybeSubscribeProperties}
+use Rattle.records.specs.declared.reply_record.Reply.{Reply}
+use Rattle.records.specs.declared.unsubscribe_record.Unsubscribe.{Unsubscribe}
 use Rattle.records.specs.Told.{backSpan}
-use Rattle.records.proofs.Told.{backBool, backQoS, backReason, backRule, backU8, backU16, backU32, backString, back-bool, back-qos, back-reason, back-rule, back-span, back-u8, back-u16, back-u32, back-string}
+use Rattle.records.proofs.Told.{backBool, backQoS, backAckKind, backReplyKind, backRule, backU8, backU16, backU32, backString, back-bool, back-qos, back-ack-kind, back-reply-kind, back-rule, back-span, back-u8, back-u16, back-u32, back-string}
 
 -- ---- property sets
 
@@ -39,19 +39,12 @@ back-publish-properties : (p : PublishProperties) → backPublishProperties (tol
 unfolding backPublishProperties
 back-publish-properties p = simp (back-u8, back-u16, back-u32, back-string, back-span)
 
-backSubscribeProperties : SubscribeProps place.Span (λ A. place.Span) → SubscribeProperties
-backSubscribeProperties p = record { id = backU32 (p .ident); block = backSpan (p .user) }
+backProperties : Props place.Span (λ A. place.Span) → Properties
+backProperties p = record { «reason_string» = backString (p .reason); id = backU32 (p .ident); block = backSpan (p .user) }
 
-back-subscribe-properties : (p : SubscribeProperties) → backSubscribeProperties (toldSubscribeProperties p) ≡ p
-unfolding backSubscribeProperties
-back-subscribe-properties p = simp (back-u32, back-span)
-
-backPubAckProperties : AckProps place.Span (λ A. place.Span) → PubAckProperties
-backPubAckProperties p = record { «reason_string» = backString (p .reason); block = backSpan (p .user) }
-
-back-puback-properties : (p : PubAckProperties) → backPubAckProperties (toldPubAckProperties p) ≡ p
-unfolding backPubAckProperties
-back-puback-properties p = simp (back-string, back-span)
+back-properties : (p : Properties) → backProperties (toldProperties p) ≡ p
+unfolding backProperties
+back-properties p = simp (back-string, back-u32, back-span)
 
 pub backPublishBlock : Option (PublishProps place.Span (λ A. place.Span)) → MaybePublishProperties
 backPublishBlock none = MaybePublishProperties.Absent
@@ -62,23 +55,14 @@ unfolding backPublishBlock
 back-publish-block MaybePublishProperties.Absent = refl
 back-publish-block (MaybePublishProperties.Present p) = ap MaybePublishProperties.Present (back-publish-properties p)
 
-pub backSubscribeBlock : Option (SubscribeProps place.Span (λ A. place.Span)) → MaybeSubscribeProperties
-backSubscribeBlock none = MaybeSubscribeProperties.Absent
-backSubscribeBlock (some p) = MaybeSubscribeProperties.Present (backSubscribeProperties p)
+pub backBlock : Option (Props place.Span (λ A. place.Span)) → MaybeProperties
+backBlock none = MaybeProperties.Absent
+backBlock (some p) = MaybeProperties.Present (backProperties p)
 
-pub back-subscribe-block : (m : MaybeSubscribeProperties) → backSubscribeBlock (toldSubscribeBlock m) ≡ m
-unfolding backSubscribeBlock
-back-subscribe-block MaybeSubscribeProperties.Absent = refl
-back-subscribe-block (MaybeSubscribeProperties.Present p) = ap MaybeSubscribeProperties.Present (back-subscribe-properties p)
-
-pub backPubAckBlock : Option (AckProps place.Span (λ A. place.Span)) → MaybePubAckProperties
-backPubAckBlock none = MaybePubAckProperties.Absent
-backPubAckBlock (some p) = MaybePubAckProperties.Present (backPubAckProperties p)
-
-pub back-puback-block : (m : MaybePubAckProperties) → backPubAckBlock (toldPubAckBlock m) ≡ m
-unfolding backPubAckBlock
-back-puback-block MaybePubAckProperties.Absent = refl
-back-puback-block (MaybePubAckProperties.Present p) = ap MaybePubAckProperties.Present (back-puback-properties p)
+pub back-block : (m : MaybeProperties) → backBlock (toldBlock m) ≡ m
+unfolding backBlock
+back-block MaybeProperties.Absent = refl
+back-block (MaybeProperties.Present p) = ap MaybeProperties.Present (back-properties p)
 
 -- ---- packets
 
@@ -111,29 +95,47 @@ unfolding backFilter
 back-filter f = simp (back-span, back-qos, back-bool, back-rule)
 
 backSubscribe : record-of.Subscribe place.Span (λ A. place.Span) → Subscribe
-backSubscribe m = record { pkid = m .ident; filters = backSpan (m .filters); properties = backSubscribeBlock (m .props) }
+backSubscribe m = record { pkid = m .ident; filters = backSpan (m .filters); properties = backBlock (m .props) }
 
 back-subscribe : (m : Subscribe) → backSubscribe (toldSubscribe m) ≡ m
 unfolding backSubscribe
-back-subscribe m = simp (back-span, back-subscribe-block)
+back-subscribe m = simp (back-span, back-block)
 
-backPubAck : record-of.Ack place.Span (λ A. place.Span) → PubAck
-backPubAck m = record { pkid = m .ident; reason = backReason (m .reason); properties = backPubAckBlock (m .props) }
+backAck : record-of.Ack place.Span (λ A. place.Span) → Ack
+backAck m = record { pkid = m .ident; reason = m .reason; properties = backBlock (m .props) }
 
-back-puback : (m : PubAck) → backPubAck (toldPubAck m) ≡ m
-unfolding backPubAck
-back-puback m = simp (back-reason, back-puback-block)
+back-ack : (m : Ack) → backAck (toldAck m) ≡ m
+unfolding backAck
+back-ack m = simp back-block
+
+backReply : record-of.Reply place.Span (λ A. place.Span) → Reply
+backReply m = record { pkid = m .ident; reasons = backSpan (m .reasons); properties = backBlock (m .props) }
+
+back-reply : (m : Reply) → backReply (toldReply m) ≡ m
+unfolding backReply
+back-reply m = simp (back-span, back-block)
+
+backUnsubscribe : record-of.Unsubscribe place.Span (λ A. place.Span) → Unsubscribe
+backUnsubscribe m = record { pkid = m .ident; topics = backSpan (m .topics); properties = backBlock (m .props) }
+
+back-unsubscribe : (m : Unsubscribe) → backUnsubscribe (toldUnsubscribe m) ≡ m
+unfolding backUnsubscribe
+back-unsubscribe m = simp (back-span, back-block)
 
 pub backPacket : Placed → Packet
 backPacket (publish m) = Packet.Publish (backPublish m)
-backPacket (ack k m) = Packet.PubAck (backPubAck m)
+backPacket (ack k m) = Packet.Ack (backAckKind k) (backAck m)
 backPacket (subscribe m) = Packet.Subscribe (backSubscribe m)
+backPacket (reply k m) = Packet.Reply (backReplyKind k) (backReply m)
+backPacket (unsubscribe m) = Packet.Unsubscribe (backUnsubscribe m)
 backPacket (ping k) = cond (eqb k 12) Packet.PingReq Packet.PingResp
 
 pub back-packet : (p : Packet) → backPacket (toldPacket p) ≡ p
 unfolding backPacket
 back-packet (Packet.Publish m) = ap Packet.Publish (back-publish m)
-back-packet (Packet.PubAck m) = ap Packet.PubAck (back-puback m)
+back-packet (Packet.Ack k m) = rw (back-ack-kind k, back-ack m)
 back-packet (Packet.Subscribe m) = ap Packet.Subscribe (back-subscribe m)
+back-packet (Packet.Reply k m) = rw (back-reply-kind k, back-reply m)
+back-packet (Packet.Unsubscribe m) = ap Packet.Unsubscribe (back-unsubscribe m)
 back-packet Packet.PingReq = refl
 back-packet Packet.PingResp = refl

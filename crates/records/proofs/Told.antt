@@ -10,10 +10,11 @@ use Rattle.grammar.specs.Record.{Val, num, str, duo}
 use Rattle.reading.specs.Refusal.{Refusal, nr}
 use Rattle.reading.specs.Reader.{Fit, got, bad}
 use Rattle.reading.specs.Place as place
-use Rattle.records.specs.Told.{toldError, toldValues, limitOf, toldBool, toldQoS, toldReason, toldRule, toldSpan, backSpan, toldU8, toldU16, toldU32, toldString}
+use Rattle.records.specs.Told.{toldError, toldValues, limitOf, toldBool, toldQoS, toldAckKind, toldReplyKind, toldRule, toldSpan, backSpan, toldU8, toldU16, toldU32, toldString}
 use Rattle.records.specs.declared.answer.Limit.{Limit}
 use Rattle.records.specs.declared.error.Error.{Error}
-use Rattle.records.specs.declared.puback_record.PubAckReason.{PubAckReason}
+use Rattle.records.specs.declared.ack_record.AckKind.{AckKind}
+use Rattle.records.specs.declared.reply_record.ReplyKind.{ReplyKind}
 use Rattle.records.specs.declared.qos.QoS.{QoS}
 use Rattle.records.specs.declared.values.Values.{Values}
 use Rattle.records.specs.declared.span.Span.{Span}
@@ -135,32 +136,23 @@ back-qos QoS.AtLeastOnce = refl
 back-qos QoS.ExactlyOnce = refl
 
 -- the last where it is none of the others
-pub backReason : ℕ → PubAckReason
-backReason k =
-    orElse PubAckReason.PayloadFormatInvalid
-    (lookup
-    ((0x00, PubAckReason.Success) ∷
-    (0x10, PubAckReason.NoMatchingSubscribers) ∷
-    (0x80, PubAckReason.UnspecifiedError) ∷
-    (0x83, PubAckReason.ImplementationSpecificError) ∷
-    (0x87, PubAckReason.NotAuthorized) ∷
-    (0x90, PubAckReason.TopicNameInvalid) ∷
-    (0x91, PubAckReason.PacketIdentifierInUse) ∷
-    (0x97, PubAckReason.QuotaExceeded) ∷
-    [])
-    k)
+pub backAckKind : ℕ → AckKind
+backAckKind k = orElse AckKind.PubComp (lookup ((4, AckKind.PubAck) ∷ (5, AckKind.PubRec) ∷ (6, AckKind.PubRel) ∷ []) k)
 
-pub back-reason : (a : PubAckReason) → backReason (toldReason a) ≡ a
-unfolding backReason
-back-reason PubAckReason.Success = refl
-back-reason PubAckReason.NoMatchingSubscribers = refl
-back-reason PubAckReason.UnspecifiedError = refl
-back-reason PubAckReason.ImplementationSpecificError = refl
-back-reason PubAckReason.NotAuthorized = refl
-back-reason PubAckReason.TopicNameInvalid = refl
-back-reason PubAckReason.PacketIdentifierInUse = refl
-back-reason PubAckReason.QuotaExceeded = refl
-back-reason PubAckReason.PayloadFormatInvalid = refl
+pub back-ack-kind : (a : AckKind) → backAckKind (toldAckKind a) ≡ a
+unfolding backAckKind
+back-ack-kind AckKind.PubAck = refl
+back-ack-kind AckKind.PubRec = refl
+back-ack-kind AckKind.PubRel = refl
+back-ack-kind AckKind.PubComp = refl
+
+pub backReplyKind : ℕ → ReplyKind
+backReplyKind k = orElse ReplyKind.UnsubAck (lookup ((9, ReplyKind.SubAck) ∷ []) k)
+
+pub back-reply-kind : (a : ReplyKind) → backReplyKind (toldReplyKind a) ≡ a
+unfolding backReplyKind
+back-reply-kind ReplyKind.SubAck = refl
+back-reply-kind ReplyKind.UnsubAck = refl
 
 pub backRule : ℕ → RetainForwardRule
 backRule zero = RetainForwardRule.OnEverySubscribe

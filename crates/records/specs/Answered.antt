@@ -1,16 +1,14 @@
--- What each answer tells: of a read, a size, a write, an item, a reason and a forward rule. Assumes nothing.
+-- What each answer tells: of a read, a size, a write, an item and a forward rule. Assumes nothing.
 use mathlib.Core.List.{[], _∷_}
 use Prim.Native.Nat.{ℕ}
 use lib.Dec.{ltb}
-use Rattle.grammar.specs.Choice.{isIn}
-use Rattle.grammar.specs.Tables.{reasons}
 use Rattle.grammar.specs.Record.{Val, num, duo}
 use Rattle.grammar.specs.Record as record-of
 use Rattle.reading.specs.Refusal.{nr, Answer, accepted, refusedAs}
 use Rattle.reading.specs.Reader.{Fit, got, bad, _>>_, guard}
 use Rattle.reading.specs.Place.{Placed, noItem}
 use Rattle.reading.specs.Place as place
-use Rattle.records.specs.Told.{toldError, toldReason, toldRule, toldSpan}
+use Rattle.records.specs.Told.{toldError, toldRule, toldSpan}
 use Rattle.records.specs.Said.{toldFilter, toldPacket}
 use Rattle.records.specs.declared.answer.Read.{Read}
 use Rattle.records.specs.declared.answer.Sized.{Sized}
@@ -18,7 +16,6 @@ use Rattle.records.specs.declared.answer.Written.{Written}
 use Rattle.records.specs.declared.answer.UserItem.{UserItem}
 use Rattle.records.specs.declared.answer.IdentifierItem.{IdentifierItem}
 use Rattle.records.specs.declared.answer.FilterItem.{FilterItem}
-use Rattle.records.specs.declared.puback_record.GotReason.{GotReason}
 use Rattle.records.specs.declared.subscribe_record.GotRule.{GotRule}
 
 -- 01, "When the desk says no": "Taken is the count of stream bytes used up"
@@ -50,17 +47,6 @@ toldIdentifier IdentifierItem.NoItem = bad noItem
 abbrev pub toldFilterItem : FilterItem → Fit (record-of.Filter place.Span)
 toldFilterItem (FilterItem.Filter f) = got (toldFilter f)
 toldFilterItem FilterItem.NoItem = bad noItem
-
--- 01, row 15: "not one of the nine"
-abbrev pub toldGotReason : GotReason → Fit ℕ
-toldGotReason (GotReason.Value a) = got (toldReason a)
-toldGotReason (GotReason.Refused e) = bad (toldError e)
-
--- 01, row 15, of the number k
-abbrev pub reasonOf : ℕ → Fit ℕ
-reasonOf k = do
-  guard (isIn k reasons) (nr 15 (k ∷ []))
-  got k
 
 -- 01, row 14: "both rule bits set"
 abbrev pub toldGotRule : GotRule → Fit ℕ

@@ -1,21 +1,21 @@
 -- What each record tells: the packet of the grammar with places for strings and lists. Assumes nothing.
 use mathlib.Core.Option.{Option, none, some}
-use Rattle.grammar.specs.Record.{PublishProps, SubscribeProps, AckProps, publish, ack, subscribe, ping}
+use Rattle.grammar.specs.Record.{PublishProps, Props, publish, ack, subscribe, reply, unsubscribe, ping}
 use Rattle.grammar.specs.Record as record-of
 use Rattle.reading.specs.Place.{Placed}
 use Rattle.reading.specs.Place as place
-use Rattle.records.specs.Told.{toldBool, toldQoS, toldReason, toldRule, toldSpan, toldU8, toldU16, toldU32, toldString}
+use Rattle.records.specs.Told.{toldBool, toldQoS, toldAckKind, toldReplyKind, toldRule, toldSpan, toldU8, toldU16, toldU32, toldString}
 use Rattle.records.specs.declared.packet_record.Packet.{Packet}
-use Rattle.records.specs.declared.puback_record.PubAck.{PubAck}
-use Rattle.records.specs.declared.puback_record.PubAckProperties.{PubAckProperties}
-use Rattle.records.specs.declared.puback_record.MaybePubAckProperties.{MaybePubAckProperties}
+use Rattle.records.specs.declared.ack_record.Ack.{Ack}
+use Rattle.records.specs.declared.properties_record.Properties.{Properties}
+use Rattle.records.specs.declared.properties_record.MaybeProperties.{MaybeProperties}
 use Rattle.records.specs.declared.publish_record.Publish.{Publish}
 use Rattle.records.specs.declared.publish_record.PublishProperties.{PublishProperties}
 use Rattle.records.specs.declared.publish_record.MaybePublishProperties.{MaybePublishProperties}
 use Rattle.records.specs.declared.subscribe_record.Filter.{Filter}
 use Rattle.records.specs.declared.subscribe_record.Subscribe.{Subscribe}
-use Rattle.records.specs.declared.subscribe_record.SubscribeProperties.{SubscribeProperties}
-use Rattle.records.specs.declared.subscribe_record.MaybeSubscribeProperties.{MaybeSubscribeProperties}
+use Rattle.records.specs.declared.reply_record.Reply.{Reply}
+use Rattle.records.specs.declared.unsubscribe_record.Unsubscribe.{Unsubscribe}
 
 -- ---- property sets
 
@@ -32,28 +32,19 @@ toldPublishProperties p = record {
   content = toldString (p .«content_type»);
 }
 
--- 01, table of properties, row Subscribe
-abbrev pub toldSubscribeProperties : SubscribeProperties → SubscribeProps place.Span (λ A. place.Span)
-toldSubscribeProperties p = record { ident = toldU32 (p .id); user = toldSpan (p .block) }
-
--- 01, table of properties, row PubAck
-abbrev pub toldPubAckProperties : PubAckProperties → AckProps place.Span (λ A. place.Span)
-toldPubAckProperties p = record { reason = toldString (p .«reason_string»); user = toldSpan (p .block) }
+-- 01, table of properties, rows Subscribe and PubAck; 02, P1, row Unsubscribe
+abbrev pub toldProperties : Properties → Props place.Span (λ A. place.Span)
+toldProperties p = record { reason = toldString (p .«reason_string»); ident = toldU32 (p .id); user = toldSpan (p .block) }
 
 -- 01, grammar: "L = 0 means absent", in a Publish
 abbrev pub toldPublishBlock : MaybePublishProperties → Option (PublishProps place.Span (λ A. place.Span))
 toldPublishBlock MaybePublishProperties.Absent = none
 toldPublishBlock (MaybePublishProperties.Present p) = some (toldPublishProperties p)
 
--- 01, grammar: "L = 0 means absent", in a Subscribe
-abbrev pub toldSubscribeBlock : MaybeSubscribeProperties → Option (SubscribeProps place.Span (λ A. place.Span))
-toldSubscribeBlock MaybeSubscribeProperties.Absent = none
-toldSubscribeBlock (MaybeSubscribeProperties.Present p) = some (toldSubscribeProperties p)
-
--- 01, grammar, PubAck: "no block", or one whose L is 0; else the block
-abbrev pub toldPubAckBlock : MaybePubAckProperties → Option (AckProps place.Span (λ A. place.Span))
-toldPubAckBlock MaybePubAckProperties.Absent = none
-toldPubAckBlock (MaybePubAckProperties.Present p) = some (toldPubAckProperties p)
+-- 01, grammar: "L = 0 means absent", at any other place; PubAck: "no block"
+abbrev pub toldBlock : MaybeProperties → Option (Props place.Span (λ A. place.Span))
+toldBlock MaybeProperties.Absent = none
+toldBlock (MaybeProperties.Present p) = some (toldProperties p)
 
 -- ---- packets
 
@@ -81,16 +72,26 @@ toldFilter f = record {
 
 -- 01, grammar: "Subscribe (8)"
 abbrev pub toldSubscribe : Subscribe → record-of.Subscribe place.Span (λ A. place.Span)
-toldSubscribe m = record { ident = m .pkid; props = toldSubscribeBlock (m .properties); filters = toldSpan (m .filters) }
+toldSubscribe m = record { ident = m .pkid; props = toldBlock (m .properties); filters = toldSpan (m .filters) }
 
--- 01, grammar: "PubAck (4)"
-abbrev pub toldPubAck : PubAck → record-of.Ack place.Span (λ A. place.Span)
-toldPubAck m = record { ident = m .pkid; reason = toldReason (m .reason); props = toldPubAckBlock (m .properties) }
+-- 01, grammar: "PubAck (4)"; 02, P1: the four share one layout
+abbrev pub toldAck : Ack → record-of.Ack place.Span (λ A. place.Span)
+toldAck m = record { ident = m .pkid; reason = m .reason; props = toldBlock (m .properties) }
 
--- 01, modules: "Publish, Subscribe, PubAck, PingReq, PingResp", with the numbers of their kinds
+-- 02, P1: SubAck and UnsubAck
+abbrev pub toldReply : Reply → record-of.Reply place.Span (λ A. place.Span)
+toldReply m = record { ident = m .pkid; props = toldBlock (m .properties); reasons = toldSpan (m .reasons) }
+
+-- 02, P1: Unsubscribe
+abbrev pub toldUnsubscribe : Unsubscribe → record-of.Unsubscribe place.Span (λ A. place.Span)
+toldUnsubscribe m = record { ident = m .pkid; props = toldBlock (m .properties); topics = toldSpan (m .topics) }
+
+-- 01, modules: "Publish, Subscribe, PubAck, PingReq, PingResp", and 02, P1, with the numbers of their kinds
 abbrev pub toldPacket : Packet → Placed
 toldPacket (Packet.Publish m) = publish (toldPublish m)
-toldPacket (Packet.PubAck m) = ack 4 (toldPubAck m)
+toldPacket (Packet.Ack k m) = ack (toldAckKind k) (toldAck m)
 toldPacket (Packet.Subscribe m) = subscribe (toldSubscribe m)
+toldPacket (Packet.Reply k m) = reply (toldReplyKind k) (toldReply m)
+toldPacket (Packet.Unsubscribe m) = unsubscribe (toldUnsubscribe m)
 toldPacket Packet.PingReq = ping 12
 toldPacket Packet.PingResp = ping 13

@@ -9,7 +9,8 @@ use Rattle.reading.specs.Place.{onSome}
 use Rattle.reading.specs.Place as place
 use Rattle.records.specs.declared.answer.Limit.{Limit}
 use Rattle.records.specs.declared.error.Error.{Error}
-use Rattle.records.specs.declared.puback_record.PubAckReason.{PubAckReason}
+use Rattle.records.specs.declared.ack_record.AckKind.{AckKind}
+use Rattle.records.specs.declared.reply_record.ReplyKind.{ReplyKind}
 use Rattle.records.specs.declared.qos.QoS.{QoS}
 use Rattle.records.specs.declared.values.Values.{Values}
 use Rattle.records.specs.declared.span.Span.{Span}
@@ -77,17 +78,17 @@ toldQoS QoS.AtMostOnce = 0
 toldQoS QoS.AtLeastOnce = 1
 toldQoS QoS.ExactlyOnce = 2
 
--- 01, grammar, PubAck: "Reasons, in the order of `PubAckReason`"
-abbrev pub toldReason : PubAckReason → ℕ
-toldReason PubAckReason.Success = 0x00
-toldReason PubAckReason.NoMatchingSubscribers = 0x10
-toldReason PubAckReason.UnspecifiedError = 0x80
-toldReason PubAckReason.ImplementationSpecificError = 0x83
-toldReason PubAckReason.NotAuthorized = 0x87
-toldReason PubAckReason.TopicNameInvalid = 0x90
-toldReason PubAckReason.PacketIdentifierInUse = 0x91
-toldReason PubAckReason.QuotaExceeded = 0x97
-toldReason PubAckReason.PayloadFormatInvalid = 0x99
+-- 01, grammar: "PubAck (4)"; 02, P1: PubRec, PubRel and PubComp: the number of the kind
+abbrev pub toldAckKind : AckKind → ℕ
+toldAckKind AckKind.PubAck = 4
+toldAckKind AckKind.PubRec = 5
+toldAckKind AckKind.PubRel = 6
+toldAckKind AckKind.PubComp = 7
+
+-- 02, P1: SubAck and UnsubAck: the number of the kind
+abbrev pub toldReplyKind : ReplyKind → ℕ
+toldReplyKind ReplyKind.SubAck = 9
+toldReplyKind ReplyKind.UnsubAck = 11
 
 -- 01, grammar, Subscribe: "forward rule 4-5", the number in the two bits
 abbrev pub toldRule : RetainForwardRule → ℕ

@@ -1,25 +1,14 @@
 // A Subscribe as read, and one filter, after subscribe.rs.
 use crate::error::Error;
+use crate::properties_record::MaybeProperties;
 use crate::qos::QoS;
-use crate::span::MaybeU32;
 use crate::span::Span;
 
 pub struct Subscribe {
     pub pkid: u16,
     // where the filters stand
     pub filters: Span,
-    pub properties: MaybeSubscribeProperties,
-}
-
-pub enum MaybeSubscribeProperties {
-    Absent,
-    Present(SubscribeProperties),
-}
-
-pub struct SubscribeProperties {
-    pub id: MaybeU32,
-    // where the properties stand: the user properties are read there
-    pub block: Span,
+    pub properties: MaybeProperties,
 }
 
 pub enum RetainForwardRule {

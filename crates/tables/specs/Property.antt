@@ -2,7 +2,7 @@
 use mathlib.Core.Option.{Option, none, some}
 use Rattle.grammar.specs.Tables as tables
 use Rattle.tables.specs.declared.property.PropertyPlace.{PropertyPlace}
-use Rattle.tables.specs.declared.property.PropertyPlace.the-variants.{Publish, Subscribe, PubAck}
+use Rattle.tables.specs.declared.property.PropertyPlace.the-variants.{Publish, Subscribe, Ack, Unsubscribe}
 use Rattle.tables.specs.declared.property.PropertyForm.{PropertyForm}
 use Rattle.tables.specs.declared.property.PropertyForm.the-variants.{U8, U16, U32, Number, Text, Bytes, Pair, NotHere}
 
@@ -10,7 +10,8 @@ use Rattle.tables.specs.declared.property.PropertyForm.the-variants.{U8,
 abbrev pub placeOf : PropertyPlace → tables.Place
 placeOf Publish = tables.publishPlace
 placeOf Subscribe = tables.subscribePlace
-placeOf PubAck = tables.ackPlace
+placeOf Ack = tables.ackPlace
+placeOf Unsubscribe = tables.unsubscribePlace
 
 -- 01, table of properties: the form of a value, if the row has the identifier
 abbrev pub toldForm : PropertyForm → Option tables.Form

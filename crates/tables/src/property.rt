@@ -2,14 +2,15 @@
 // own matches.
 ghost use mathlib.Core.Path.{_≡_};
 ghost use Rattle.grammar.specs.Choice.{lookup};
-ghost use Rattle.grammar.specs.Tables.{publishPlace, subscribePlace, ackPlace};
+ghost use Rattle.grammar.specs.Tables.{publishPlace, subscribePlace, ackPlace, unsubscribePlace};
 ghost use Rattle.tables.specs.Property.{toldForm, placeOf};
 
 // Where a block stands.
 pub enum PropertyPlace {
     Publish,
     Subscribe,
-    PubAck,
+    Ack,
+    Unsubscribe,
 }
 
 // The form of a property's value, or that the place has no such property.
@@ -52,14 +53,24 @@ fn subscribe_property(num: u8) -> PropertyForm
     }
 }
 
-// The form of a property of a PubAck.
-fn puback_property(num: u8) -> PropertyForm
+// The form of a property of an acknowledgement: PubAck, PubRec, PubRel, PubComp, SubAck, UnsubAck.
+fn ack_property(num: u8) -> PropertyForm
     ensures { λ r. ⌜ toldForm r ≡ lookup ackPlace num ⌝ }
 {
     match num {
         31 => PropertyForm::Text,
         38 => PropertyForm::Pair,
         0..=30 | 32..=37 | 39..=255 => PropertyForm::NotHere,
+    }
+}
+
+// The form of a property of an Unsubscribe.
+fn unsubscribe_property(num: u8) -> PropertyForm
+    ensures { λ r. ⌜ toldForm r ≡ lookup unsubscribePlace num ⌝ }
+{
+    match num {
+        38 => PropertyForm::Pair,
+        0..=37 | 39..=255 => PropertyForm::NotHere,
     }
 }
 
@@ -70,6 +81,7 @@ pub fn property(place: PropertyPlace, num: u8) -> PropertyForm
     match place {
         PropertyPlace::Publish => publish_property(num),
         PropertyPlace::Subscribe => subscribe_property(num),
-        PropertyPlace::PubAck => puback_property(num),
+        PropertyPlace::Ack => ack_property(num),
+        PropertyPlace::Unsubscribe => unsubscribe_property(num),
     }
 }

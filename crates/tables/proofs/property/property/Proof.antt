@@ -18,8 +18,14 @@ subscribe-property-requires c κs = search needs
 enum-told-3 : tie.Need-enum-told-3
 enum-told-3 c = search needs
 
-puback-property-requires : tie.Need-puback-property-requires
-puback-property-requires c κs = search needs
+ack-property-requires : tie.Need-ack-property-requires
+ack-property-requires c κs = search needs
+
+enum-told-4 : tie.Need-enum-told-4
+enum-told-4 c = search needs
+
+unsubscribe-property-requires : tie.Need-unsubscribe-property-requires
+unsubscribe-property-requires c κs = search needs
 
 returns : tie.Need-returns
 returns c = rw (c .before .enum-told .given .1) (c .publish-property .ensures)
@@ -28,7 +34,10 @@ returns-2 : tie.Need-returns-2
 returns-2 c = rw (c .before .enum-told2 .given .1) (c .subscribe-property .ensures)
 
 returns-3 : tie.Need-returns-3
-returns-3 c = rw (c .before .enum-told3 .given .1) (c .puback-property .ensures)
+returns-3 c = rw (c .before .enum-told3 .given .1) (c .ack-property .ensures)
+
+returns-4 : tie.Need-returns-4
+returns-4 c = rw (c .before .enum-told4 .given .1) (c .unsubscribe-property .ensures)
 
 pub property-spec : {M : Type 1} → statement M
 property-spec =
@@ -39,7 +48,10 @@ property-spec =
     enum-told-2
     subscribe-property-requires
     enum-told-3
-    puback-property-requires
+    ack-property-requires
+    enum-told-4
+    unsubscribe-property-requires
     returns
     returns-2
-    returns-3)
+    returns-3
+    returns-4)
