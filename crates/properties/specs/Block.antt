@@ -4,16 +4,15 @@ use mathlib.Core.List.{List, [], _∷_}
 use Prim.Native.Nat.{ℕ}
 use lib.ListN.{length, drop}
 use Rattle.grammar.specs.Gram.{forget}
-use Rattle.grammar.specs.Tables.{Place, publishPlace, subscribePlace, ackPlace}
-use Rattle.grammar.specs.Record.{PropOf, lastFrom, PublishProps, publishProps, SubscribeProps, subscribeProps, AckProps, ackProps}
+use Rattle.grammar.specs.Tables.{Place, publishPlace}
+use Rattle.grammar.specs.Record.{PropOf, lastFrom, PublishProps, publishProps, Props, propsOf}
 use Rattle.reading.specs.Refusal.{cut, crossed}
 use Rattle.reading.specs.Reader.{Fit, got, bad, Reader, sizedOf, foldFit}
 use Rattle.reading.specs.Read.{numOf, anyBytes, stringFit, propertyOf}
 use Rattle.reading.specs.Place.{Span, asPlaces, onGot}
 use Rattle.records.specs.Told.{toldError}
-use Rattle.records.specs.Said.{toldSubscribeBlock, toldPubAckBlock}
-use Rattle.properties.specs.declared.puback_block.GotPubAckBlock.{GotPubAckBlock}
-use Rattle.properties.specs.declared.subscribe_block.GotSubscribeBlock.{GotSubscribeBlock}
+use Rattle.records.specs.Said.{toldBlock}
+use Rattle.properties.specs.declared.place_block.GotBlock.{GotBlock}
 
 -- ---- where a block stands
 
@@ -49,22 +48,13 @@ publishRow = record {
   };
 }
 
--- 01, table of properties, row Subscribe
-abbrev pub subscribeRow : Row
-subscribeRow = record {
-  place = subscribePlace;
-  Props = SubscribeProps Span (λ A. Span);
-  made = λ p. subscribeProps Span (λ A. Span) (λ vs. p);
-  more = λ o ps. record { ident = lastFrom (o .ident) 11 ps; user = o .user };
-}
-
--- 01, table of properties, row PubAck
-abbrev pub ackRow : Row
-ackRow = record {
-  place = ackPlace;
-  Props = AckProps Span (λ A. Span);
-  made = λ p. ackProps Span (λ A. Span) (λ vs. p);
-  more = λ o ps. record { reason = lastFrom (o .reason) 31 ps; user = o .user };
+-- 01, table of properties: any other place
+abbrev pub propsRow : Place → Row
+propsRow place = record {
+  place = place;
+  Props = Props Span (λ A. Span);
+  made = λ p. propsOf Span (λ A. Span) (λ vs. p);
+  more = λ o ps. record { reason = lastFrom (o .reason) 31 ps; ident = lastFrom (o .ident) 11 ps; user = o .user };
 }
 
 module _ (w : Row) where
@@ -82,12 +72,7 @@ module _ (w : Row) where
 
 -- ---- answers: the properties, if there are any, and the index after the block; or the refusal
 
--- 01, table of properties, row Subscribe
-abbrev pub toldSubscribeBlockAt : GotSubscribeBlock → Fit (Option (SubscribeProps Span (λ A. Span)) × ℕ)
-toldSubscribeBlockAt (GotSubscribeBlock.Value p n) = got (toldSubscribeBlock p, n)
-toldSubscribeBlockAt (GotSubscribeBlock.Refused e) = bad (toldError e)
-
--- 01, table of properties, row PubAck
-abbrev pub toldPubAckBlockAt : GotPubAckBlock → Fit (Option (AckProps Span (λ A. Span)) × ℕ)
-toldPubAckBlockAt (GotPubAckBlock.Value p n) = got (toldPubAckBlock p, n)
-toldPubAckBlockAt (GotPubAckBlock.Refused e) = bad (toldError e)
+-- 01, table of properties: any place but Publish's
+abbrev pub toldBlockAt : GotBlock → Fit (Option (Props Span (λ A. Span)) × ℕ)
+toldBlockAt (GotBlock.Value p n) = got (toldBlock p, n)
+toldBlockAt (GotBlock.Refused e) = bad (toldError e)

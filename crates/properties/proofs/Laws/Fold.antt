@@ -1,17 +1,19 @@
 -- A loop over the properties of a block, one law over the row: how it goes on, and what it comes to. Assumes nothing.
+use mathlib.Core.Bool.{false}
 use mathlib.Core.Path.{_≡_, refl, sym, ap, _∙_}
 use mathlib.Core.Logic.{_⊎_, inl, inr}
 use mathlib.Core.Option.{Option, none, some}
 use mathlib.Core.List.{List, [], _∷_}
 use Prim.Native.Nat.{ℕ, suc, _-_, _≤_, _<_}
 use native.Mathlib.Omega.{arith}
+use lib.Dec.{eqb}
 use lib.ListN.{length, drop, getD, length-drop, drop-of-length-le}
 use lib.Seq.{drop-cons}
 use Rattle.grammar.specs.Choice.{lookup}
 use Rattle.grammar.specs.Gram.{forget}
 use Rattle.grammar.specs.Octets.{Each, nil, _&_}
-use Rattle.grammar.specs.Tables.{Form, u8, u16, u32, number, text, bytes, pair, Place, publishPlace, subscribePlace, ackPlace}
-use Rattle.grammar.specs.Record.{Val, PropOf, lastOf, unlessEmpty, publishProps, subscribeProps, ackProps}
+use Rattle.grammar.specs.Tables.{Form, u8, u16, u32, number, text, bytes, pair, Place, publishPlace, subscribePlace, ackPlace, unsubscribePlace}
+use Rattle.grammar.specs.Record.{Val, PropOf, lastOf, unlessEmpty, publishProps, propsOf}
 use Rattle.reading.specs.Refusal.{Refusal}
 use Rattle.reading.specs.Reader.{Fit, got, bad, _>>=_, handFit, runFit, chainFit, foldFrom, foldFit}
 use Rattle.reading.specs.Read.{valueAt, propertyOf, propertiesFit}
@@ -24,12 +26,15 @@ use Rattle.positions.proofs.Less.{property-less}
 use Rattle.positions.proofs.Position.{bad-left}
 use Rattle.records.specs.Told.{toldError}
 use Rattle.records.specs.declared.error.Error.{Error}
+use Rattle.tables.specs.Property.{placeOf}
+use Rattle.tables.specs.declared.property.PropertyPlace.{PropertyPlace}
+use Rattle.tables.specs.declared.property.PropertyPlace.the-variants.{Publish, Subscribe, Ack, Unsubscribe}
 use Rattle.property_value.specs.Told.{toldValue, formOf, publishLists, PropertyRead, PropertyPassed}
 use Rattle.property_value.proofs.Laws.{value-tag, property-left, property-ahead}
 use Rattle.property_value.specs.declared.Value.{Value}
 use Rattle.property_value.specs.declared.GotProperty.{GotProperty}
 use Rattle.property_value.specs.declared.GotProperty.the-variants.{Found, Refused}
-use Rattle.properties.specs.Block.{Row, publishRow, subscribeRow, ackRow, applied, loopFrom, filledAt}
+use Rattle.properties.specs.Block.{Row, publishRow, propsRow, applied, loopFrom, filledAt}
 
 -- 01, table of properties: the identifiers of each form
 abbrev pub publishIs : ℕ → Form → Type 0
@@ -41,35 +46,33 @@ publishIs k text = (k ≡ 8) ⊎ (k ≡ 3)
 publishIs k bytes = k ≡ 9
 publishIs k pair = k ≡ 38
 
-abbrev pub subscribeIs : ℕ → Form → Type 0
-subscribeIs k u8 = ⊥
-subscribeIs k u16 = ⊥
-subscribeIs k u32 = ⊥
-subscribeIs k number = k ≡ 11
-subscribeIs k text = ⊥
-subscribeIs k bytes = ⊥
-subscribeIs k pair = k ≡ 38
-
-abbrev pub ackIs : ℕ → Form → Type 0
-ackIs k u8 = ⊥
-ackIs k u16 = ⊥
-ackIs k u32 = ⊥
-ackIs k number = ⊥
-ackIs k text = k ≡ 31
-ackIs k bytes = ⊥
-ackIs k pair = k ≡ 38
-
 publish-every : Each (λ r. publishIs (r .0) (r .1)) publishPlace
 unfolding publishPlace
 publish-every = refl & refl & refl & inl refl & refl & refl & refl & inr refl & nil
 
-subscribe-every : Each (λ r. subscribeIs (r .0) (r .1)) subscribePlace
-unfolding subscribePlace
-subscribe-every = refl & refl & nil
+-- neither a reason string nor an identifier
+abbrev pub Neither : ℕ → Type 0
+Neither k = (eqb k 31 ≡ false) × (eqb k 11 ≡ false)
 
-ack-every : Each (λ r. ackIs (r .0) (r .1)) ackPlace
-unfolding ackPlace
-ack-every = refl & refl & nil
+neither : (k : ℕ) → eqb k 31 ≡ false → eqb k 11 ≡ false → Neither k
+neither k a b = (a, b)
+
+-- of every place: 31 has a text and 11 a number, and no other form has either
+abbrev pub plainIs : ℕ → Form → Type 0
+plainIs k u8 = Neither k
+plainIs k u16 = Neither k
+plainIs k u32 = Neither k
+plainIs k number = eqb k 31 ≡ false
+plainIs k text = eqb k 11 ≡ false
+plainIs k bytes = Neither k
+plainIs k pair = Neither k
+
+plain-every : (place : PropertyPlace) → Each (λ r. plainIs (r .0) (r .1)) (placeOf place)
+unfolding publishPlace subscribePlace ackPlace unsubscribePlace
+plain-every Publish = neither 1 refl refl & neither 2 refl refl & neither 35 refl refl & refl & neither 9 refl refl & neither 38 refl refl & refl & refl & nil
+plain-every Subscribe = refl & neither 38 refl refl & nil
+plain-every Ack = refl & neither 38 refl refl & nil
+plain-every Unsubscribe = neither 38 refl refl & nil
 
 module _ (k : ℕ) {v v′ : Value} (e : v ≡ v′) where
   is : (Q : ℕ → Form → Type 0) (place : Place) → Each (λ r. Q (r .0) (r .1)) place → lookup place k ≡ some (formOf v) → Q k (formOf v′)
@@ -78,11 +81,8 @@ module _ (k : ℕ) {v v′ : Value} (e : v ≡ v′) where
   pub publish-is : lookup publishPlace k ≡ some (formOf v) → publishIs k (formOf v′)
   publish-is = is publishIs publishPlace publish-every
 
-  pub subscribe-is : lookup subscribePlace k ≡ some (formOf v) → subscribeIs k (formOf v′)
-  subscribe-is = is subscribeIs subscribePlace subscribe-every
-
-  pub ack-is : lookup ackPlace k ≡ some (formOf v) → ackIs k (formOf v′)
-  ack-is = is ackIs ackPlace ack-every
+  pub plain-is : (place : PropertyPlace) → lookup (placeOf place) k ≡ some (formOf v) → plainIs k (formOf v′)
+  plain-is place = is plainIs (placeOf place) (plain-every place)
 
 -- ---- the properties one by one are the properties at once
 
@@ -96,13 +96,9 @@ pub publish-lawful : Lawful publishRow
 unfolding publishProps lastOf
 publish-lawful = record { nil = λ o. refl; cons = λ o a ps. refl; whole = λ p ps. refl }
 
-pub subscribe-lawful : Lawful subscribeRow
-unfolding subscribeProps lastOf
-subscribe-lawful = record { nil = λ o. refl; cons = λ o a ps. refl; whole = λ p ps. refl }
-
-pub ack-lawful : Lawful ackRow
-unfolding ackProps lastOf
-ack-lawful = record { nil = λ o. refl; cons = λ o a ps. refl; whole = λ p ps. refl }
+pub props-lawful : (place : Place) → Lawful (propsRow place)
+unfolding propsOf lastOf
+props-lawful place = record { nil = λ o. refl; cons = λ o a ps. refl; whole = λ p ps. refl }
 
 -- 01: "L = 0 means absent"
 abbrev pub blockAs : (w : Row) → List (PropOf Span) → List ℕ → ℕ → Option (w .Props)

@@ -1,20 +1,21 @@
--- `properties::puback_block::fill` meets its contract. The loop's invariant: the rest of the loop decides the whole. Each property takes a byte at
+-- `properties::place_block::fill` meets its contract. The loop's invariant: the rest of the loop decides the whole. Each property takes a byte at
 -- least, and what is left of the slice is the measure. Assumes nothing.
 use mathlib.Core.Path.{refl}
 use native.Mathlib.Omega.{arith}
 use borrow.Author.Needs.{needs}
-use Rattle.grammar.specs.Record.{lastOf, ackProps}
-use Rattle.records.specs.Said.{toldPubAckProperties}
-use Rattle.properties.specs.Block.{ackRow}
+use Rattle.grammar.specs.Record.{lastOf, propsOf}
+use Rattle.records.specs.Said.{toldProperties}
+use Rattle.tables.specs.Property.{placeOf}
+use Rattle.properties.specs.Block.{propsRow}
 use Rattle.properties.proofs.Laws.Fold.{FillingBy, leftFrom, filling-start, filling-next, read-ahead, filled-bad, filled-end}
-use Rattle.properties.proofs.puback_block.fill.Statement.{statement}
-use Rattle.properties.proofs.puback_block.fill.Tie as tie
+use Rattle.properties.proofs.place_block.fill.Statement.{statement}
+use Rattle.properties.proofs.place_block.fill.Tie as tie
 
 abbrev Inv-loop : tie.InvT-loop
-Inv-loop = FillingBy ackRow toldPubAckProperties
+Inv-loop place = FillingBy (propsRow (placeOf place)) toldProperties
 
 abbrev μ-loop : tie.MeasureT-loop
-μ-loop = leftFrom
+μ-loop place = leftFrom
 
 loop-holds : tie.Need-loop-holds Inv-loop μ-loop
 loop-holds c = filling-start _ _ _ _
@@ -42,13 +43,13 @@ enum-known-e : tie.Need-enum-known-e Inv-loop μ-loop
 enum-known-e c = search needs
 
 returns : tie.Need-returns Inv-loop μ-loop
-unfolding ackProps lastOf
+unfolding propsOf lastOf
 returns c =
     let b = c .before .before .before in
     filled-bad _ refl (b .before .before .loop .inv) (b .before .loop-test .taken) (b .read-property .ensures) (c .before .e .given .1)
 
 returns-2 : tie.Need-returns-2 Inv-loop μ-loop
-unfolding ackProps lastOf
+unfolding propsOf lastOf
 returns-2 c = filled-end _ refl (c .before .loop .inv) (c .loop-test .left)
 
 pub fill-spec : {M : Type 1} → statement M

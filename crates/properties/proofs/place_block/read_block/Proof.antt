@@ -1,15 +1,16 @@
--- `properties::puback_block::read_puback_block` meets its contract: the room of the block is what `read_room` found; with no byte in it the block is absent,
+-- `properties::place_block::read_block` meets its contract: the room of the block is what `read_room` found; with no byte in it the block is absent,
 -- else it is what `fill` makes of the slice that ends with it. Assumes nothing.
 use mathlib.Core.Path.{sym, _∙_}
 use native.Mathlib.Omega.{arith}
 use lib.Seq.{length-take-le}
 use borrow.Author.Needs.{needs}
 use denote.Ref.{now}
-use Rattle.properties.specs.Block.{ackRow}
-use Rattle.properties.proofs.Laws.Fold.{ack-lawful}
+use Rattle.tables.specs.Property.{placeOf}
+use Rattle.properties.specs.Block.{propsRow}
+use Rattle.properties.proofs.Laws.Fold.{props-lawful}
 use Rattle.properties.proofs.Laws.Block.{room-inside, block-bad, block-absent, block-present}
-use Rattle.properties.proofs.puback_block.read_puback_block.Statement.{statement}
-use Rattle.properties.proofs.puback_block.read_puback_block.Tie as tie
+use Rattle.properties.proofs.place_block.read_block.Statement.{statement}
+use Rattle.properties.proofs.place_block.read_block.Tie as tie
 
 read-room-requires : tie.Need-read-room-requires
 read-room-requires c κs = search needs
@@ -23,7 +24,7 @@ enum-known-block c = search needs
 returns : tie.Need-returns
 returns c =
     let a = c .before .before .before .before .before .before .before .args in
-    block-absent (now (a .s)) (a .at) ack-lawful (rw (c .before .before .before .block .given .1) at (c .before .before .before .before .before .read-room .ensures)) (c .if1 .taken)
+    block-absent (now (a .s)) (a .at) (props-lawful (placeOf (a .place))) (rw (c .before .before .before .block .given .1) at (c .before .before .before .before .before .read-room .ensures)) (c .if1 .taken)
 
 slice-aggregate-fill : tie.Need-slice-aggregate-fill
 slice-aggregate-fill c =
@@ -36,13 +37,13 @@ fill-requires c κs = search needs
 returns-2 : tie.Need-returns-2
 returns-2 c =
     let a = c .before .before .before .before .before .args in
-    block-bad (now (a .s)) (a .at) ackRow (rw (c .before .e .given .1) at (c .before .before .before .read-room .ensures))
+    block-bad (now (a .s)) (a .at) (propsRow (placeOf (a .place))) (rw (c .before .e .given .1) at (c .before .before .before .read-room .ensures))
 
 returns-3 : tie.Need-returns-3
-returns-3 c = c .fill .ensures ∙ block-present _ _ ack-lawful (rw (c .before .before .before .before .before .block .given .1) at (c .before .before .before .before .before .before .before .read-room .ensures)) (c .before .before .if1 .left)
+returns-3 c = c .fill .ensures ∙ block-present _ _ (props-lawful _) (rw (c .before .before .before .before .before .block .given .1) at (c .before .before .before .before .before .before .before .read-room .ensures)) (c .before .before .if1 .left)
 
-pub read-puback-block-spec : {M : Type 1} → statement M
-read-puback-block-spec =
+pub read-block-spec : {M : Type 1} → statement M
+read-block-spec =
     tie.close
     (tie.spec
     read-room-requires
