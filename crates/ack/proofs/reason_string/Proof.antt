@@ -1,9 +1,9 @@
--- `puback::reason_string` is right since the place is the one that `reason_place` finds, and `part_if` gives what is held there. Assumes nothing.
+-- `ack::reason_string` is right since the place is the one that `reason_place` finds, and `part_if` gives what is held there. Assumes nothing.
 use mathlib.Core.Path.{ap, _∙_}
 use borrow.Author.Needs.{needs}
 use Rattle.wire.specs.Told.{stringIf}
-use Rattle.puback.proofs.reason_string.Statement.{statement}
-use Rattle.puback.proofs.reason_string.Tie as tie
+use Rattle.ack.proofs.reason_string.Statement.{statement}
+use Rattle.ack.proofs.reason_string.Tie as tie
 
 reason-place-requires : tie.Need-reason-place-requires
 reason-place-requires c κs = search needs
