@@ -6,13 +6,13 @@ use lib.ListN.{length, replicate, length-replicate}
 use Rattle.grammar.specs.Gram.{Gram, Solid}
 use Rattle.grammar.specs.Tables.{Place}
 use Rattle.reading.specs.Reader.{Reader}
-use Rattle.reading.specs.Read.{asBytes, propertyOf, filterOf}
+use Rattle.reading.specs.Read.{asBytes, textOf, propertyOf, filterOf, reasonOf}
 use Rattle.reading.specs.Place.{asPlaces}
-use Rattle.reading.proofs.Reading.{Reads, less}
-use Rattle.reading.proofs.Fields.{reads-property, property-solid}
-use Rattle.reading.proofs.Packets.{reads-filter, filter-solid}
-use Rattle.reading.proofs.Forget.{like-got, Stands, Forgets}
-use Rattle.reading.proofs.Places.{property-says, filter-says}
+use Rattle.reading.proofs.Reading.{Reads, less, reads-only}
+use Rattle.reading.proofs.Fields.{reads-byte, reads-text, reads-property, property-solid}
+use Rattle.reading.proofs.Packets.{reads-filter, filter-solid, reason-solid, text-solid}
+use Rattle.reading.proofs.Forget.{like-got, Stands, Forgets, forgets-same}
+use Rattle.reading.proofs.Places.{text-says, property-says, filter-says}
 use Rattle.positions.proofs.Walk.{Less}
 
 -- some stream in which l stands
@@ -34,3 +34,9 @@ property-less place end = placed-less end (propertyOf asPlaces place end) (prope
 
 pub filter-less : (end : ℕ) → Less end (filterOf asPlaces end)
 filter-less end = placed-less end (filterOf asPlaces end) (filterOf asBytes end) (λ s. filter-says s end) (reads-filter end) filter-solid
+
+pub text-less : (end : ℕ) → Less end (textOf asPlaces end)
+text-less end = placed-less end (textOf asPlaces end) (textOf asBytes end) (λ s. text-says s end) (reads-text end) text-solid
+
+pub reason-less : (rs : List ℕ) (end : ℕ) → Less end (reasonOf rs)
+reason-less rs end = placed-less end (reasonOf rs) (reasonOf rs) (λ s. forgets-same (reasonOf rs)) (reads-only _ _ (reads-byte _)) (reason-solid rs)

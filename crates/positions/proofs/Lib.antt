@@ -6,3 +6,5 @@ pub mod Trails
 pub mod Position
 pub mod Fill
 pub mod Run
+pub mod Runs
+pub mod Listed

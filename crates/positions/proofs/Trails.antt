@@ -14,7 +14,7 @@ use Rattle.grammar.specs.Record.{num, str, PropOf, mkFilter}
 use Rattle.grammar.specs.Sentence.{duoOf}
 use Rattle.reading.specs.Refusal.{Refusal, cut}
 use Rattle.reading.specs.Reader.{got, Reader, Filler, mapOf, onlyOf, thenOf, sizedOf}
-use Rattle.reading.specs.Read.{bigOf, byteOf, numOf, Shape, bytesOf, textOf, valueOf, valueAt, propertyOf, blockOf, filterOf}
+use Rattle.reading.specs.Read.{bigOf, byteOf, numOf, Shape, bytesOf, textOf, valueOf, valueAt, propertyOf, blockOf, filterOf, reasonOf}
 use Rattle.reading.proofs.Reading.{bad-got, from-got, from-bind, from-guard, Reads}
 use Rattle.reading.proofs.Fields.{reads-byte, reads-big, reads-num}
 
@@ -104,3 +104,6 @@ module _ (h : Shape) (end : ℕ) where
   pub trails-filter : Trails (filterOf h end)
   unfolding filterOf
   trails-filter = trails-map (trails-then trails-text (λ _. trails-only (trails-only (trails-byte cut) _ _) _ _)) mkFilter
+
+pub trails-reason : (rs : List ℕ) → Trails (reasonOf rs)
+trails-reason rs = trails-only (trails-byte cut) _ _

@@ -100,7 +100,7 @@ module _ (s : List ℕ) where
   unfolding bytesOf
   bytes-says end = forgets-sized (string-says anyBytes cut) end crossed (reads-big cut 2)
 
-  text-says : (end : ℕ) → Forgets s end (Via (heldOf s)) (textOf asPlaces end) (textOf asBytes end)
+  pub text-says : (end : ℕ) → Forgets s end (Via (heldOf s)) (textOf asPlaces end) (textOf asBytes end)
   unfolding textOf
   text-says end = forgets-sized (string-says isText (nr 9 [])) end crossed (reads-big cut 2)
 

@@ -101,9 +101,13 @@ bodyAnswer n (bad k) = refusedAs k n
 abbrev pub someFit : {A : Type 0} → Reader A → Filler (List A)
 someFit p = onlyFit someOf (nr 13 []) (manyFit p)
 
--- 02, P1: "an unlisted reason 15"; each byte a reason of rs
+-- 02, P1: "an unlisted reason 15"
+abbrev pub reasonOf : List ℕ → Reader ℕ
+reasonOf rs = onlyOf (λ c. isIn c rs) (λ c. nr 15 (c ∷ [])) (byteOf cut)
+
+-- 02, P1: the reasons of a SubAck or UnsubAck, each of rs
 unfoldable pub reasonsFit : List ℕ → ℕ → Filler (List ℕ)
-reasonsFit rs end = someFit (onlyOf (λ c. isIn c rs) (λ c. nr 15 (c ∷ [])) (byteOf cut))
+reasonsFit rs end = someFit (reasonOf rs)
 
 module _ (h : Shape) where
   -- ---- strings
