@@ -1,16 +1,14 @@
--- A run of filters is what a loop over them passes; the n-th is the one whose turn is n. Assumes nothing.
+-- The n-th filter of a run is the one whose turn is n. Assumes nothing.
 use mathlib.Core.Path.{_≡_, refl, sym, _∙_}
-use mathlib.Core.Bool.{true}
 use mathlib.Core.List.{List, [], _∷_, _++_}
-use Prim.Native.Nat.{ℕ, _+_, _-_, _≤_, _<_}
+use Prim.Native.Nat.{ℕ, _+_, _≤_, _<_}
 use native.Mathlib.Omega.{arith}
-use lib.ListN.{length, take, drop, length-append, length-drop, drop-of-length-le}
+use lib.ListN.{length, take, drop, length-append}
 use lib.Seq.{length-take-le}
 use borrow.Author.Tests.{le-leb, lt-leb}
 use Rattle.grammar.specs.Record.{Filter}
-use Rattle.grammar.specs.Sentence.{someOf}
-use Rattle.reading.specs.Refusal.{Refusal, nr}
-use Rattle.reading.specs.Reader.{Fit, got, bad, handFit, onlyFit, runFit, chainFit, manyFit}
+use Rattle.reading.specs.Refusal.{Refusal}
+use Rattle.reading.specs.Reader.{Fit, got, bad, onlyFit, manyFit}
 use Rattle.reading.specs.Read.{filterOf, filtersFit}
 use Rattle.reading.specs.Place.{Span, asPlaces, noItem, again, nthOf, filterAt}
 use Rattle.positions.specs.Position.{fromAt}
@@ -24,55 +22,7 @@ use Rattle.records.specs.declared.answer.FilterItem.{FilterItem}
 use Rattle.records.specs.declared.answer.FilterItem.the-variants.{NoItem}
 use Rattle.records.specs.declared.subscribe_record.Filter as said
 use Rattle.filters.proofs.Laws.{filter-ahead}
-use Rattle.filter_runs.specs.Told.{placeFit, chosen, nthFit}
-
--- ---- a run
-
--- the filters passed from `at` to i
-pub record Going (s : List ℕ) (at i : ℕ) : Type 0 where
-  pub filters : List (Filter Span)
-  pub passed : Passed (filterOf asPlaces (length s)) s at i filters
-  pub some : at < i → someOf filters ≡ true
-
--- behind any items there is one
-some-behind : {A : Type 0} (vs : List A) (v : A) → someOf (vs ++ (v ∷ [])) ≡ true
-some-behind [] v = refl
-some-behind (a ∷ vs) v = refl
-
-module _ (s : List ℕ) (at : ℕ) where
-  abbrev run : Fit (List (Filter Span))
-  run = manyFit (filterOf asPlaces (length s)) (drop at s)
-
-  pub run-empty : length s ≤ at → bad (nr 13 []) ≡ placeFit (length s) (drop at s)
-  unfolding handFit filtersFit onlyFit chainFit runFit
-  run-empty h = rw (drop-of-length-le s h)
-
-  run-bad : {k : Refusal} → run ≡ bad k → bad k ≡ placeFit (length s) (drop at s)
-  unfolding handFit filtersFit onlyFit
-  run-bad e = rw e
-
-  run-got : {vs : List (Filter Span)} → run ≡ got vs → someOf vs ≡ true → at ≤ length s → got (record { start = at; len = length s - at }) ≡ placeFit (length s) (drop at s)
-  unfolding handFit filtersFit onlyFit
-  run-got e f h =
-      let n : length s - (length s - at) ≡ at = omega arith in
-      rw (e, f, length-drop at s, n)
-
-  pub going-start : Going s at at
-  going-start = record { filters = []; passed = none-passed s (filter-less (length s)) at; some = λ h. absurd (omega arith) }
-
-module _ {s : List ℕ} {at i : ℕ} (G : Going s at i) where
-  pub going-bad : i < length s → {k : Refusal} → bad k ≡ fromAt (filterOf asPlaces (length s)) s i → bad k ≡ placeFit (length s) (drop at s)
-  going-bad h {k = k} e = run-bad s at (passed-bad s (filter-less (length s)) (G .passed) h k (sym e))
-
-  pub going-next : i < length s → {v : Filter Span} {m : ℕ} → got (v, m) ≡ fromAt (filterOf asPlaces (length s)) s i → Going s at m
-  going-next h {v = v} e = record {
-    filters = G .filters ++ (v ∷ []);
-    passed = passed-next s (filter-less (length s)) (G .passed) (trails-filter asPlaces (length s)) h (sym e);
-    some = λ _. some-behind (G .filters) v;
-  }
-
-  pub going-end : at < length s → length s ≤ i → got (record { start = at; len = length s - at }) ≡ placeFit (length s) (drop at s)
-  going-end h o = run-got s at (passed-end s (filter-less (length s)) (G .passed) o) (G .some (omega arith)) (omega arith)
+use Rattle.filter_runs.specs.Told.{chosen, nthFit}
 
 -- ---- the n-th filter
 

@@ -5,10 +5,11 @@ use mathlib.Core.List.{List}
 use Prim.Native.Nat.{ℕ}
 use lib.Dec.{eqb}
 use Rattle.grammar.specs.Record as record-of
-use Rattle.reading.specs.Reader.{Fit, got, bad, Filler, _>>=_, handFit}
-use Rattle.reading.specs.Read.{filtersFit}
+use Rattle.reading.specs.Reader.{Fit, got, bad, Filler, _>>=_}
+use Rattle.reading.specs.Read.{filterOf, filtersFit}
 use Rattle.reading.specs.Place.{asPlaces, orNoItem, nthOf, filterAt}
 use Rattle.reading.specs.Place as place
+use Rattle.positions.specs.Position.{placedRun}
 use Rattle.records.specs.Told.{toldError, toldSpan}
 use Rattle.records.specs.Said.{toldFilter}
 use Rattle.records.specs.Answered.{toldFilterItem}
@@ -24,7 +25,7 @@ toldGotFilters (GotFilters.Refused e) = bad (toldError e)
 
 -- 01, grammar, Subscribe: "one or more filters to the end", handed back as their place: the last part of `fieldsFit` at a Subscribe
 abbrev pub placeFit : ℕ → Filler place.Span
-placeFit = handFit (λ vs. asPlaces .run (record-of.Filter place.Span) vs) (filtersFit asPlaces)
+placeFit end = placedRun (filterOf asPlaces end) end
 
 -- the filter f at its turn, else what was there
 abbrev pub chosen : FilterItem → Filter → ℕ → ℕ → Fit (record-of.Filter place.Span)

@@ -3,10 +3,11 @@ use filter_runs::GotFilters;
 use filter_runs::read_filters;
 use numbers::fixed;
 use numbers::got::GotU16;
-use properties::subscribe_block;
-use properties::subscribe_block::GotSubscribeBlock;
+use properties::place_block;
+use properties::place_block::GotBlock;
 use records::error::Error;
 use records::subscribe_record::Subscribe;
+use tables::property::PropertyPlace;
 ghost use mathlib.Core.Path.{_≡_};
 ghost use Prim.Native.Nat.{ℕ};
 ghost use lib.ListN.{length, drop};
@@ -26,9 +27,9 @@ pub fn read(s: &[u8], at: usize) -> GotSubscribe
 {
     match fixed::read_u16(s, at) {
         GotU16::Refused(e) => GotSubscribe::Refused(e),
-        GotU16::Value(pkid, next) => match subscribe_block::read_subscribe_block(s, next) {
-            GotSubscribeBlock::Refused(e) => GotSubscribe::Refused(e),
-            GotSubscribeBlock::Value(properties, start) => match read_filters(s, start) {
+        GotU16::Value(pkid, next) => match place_block::read_block(PropertyPlace::Subscribe, s, next) {
+            GotBlock::Refused(e) => GotSubscribe::Refused(e),
+            GotBlock::Value(properties, start) => match read_filters(s, start) {
                 GotFilters::Refused(e) => GotSubscribe::Refused(e),
                 GotFilters::Place(filters) => GotSubscribe::Value(Subscribe {
                     pkid,

@@ -5,21 +5,25 @@ use borrow.Author.Needs.{needs}
 use lib.ListN.{length}
 use denote.Ref.{now}
 use Rattle.filters.proofs.Laws.{filter-ahead}
-use Rattle.filter_runs.proofs.Laws.{run-empty, Going, going-start, going-bad, going-next, going-end}
+use Rattle.positions.proofs.Less.{filter-less}
+use Rattle.positions.proofs.Trails.{trails-filter}
+use Rattle.positions.proofs.Runs.{run-empty, Going, going-start, going-bad, going-next, going-end}
+use Rattle.reading.specs.Read.{filterOf}
+use Rattle.reading.specs.Place.{asPlaces}
 use Rattle.filter_runs.proofs.read_filters.Statement.{statement}
 use Rattle.filter_runs.proofs.read_filters.Tie as tie
 
 abbrev Inv-loop : tie.InvT-loop
-Inv-loop s at i₀ i = Going s at i
+Inv-loop s at i₀ i = Going (filterOf asPlaces (length s)) s at i
 
 abbrev μ-loop : tie.MeasureT-loop
 μ-loop s at i₀ i = length s - i
 
 returns : tie.Need-returns Inv-loop μ-loop
-returns c = run-empty (now (c .before .before .args .s)) (c .before .before .args .at) (omega arith)
+returns c = run-empty _ (now (c .before .before .args .s)) (c .before .before .args .at) (omega arith)
 
 loop-holds : tie.Need-loop-holds Inv-loop μ-loop
-loop-holds c = going-start (now (c .before .before .args .s)) (c .before .before .args .at)
+loop-holds c = going-start (now (c .before .before .args .s)) (filter-less _) (c .before .before .args .at)
 
 read-filter-requires : tie.Need-read-filter-requires Inv-loop μ-loop
 read-filter-requires c κs = search needs
@@ -28,7 +32,7 @@ enum-known-e : tie.Need-enum-known-e Inv-loop μ-loop
 enum-known-e c = search needs
 
 returns-2 : tie.Need-returns-2 Inv-loop μ-loop
-returns-2 c = going-bad (c .before .before .before .before .before .loop .inv) (c .before .before .before .before .loop-test .taken) (rw (c .before .e .given .1) at (c .before .before .before .read-filter .ensures))
+returns-2 c = going-bad _ (filter-less _) (c .before .before .before .before .before .loop .inv) (c .before .before .before .before .loop-test .taken) (rw (c .before .e .given .1) at (c .before .before .before .read-filter .ensures))
 
 enum-known-next : tie.Need-enum-known-next Inv-loop μ-loop
 enum-known-next c = search needs
@@ -39,13 +43,13 @@ loop-less c =
     omega (arith, h)
 
 loop-again : tie.Need-loop-again Inv-loop μ-loop
-loop-again c = going-next (c .before .before .before .before .before .loop .inv) (c .before .before .before .before .loop-test .taken) (rw (c .before .next .given .1) at (c .before .before .before .read-filter .ensures))
+loop-again c = going-next _ (filter-less _) (c .before .before .before .before .before .loop .inv) (trails-filter asPlaces _) (c .before .before .before .before .loop-test .taken) (rw (c .before .next .given .1) at (c .before .before .before .read-filter .ensures))
 
 sub-len : tie.Need-sub-len Inv-loop μ-loop
 sub-len c = omega arith
 
 returns-3 : tie.Need-returns-3 Inv-loop μ-loop
-returns-3 c = going-end (c .before .loop .inv) (omega arith) (omega arith)
+returns-3 c = going-end _ (filter-less _) (c .before .loop .inv) (omega arith) (omega arith)
 
 pub read-filters-spec : {M : Type 1} → statement M
 read-filters-spec =
