@@ -6,14 +6,14 @@ use Prim.Native.Nat.{ℕ, _+_}
 use lib.Dec.{leb}
 use lib.ListN.{length}
 use Rattle.grammar.specs.Choice.{isIn, lookup}
-use Rattle.grammar.specs.Tables.{reasons, Layout, aPublish, anAck, aSubscribe, aPing, kinds, reserved}
+use Rattle.grammar.specs.Tables.{Layout, aPublish, anAck, aSubscribe, aReply, anUnsubscribe, aPing, kinds, reserved, reasonsOf}
 use Rattle.grammar.specs.Record.{kindOf}
 use Rattle.reading.specs.Refusal.{nr, missing, within, over}
 use Rattle.reading.specs.Reader.{Fit, got, bad, _>>_, guard, Reader, thenOf}
 use Rattle.reading.specs.Read.{byteOf, numOf, frameOf}
 use Rattle.reading.specs.Place.{partOf}
 use Rattle.positions.specs.Position.{fromAt}
-use Rattle.records.specs.Told.{toldError}
+use Rattle.records.specs.Told.{toldError, toldAckKind, toldReplyKind}
 use Rattle.framing.specs.declared.check.Checked.{Checked}
 use Rattle.framing.specs.declared.check.Checked.the-variants.{Header, Refused}
 use Rattle.framing.specs.declared.header.FixedHeader.{FixedHeader}
@@ -25,8 +25,10 @@ use Rattle.framing.specs.declared.header.Kind.the-variants as kind
 -- the number of a kind, whether it is reserved (01, row 4), and the layout of a kind that is carried
 abbrev pub toldKind : Kind → ℕ × Bool × Option Layout
 toldKind kind.Publish = (3, false, some aPublish)
-toldKind kind.PubAck = (4, false, some (anAck reasons))
+toldKind (kind.Ack k) = (toldAckKind k, false, some (anAck (reasonsOf (toldAckKind k))))
 toldKind kind.Subscribe = (8, false, some aSubscribe)
+toldKind (kind.Reply k) = (toldReplyKind k, false, some (aReply (reasonsOf (toldReplyKind k))))
+toldKind kind.Unsubscribe = (10, false, some anUnsubscribe)
 toldKind kind.PingReq = (12, false, some aPing)
 toldKind kind.PingResp = (13, false, some aPing)
 toldKind (kind.Reserved k) = (k, true, none)

@@ -1,4 +1,6 @@
 // The fixed header and the kind that it names, after `FixedHeader` of v5/mod.rs. Any three numbers may be handed over as a header.
+use records::ack_record::AckKind;
+use records::reply_record::ReplyKind;
 ghost use mathlib.Core.Path.{_≡_};
 ghost use Prim.Native.Nat.{_+_, min};
 ghost use Rattle.framing.specs.Told.{toldKind, kindAt};
@@ -14,8 +16,10 @@ pub struct FixedHeader {
 
 pub enum Kind {
     Publish,
-    PubAck,
+    Ack(AckKind),
     Subscribe,
+    Reply(ReplyKind),
+    Unsubscribe,
     PingReq,
     PingResp,
     // 0 or 15
@@ -32,12 +36,18 @@ impl FixedHeader {
         let num = self.byte1 / 16;
         match num {
             3 => Kind::Publish,
-            4 => Kind::PubAck,
+            4 => Kind::Ack(AckKind::PubAck),
+            5 => Kind::Ack(AckKind::PubRec),
+            6 => Kind::Ack(AckKind::PubRel),
+            7 => Kind::Ack(AckKind::PubComp),
             8 => Kind::Subscribe,
+            9 => Kind::Reply(ReplyKind::SubAck),
+            10 => Kind::Unsubscribe,
+            11 => Kind::Reply(ReplyKind::UnsubAck),
             12 => Kind::PingReq,
             13 => Kind::PingResp,
             0 | 15 => Kind::Reserved(num),
-            1..=2 | 5..=7 | 9..=11 | 14 | 16..=255 => Kind::NotCarried(num),
+            1..=2 | 14 | 16..=255 => Kind::NotCarried(num),
         }
     }
 

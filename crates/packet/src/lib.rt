@@ -1,25 +1,29 @@
 // The next packet of a stream, after `Packet::read` of v5/mod.rs: the frame, then 4, 5 and 6 in order, then the fields of its kind.
+use ack::GotAck;
 use framing::check;
 use framing::check::Checked;
 use framing::header::FixedHeader;
 use framing::header::Kind;
-use puback::GotPubAck;
 use publish::GotPublish;
+use records::ack_record::AckKind;
 use records::answer::Limit;
 use records::answer::Read;
 use records::error::Error;
 use records::packet_record::Packet;
+use records::reply_record::ReplyKind;
+use reply::GotReply;
 use subscribe::GotSubscribe;
+use unsubscribe::GotUnsubscribe;
 ghost use mathlib.Core.Path.{_≡_};
 ghost use mathlib.Core.List.{[]};
 ghost use Prim.Native.Nat.{ℕ, _≤_};
 ghost use lib.ListN.{length, drop};
-ghost use Rattle.grammar.specs.Tables.{aPublish, aSubscribe, anAck, reasons};
+ghost use Rattle.grammar.specs.Tables.{aPublish, aSubscribe, anAck, aReply, anUnsubscribe, reasonsOf};
 ghost use Rattle.grammar.specs.Record.{ping, kindOf};
 ghost use Rattle.reading.specs.Reader.{got};
 ghost use Rattle.reading.specs.Read.{fieldsFit, bodyFit, bodyAnswer, wholeAnswer};
 ghost use Rattle.reading.specs.Place.{asPlaces};
-ghost use Rattle.records.specs.Told.{limitOf};
+ghost use Rattle.records.specs.Told.{limitOf, toldAckKind, toldReplyKind};
 ghost use Rattle.records.specs.Answered.{told};
 ghost use Rattle.packet.specs.Told.{Meets, takenIn, Judged};
 
@@ -34,12 +38,30 @@ fn read_publish(s: &[u8], at: usize, byte1: u8) -> Read
     }
 }
 
-fn read_puback(s: &[u8], at: usize) -> Read
-    ensures { λ r. ⌜ ((x : ℕ) → kindOf x ≡ 4 → told r ≡ bodyAnswer (length (now (s .entry))) (fieldsFit asPlaces (anAck reasons) x (length (now (s .entry))) (drop at (now (s .entry))))) ⌝ }
+fn read_ack(kind: AckKind, s: &[u8], at: usize) -> Read
+    ensures { λ r. ⌜ ((x : ℕ) → kindOf x ≡ toldAckKind kind → told r ≡ bodyAnswer (length (now (s .entry))) (fieldsFit asPlaces (anAck (reasonsOf (toldAckKind kind))) x (length (now (s .entry))) (drop at (now (s .entry))))) ⌝ }
 {
-    match puback::read(s, at) {
-        GotPubAck::Value(m) => return Read::Packet(Packet::PubAck(m), s.len()),
-        GotPubAck::Refused(e) => return Read::Refused(e, s.len()),
+    match ack::read(kind, s, at) {
+        GotAck::Value(m) => return Read::Packet(Packet::Ack(kind, m), s.len()),
+        GotAck::Refused(e) => return Read::Refused(e, s.len()),
+    }
+}
+
+fn read_reply(kind: ReplyKind, s: &[u8], at: usize) -> Read
+    ensures { λ r. ⌜ ((x : ℕ) → kindOf x ≡ toldReplyKind kind → told r ≡ bodyAnswer (length (now (s .entry))) (fieldsFit asPlaces (aReply (reasonsOf (toldReplyKind kind))) x (length (now (s .entry))) (drop at (now (s .entry))))) ⌝ }
+{
+    match reply::read(kind, s, at) {
+        GotReply::Value(m) => return Read::Packet(Packet::Reply(kind, m), s.len()),
+        GotReply::Refused(e) => return Read::Refused(e, s.len()),
+    }
+}
+
+fn read_unsubscribe(s: &[u8], at: usize) -> Read
+    ensures { λ r. ⌜ ((x : ℕ) → told r ≡ bodyAnswer (length (now (s .entry))) (fieldsFit asPlaces anUnsubscribe x (length (now (s .entry))) (drop at (now (s .entry))))) ⌝ }
+{
+    match unsubscribe::read(s, at) {
+        GotUnsubscribe::Value(m) => return Read::Packet(Packet::Unsubscribe(m), s.len()),
+        GotUnsubscribe::Refused(e) => return Read::Refused(e, s.len()),
     }
 }
 
@@ -74,8 +96,10 @@ fn read_empty(h: FixedHeader, taken: usize) -> Read
         Kind::PingReq => return ping_req(taken),
         Kind::PingResp => return ping_resp(taken),
         Kind::Publish => {}
-        Kind::PubAck => {}
+        Kind::Ack(_) => {}
         Kind::Subscribe => {}
+        Kind::Reply(_) => {}
+        Kind::Unsubscribe => {}
         Kind::NotCarried(_) => {}
     }
     Read::Refused(Error::PayloadRequired, taken)
@@ -93,8 +117,10 @@ fn read_frame(s: &[u8], h: FixedHeader) -> Read
         Kind::Reserved(k) => return Read::Refused(Error::InvalidPacketType(k), s.len()),
         Kind::NotCarried(k) => return Read::Refused(Error::KindNotCarried(k), s.len()),
         Kind::Publish => return read_publish(s, at, h.byte1),
-        Kind::PubAck => return read_puback(s, at),
+        Kind::Ack(k) => return read_ack(k, s, at),
         Kind::Subscribe => return read_subscribe(s, at),
+        Kind::Reply(k) => return read_reply(k, s, at),
+        Kind::Unsubscribe => return read_unsubscribe(s, at),
         Kind::PingReq => return ping_req(s.len()),
         Kind::PingResp => return ping_resp(s.len()),
     }

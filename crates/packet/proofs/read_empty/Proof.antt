@@ -63,6 +63,20 @@ returns-7 : tie.Need-returns-7
 unfolding bodyAnswer
 returns-7 c = λ end. ap (bodyAnswer _) (body-required _ end _ _ refl (rw (c .enum-told6 .given .1) at (c .before .before .packet-type .ensures)))
 
+enum-told-7 : tie.Need-enum-told-7
+enum-told-7 c = search needs
+
+returns-8 : tie.Need-returns-8
+unfolding bodyAnswer
+returns-8 c = λ end. ap (bodyAnswer _) (body-required _ end _ _ refl (rw (c .enum-told7 .given .1) at (c .before .before .packet-type .ensures)))
+
+enum-told-8 : tie.Need-enum-told-8
+enum-told-8 c = search needs
+
+returns-9 : tie.Need-returns-9
+unfolding bodyAnswer
+returns-9 c = λ end. ap (bodyAnswer _) (body-required _ end _ _ refl (rw (c .enum-told8 .given .1) at (c .before .before .packet-type .ensures)))
+
 pub read-empty-spec : {M : Type 1} → statement M
 read-empty-spec =
     tie.close
@@ -80,7 +94,11 @@ read-empty-spec =
     enum-told-4
     enum-told-5
     enum-told-6
+    enum-told-7
+    enum-told-8
     returns-4
     returns-5
     returns-6
-    returns-7)
+    returns-7
+    returns-8
+    returns-9)

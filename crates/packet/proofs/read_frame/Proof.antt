@@ -41,25 +41,45 @@ read-publish-requires c κs = search needs
 returns-4 : tie.Need-returns-4
 returns-4 c = c .read-publish .ensures ∙ whole-as _ _ _ (body-fields _ _ _ (left-some _ _ (c .before .before .before .before .if1 .left)) _ _ (rw (c .before .enum-told .given .1) at (c .before .before .before .packet-type .ensures)))
 
-enum-told-2 : tie.Need-enum-told-2
-enum-told-2 c = search needs
+enum-known-k-3 : tie.Need-enum-known-k-3
+enum-known-k-3 c = search needs
 
-read-puback-requires : tie.Need-read-puback-requires
-read-puback-requires c κs = search needs
+read-ack-requires : tie.Need-read-ack-requires
+read-ack-requires c κs = search needs
 
 returns-5 : tie.Need-returns-5
 returns-5 c =
-    let e = (rw (c .before .enum-told2 .given .1) at (c .before .before .before .packet-type .ensures)) in
-    c .read-puback .ensures _ (sym (ap (λ z. z .0) e)) ∙ whole-as _ _ _ (body-fields _ _ _ (left-some _ _ (c .before .before .before .before .if1 .left)) _ _ e)
+    let e = (rw (c .before .before .k3 .given .1) at (c .before .before .before .before .packet-type .ensures)) in
+    c .read-ack .ensures _ (sym (ap (λ z. z .0) e)) ∙ whole-as _ _ _ (body-fields _ _ _ (left-some _ _ (c .before .before .before .before .before .if1 .left)) _ _ e)
 
-enum-told-3 : tie.Need-enum-told-3
-enum-told-3 c = search needs
+enum-told-2 : tie.Need-enum-told-2
+enum-told-2 c = search needs
 
 read-subscribe-requires : tie.Need-read-subscribe-requires
 read-subscribe-requires c κs = search needs
 
 returns-6 : tie.Need-returns-6
-returns-6 c = c .read-subscribe .ensures _ ∙ whole-as _ _ _ (body-fields _ _ _ (left-some _ _ (c .before .before .before .before .if1 .left)) _ _ (rw (c .before .enum-told3 .given .1) at (c .before .before .before .packet-type .ensures)))
+returns-6 c = c .read-subscribe .ensures _ ∙ whole-as _ _ _ (body-fields _ _ _ (left-some _ _ (c .before .before .before .before .if1 .left)) _ _ (rw (c .before .enum-told2 .given .1) at (c .before .before .before .packet-type .ensures)))
+
+enum-known-k-4 : tie.Need-enum-known-k-4
+enum-known-k-4 c = search needs
+
+read-reply-requires : tie.Need-read-reply-requires
+read-reply-requires c κs = search needs
+
+returns-7 : tie.Need-returns-7
+returns-7 c =
+    let e = (rw (c .before .before .k4 .given .1) at (c .before .before .before .before .packet-type .ensures)) in
+    c .read-reply .ensures _ (sym (ap (λ z. z .0) e)) ∙ whole-as _ _ _ (body-fields _ _ _ (left-some _ _ (c .before .before .before .before .before .if1 .left)) _ _ e)
+
+enum-told-3 : tie.Need-enum-told-3
+enum-told-3 c = search needs
+
+read-unsubscribe-requires : tie.Need-read-unsubscribe-requires
+read-unsubscribe-requires c κs = search needs
+
+returns-8 : tie.Need-returns-8
+returns-8 c = c .read-unsubscribe .ensures _ ∙ whole-as _ _ _ (body-fields _ _ _ (left-some _ _ (c .before .before .before .before .if1 .left)) _ _ (rw (c .before .enum-told3 .given .1) at (c .before .before .before .packet-type .ensures)))
 
 enum-told-4 : tie.Need-enum-told-4
 enum-told-4 c = search needs
@@ -67,8 +87,8 @@ enum-told-4 c = search needs
 ping-req-requires : tie.Need-ping-req-requires
 ping-req-requires c κs = search needs
 
-returns-7 : tie.Need-returns-7
-returns-7 c = c .ping-req .ensures ∙ whole-as _ _ _ (body-ping _ _ _ _ (rw (c .before .enum-told4 .given .1) at (c .before .before .before .packet-type .ensures)))
+returns-9 : tie.Need-returns-9
+returns-9 c = c .ping-req .ensures ∙ whole-as _ _ _ (body-ping _ _ _ _ (rw (c .before .enum-told4 .given .1) at (c .before .before .before .packet-type .ensures)))
 
 enum-told-5 : tie.Need-enum-told-5
 enum-told-5 c = search needs
@@ -76,8 +96,8 @@ enum-told-5 c = search needs
 ping-resp-requires : tie.Need-ping-resp-requires
 ping-resp-requires c κs = search needs
 
-returns-8 : tie.Need-returns-8
-returns-8 c = c .ping-resp .ensures ∙ whole-as _ _ _ (body-ping _ _ _ _ (rw (c .before .enum-told5 .given .1) at (c .before .before .before .packet-type .ensures)))
+returns-10 : tie.Need-returns-10
+returns-10 c = c .ping-resp .ensures ∙ whole-as _ _ _ (body-ping _ _ _ _ (rw (c .before .enum-told5 .given .1) at (c .before .before .before .packet-type .ensures)))
 
 pub read-frame-spec : {M : Type 1} → statement M
 read-frame-spec =
@@ -93,15 +113,21 @@ read-frame-spec =
     enum-told
     read-publish-requires
     returns-4
-    enum-told-2
-    read-puback-requires
+    enum-known-k-3
+    read-ack-requires
     returns-5
-    enum-told-3
+    enum-told-2
     read-subscribe-requires
     returns-6
+    enum-known-k-4
+    read-reply-requires
+    returns-7
+    enum-told-3
+    read-unsubscribe-requires
+    returns-8
     enum-told-4
     ping-req-requires
-    returns-7
+    returns-9
     enum-told-5
     ping-resp-requires
-    returns-8)
+    returns-10)

@@ -1,9 +1,9 @@
--- `packet::read_puback` is right since record and refusal tell the same, and the frame is taken. Assumes nothing.
+-- `packet::read_reply` is right since record and refusal tell the same, and the frame is taken. Assumes nothing.
 use mathlib.Core.Path.{ap}
 use borrow.Author.Needs.{needs}
 use Rattle.reading.specs.Read.{bodyAnswer}
-use Rattle.packet.proofs.read_puback.Statement.{statement}
-use Rattle.packet.proofs.read_puback.Tie as tie
+use Rattle.packet.proofs.read_reply.Statement.{statement}
+use Rattle.packet.proofs.read_reply.Tie as tie
 
 read-requires : tie.Need-read-requires
 read-requires c κs = search needs
@@ -22,5 +22,5 @@ returns-2 : tie.Need-returns-2
 unfolding bodyAnswer
 returns-2 c = λ x h. ap (bodyAnswer _) (rw (c .before .e .given .1) at (c .before .before .before .read .ensures) x h)
 
-pub read-puback-spec : {M : Type 1} → statement M
-read-puback-spec = tie.close (tie.spec read-requires enum-known-m returns enum-known-e returns-2)
+pub read-reply-spec : {M : Type 1} → statement M
+read-reply-spec = tie.close (tie.spec read-requires enum-known-m returns enum-known-e returns-2)

@@ -1,0 +1,26 @@
+-- `packet::read_ack` is right since record and refusal tell the same, and the frame is taken. Assumes nothing.
+use mathlib.Core.Path.{ap}
+use borrow.Author.Needs.{needs}
+use Rattle.reading.specs.Read.{bodyAnswer}
+use Rattle.packet.proofs.read_ack.Statement.{statement}
+use Rattle.packet.proofs.read_ack.Tie as tie
+
+read-requires : tie.Need-read-requires
+read-requires c κs = search needs
+
+enum-known-m : tie.Need-enum-known-m
+enum-known-m c = search needs
+
+returns : tie.Need-returns
+unfolding bodyAnswer
+returns c = λ x h. ap (bodyAnswer _) (rw (c .before .m .given .1) at (c .before .before .before .read .ensures) x h)
+
+enum-known-e : tie.Need-enum-known-e
+enum-known-e c = search needs
+
+returns-2 : tie.Need-returns-2
+unfolding bodyAnswer
+returns-2 c = λ x h. ap (bodyAnswer _) (rw (c .before .e .given .1) at (c .before .before .before .read .ensures) x h)
+
+pub read-ack-spec : {M : Type 1} → statement M
+read-ack-spec = tie.close (tie.spec read-requires enum-known-m returns enum-known-e returns-2)

@@ -1,0 +1,27 @@
+-- `packet::read_unsubscribe` is right since record and refusal tell the same, and the frame is taken. Assumes nothing.
+use mathlib.Core.Path.{ap}
+use borrow.Author.Needs.{needs}
+use Rattle.reading.specs.Read.{bodyAnswer}
+use Rattle.packet.proofs.read_unsubscribe.Statement.{statement}
+use Rattle.packet.proofs.read_unsubscribe.Tie as tie
+
+read-requires : tie.Need-read-requires
+read-requires c κs = search needs
+
+enum-known-m : tie.Need-enum-known-m
+enum-known-m c = search needs
+
+returns : tie.Need-returns
+unfolding bodyAnswer
+returns c = λ x. ap (bodyAnswer _) (rw (c .before .m .given .1) at (c .before .before .before .read .ensures) x)
+
+enum-known-e : tie.Need-enum-known-e
+enum-known-e c = search needs
+
+returns-2 : tie.Need-returns-2
+unfolding bodyAnswer
+returns-2 c = λ x. ap (bodyAnswer _) (rw (c .before .e .given .1) at (c .before .before .before .read .ensures) x)
+
+pub read-unsubscribe-spec : {M : Type 1} → statement M
+read-unsubscribe-spec =
+    tie.close (tie.spec read-requires enum-known-m returns enum-known-e returns-2)
