@@ -27,7 +27,7 @@ use Rattle.records.specs.Told.{toldError}
 use Rattle.records.specs.declared.error.Error.{Error}
 use Rattle.tables.specs.Property.{placeOf}
 use Rattle.tables.specs.declared.property.PropertyPlace.{PropertyPlace}
-use Rattle.tables.specs.declared.property.PropertyPlace.the-variants.{Publish, Subscribe, PubAck}
+use Rattle.tables.specs.declared.property.PropertyPlace.the-variants.{Publish, Subscribe, Ack, Unsubscribe}
 use Rattle.property_value.specs.Told.{toldValue, formOf, PropertyRead}
 use Rattle.property_value.proofs.Laws.{property-left, property-ahead}
 use Rattle.property_value.specs.declared.Value.{Value}
@@ -167,4 +167,5 @@ pub user-form : (w : PropertyPlace) → some pair ≡ lookup (placeOf w) 38
 unfolding publishPlace subscribePlace ackPlace
 user-form Publish = refl
 user-form Subscribe = refl
-user-form PubAck = refl
+user-form Ack = refl
+user-form Unsubscribe = refl

@@ -1,0 +1,112 @@
+-- What is found of an acknowledgement, and its bytes. Assumes nothing.
+use mathlib.Core.Path.{_≡_, refl, sym, ap, _∙_}
+use mathlib.Core.Bool.{Bool, true, false, not, _&&_, and-true, cond}
+use mathlib.Core.List.{List, [], _∷_, _++_, append-nil}
+use Prim.Native.Nat.{ℕ, _+_, _≤_, _<_, min}
+use native.Mathlib.Omega.{arith}
+use lib.Dec.{eqb}
+use lib.ListN.{length}
+use lib.Seq.{sets}
+use Rattle.grammar.specs.Tables.{text, pair, ackPlace, reasonsOf}
+use Rattle.reading.specs.Reader.{Fit, got, _>>_}
+use Rattle.writing.specs.Lists.{flat}
+use Rattle.writing.specs.Handed.{AckHanded, ack, lent, pairs, ackGiven, rowBelongs, belongs}
+use Rattle.writing.specs.Size.{most, withLength, givenSize, propsSize, isPlain, restIs, cap}
+use Rattle.writing.specs.Spell.{wide, short, rowBytes, propsBytes}
+use Rattle.writing.specs.Order.{judge, word, code, fieldTests, givenFields}
+use Rattle.writing.specs.Write.{firstOf, firstByte, frameBytes}
+use Rattle.writing.proofs.ForCode.{judgeAll, judge-if, ack-belongs, ack-tests, ack-sum, ack-frame, cap-small, cap-length}
+use Rattle.writing.proofs.Pins.{ack-props}
+use Rattle.writing.proofs.Says.{length-wide}
+use Rattle.row_sizes.proofs.Laws.{cap-left, cap-last}
+use Rattle.row_puts.specs.Put.{Put}
+use Rattle.row_puts.proofs.Laws.{store-next, put-next, next-last}
+use Rattle.settle.specs.Found.{earlyOf, lateOf}
+use Rattle.settle.proofs.Laws.{early-fields}
+
+module _ (k : ℕ) (h : AckHanded) where
+  pub belong-all : {x y r : Bool} → x ≡ rowBelongs (h .block) (lent (h .text)) → y ≡ rowBelongs (h .block) (pairs (h .user)) → r ≡ (x && y) → r ≡ belongs (ack k h)
+  belong-all {y = y} e f g = sym (ack-belongs k h ∙ rw (← e, ← f, and-true y, ← g))
+
+  pub ack-length : (a b r : ℕ) → a ≡ cap (givenSize text (lent (h .text))) → b ≡ cap (givenSize pair (pairs (h .user))) → r ≡ cap (a + b) → r ≡ cap (propsSize ackPlace (ackGiven (h .text) (h .user)))
+  ack-length a b r e f g = g ∙ cap-last a b (givenSize text (lent (h .text))) (givenSize pair (pairs (h .user))) e f ∙ ap cap (sym (ack-sum (h .text) (h .user)))
+
+  -- ---- R
+
+  pub rest-plain : isPlain h ≡ true → 2 ≡ cap (restIs (ack k h))
+  unfolding restIs
+  rest-plain e = rw e
+
+  pub rest-full : isPlain h ≡ false → (l w r : ℕ) → l ≡ cap (propsSize ackPlace (ackGiven (h .text) (h .user))) → w ≡ cap (withLength l) → r ≡ cap (w + 3) → r ≡ cap (restIs (ack k h))
+  unfolding restIs
+  rest-full e l w r f g i =
+      let n : ℕ = propsSize ackPlace (ackGiven (h .text) (h .user)) in
+      let j : w ≡ cap (withLength n) = g ∙ rw f (cap-length n) in
+      let o : withLength n + 3 ≡ 3 + withLength n = omega arith in
+      i ∙ cap-left w (withLength n) 3 j ∙ rw (e, o)
+
+  -- ---- 20 and the fields
+
+  pub early-all : {b : Bool} {w x y z r : Fit (Unit {0})} → b ≡ belongs (ack k h) → b ≡ true → w ≡ judge (fieldTests (code (reasonsOf k) (h .reason))) → x ≡ judge (flat fieldTests (givenFields text (lent (h .text)))) → y ≡ judgeAll (h .user)
+      → z ≡ (x >> y) → r ≡ (w >> z) → r ≡ earlyOf (ack k h)
+  early-all {b} e f c i j l m = m ∙ rw (c, l, i, j, judge-if (h .text .on) (word (h .text .bytes))) (sym (ack-tests k h)) ∙ early-fields (ack k h) b e f
+
+  pub ack-late : got tt ≡ lateOf (ack k h)
+  unfolding judge
+  ack-late = refl
+
+  -- ---- the bytes
+
+  -- all but the first byte, R and the identifier
+  abbrev pub behind : List ℕ
+  behind = h .reason ∷ (short (propsSize ackPlace (ackGiven (h .text) (h .user))) ++ propsBytes ackPlace (ackGiven (h .text) (h .user)))
+
+  -- a block in a frame that is not too long is not too long
+  pub length-small : isPlain h ≡ false → restIs (ack k h) ≤ most → propsSize ackPlace (ackGiven (h .text) (h .user)) ≤ most
+  unfolding restIs
+  length-small e s = let t : 3 + withLength (propsSize ackPlace (ackGiven (h .text) (h .user))) ≤ most = rw e at s in omega arith
+
+  module _ (before out₁ out₂ : List ℕ) (len n first : ℕ) (l : len ≡ cap (restIs (ack k h)))
+      (p : Put before 0 (firstOf k ∷ short len) out₁ n) (m : first ≡ min (0 + n) (length out₁)) (q : out₂ ≡ sets out₁ first (wide 2 (h .ident)))
+      (e : belongs (ack k h) ≡ true) (s : restIs (ack k h) ≤ most) where
+    frame : frameBytes (ack k h) ≡ (firstOf k ∷ short len) ++ (wide 2 (h .ident) ++ cond (isPlain h) [] behind)
+    unfolding firstByte
+    frame =
+        let i : len ≡ restIs (ack k h) = l ∙ cap-small (restIs (ack k h)) s in
+        ack-frame k h e ∙ rw i
+
+    pub put-plain : isPlain h ≡ true → out₂ ≡ sets before 0 (frameBytes (ack k h))
+    put-plain t =
+        let f : frameBytes (ack k h) ≡ (firstOf k ∷ short len) ++ wide 2 (h .ident) = frame ∙ rw (t, append-nil (wide 2 (h .ident))) in
+        next-last (put-next p m) (wide 2 (h .ident)) q ∙ ap (sets before 0) (sym f)
+
+    pub put-full : isPlain h ≡ false → (out₃ : List ℕ) (second : ℕ) → second ≡ min (first + 2) (length out₂) → out₃ ≡ sets out₂ second behind → out₃ ≡ sets before 0 (frameBytes (ack k h))
+    put-full t out₃ second o r =
+        let f : frameBytes (ack k h) ≡ (firstOf k ∷ short len) ++ (wide 2 (h .ident) ++ behind) = frame ∙ rw t in
+        next-last (put-next p m) (wide 2 (h .ident) ++ behind) (next-last (store-next (wide 2 (h .ident)) q (sym (length-wide 2 (h .ident))) o) behind r) ∙ ap (sets before 0) (sym f)
+
+  pub put-behind : (before out₁ out₂ out₃ out₄ : List ℕ) (at len first n second u third j : ℕ) → len ≡ cap (propsSize ackPlace (ackGiven (h .text) (h .user)))
+      → out₁ ≡ sets before at (h .reason ∷ []) → first ≡ min (at + 1) (length out₁)
+      → (out₂ ≡ sets out₁ first (short len)) × (n ≡ length (short len)) → second ≡ min (first + n) (length out₂)
+      → Put out₂ second (rowBytes (31, text) (lent (h .text))) out₃ u → third ≡ min (second + u) (length out₃)
+      → Put out₃ third (rowBytes (38, pair) (pairs (h .user))) out₄ j
+      → propsSize ackPlace (ackGiven (h .text) (h .user)) ≤ most → out₄ ≡ sets before at behind
+  put-behind before out₁ out₂ out₃ out₄ at len first n second v third j l q₁ m₁ (q₂, c₂) m₂ p₃ m₃ p₄ s =
+      let i : len ≡ propsSize ackPlace (ackGiven (h .text) (h .user)) = l ∙ cap-small (propsSize ackPlace (ackGiven (h .text) (h .user))) s in
+      let t : List ℕ = rowBytes (31, text) (lent (h .text)) in
+      let u : List ℕ = rowBytes (38, pair) (pairs (h .user)) in
+      rw (← i, ack-props (h .text) (h .user), append-nil u)
+      (next-last (store-next (h .reason ∷ []) {l = before} {n = 1} q₁ refl m₁) (short len ++ (t ++ u))
+      (next-last (store-next (short len) q₂ c₂ m₂) (t ++ u) (next-last (put-next p₃ m₃) u (p₄ .stores))))
+
+-- ---- whether it is a plain success
+
+pub plain-block : (n : ℕ) (b : Bool) → b ≡ true → false ≡ (eqb n 0 && not b)
+plain-block n b e = go (eqb n 0)
+  where
+    go : (t : Bool) → false ≡ (t && not b)
+    go true = rw e
+    go false = refl
+
+pub plain-reason : (m n : ℕ) (b : Bool) → m ≡ n → b ≡ false → eqb m 0 ≡ (eqb n 0 && not b)
+plain-reason m n b i e = rw (i, e) (sym (and-true (eqb n 0)))

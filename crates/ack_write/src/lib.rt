@@ -1,0 +1,197 @@
+// The publish acknowledgements, written, after `write` and `size` of puback.rs to pubcomp.rs: first every refusal and the size, touching nothing, then the bytes. A plain
+// success is four bytes.
+use length_puts::put_length;
+use number_puts::fixed;
+use records::ack_record::AckKind;
+use records::answer::Limit;
+use records::answer::Sized;
+use records::answer::Written;
+use records::error::Error;
+use row_belongs;
+use row_tests::Tested;
+use rows::run;
+use tables::reason::is_ack_reason;
+ghost use mathlib.Core.Path.{_≡_};
+ghost use mathlib.Core.Bool.{true};
+ghost use mathlib.Core.List.{[], _∷_, _++_};
+ghost use Prim.Native.Nat.{_≤_};
+ghost use lib.Seq.{sets};
+ghost use Rattle.grammar.specs.Tables.{ackPlace, reasonsOf};
+ghost use Rattle.writing.specs.Handed.{ack, belongs as belongsOf};
+ghost use Rattle.writing.specs.Spell.{short, propsBytes};
+ghost use Rattle.writing.specs.Size.{most, propsSize, isPlain, restIs, cap};
+ghost use Rattle.writing.specs.Order.{judge, code, fieldTests};
+ghost use Rattle.writing.specs.Write.{firstOf, frameBytes, sizeOf, Written as WrittenOf};
+ghost use Rattle.records.specs.Told.{limitOf, toldAckKind};
+ghost use Rattle.records.specs.Answered.{toldSized, toldWritten};
+ghost use Rattle.row_tests.specs.Tested.{toldTested};
+ghost use Rattle.settle.specs.Found.{earlyOf};
+ghost use Rattle.ack_write.specs.Handed.{handed, givenFor};
+
+// What is handed over by value; the reason string and the user properties are lent beside it.
+pub struct AckHead {
+    pub kind: AckKind,
+    pub pkid: u16,
+    pub reason: u8,
+    // whether there are properties
+    pub block: bool,
+    // whether there is a reason string
+    pub reason_string: bool,
+}
+
+// False is 20: the reason string or the user properties do not belong together.
+fn belongs(m: AckHead, reason_string: &[u8], user: &[u8], user_lengths: &[usize]) -> bool
+    ensures { λ r. ⌜ r ≡ belongsOf (ack (toldAckKind (m .kind)) (handed m (now («reason_string» .entry)) (now (user .entry)) (now («user_lengths» .entry)))) ⌝ }
+{
+    row_belongs::both(
+        row_belongs::lent_belongs(m.block, m.reason_string, reason_string),
+        row_belongs::pairs_belong(m.block, user, user_lengths),
+    )
+}
+
+// L, cut off where it is too large.
+fn block_length(m: AckHead, reason_string: &[u8], user: &[u8], user_lengths: &[usize]) -> usize
+    ensures { λ r. ⌜ r ≡ cap (propsSize ackPlace (givenFor m (now («reason_string» .entry)) (now (user .entry)) (now («user_lengths» .entry)))) ⌝ }
+{
+    row_sizes::add(
+        row_sizes::lent_size(m.reason_string, reason_string),
+        row_sizes::pairs_size(user, user_lengths),
+    )
+}
+
+fn is_plain(m: AckHead) -> bool
+    ensures { λ r. ⌜ r ≡ isPlain (handed m [] [] []) ⌝ }
+{
+    if m.block {
+        return false;
+    }
+    m.reason == 0
+}
+
+// R, cut off where it is too large.
+fn rest(m: AckHead, reason_string: &[u8], user: &[u8], user_lengths: &[usize]) -> usize
+    ensures { λ r. ⌜ r ≡ cap (restIs (ack (toldAckKind (m .kind)) (handed m (now («reason_string» .entry)) (now (user .entry)) (now («user_lengths» .entry))))) ⌝ }
+{
+    if is_plain(m) {
+        return 2;
+    }
+    row_sizes::add(
+        row_sizes::with_length(block_length(m, reason_string, user, user_lengths)),
+        3,
+    )
+}
+
+// How many bytes the frame is: refused with 20, then 17 for R.
+pub fn size(m: AckHead, reason_string: &[u8], user: &[u8], user_lengths: &[usize]) -> Sized
+    ensures { λ r. ⌜ toldSized r ≡ sizeOf (ack (toldAckKind (m .kind)) (handed m (now («reason_string» .entry)) (now (user .entry)) (now («user_lengths» .entry)))) ⌝ }
+{
+    settle::size(
+        belongs(m, reason_string, user, user_lengths),
+        rest(m, reason_string, user, user_lengths),
+    )
+}
+
+// 15: a reason that its kind does not list.
+fn test_reason(kind: AckKind, reason: u8) -> Tested
+    ensures { λ r. ⌜ toldTested r ≡ judge (fieldTests (code (reasonsOf (toldAckKind kind)) reason)) ⌝ }
+{
+    if is_ack_reason(kind, reason) {
+        return Tested::Fine;
+    }
+    Tested::Refused(Error::InvalidReason(reason))
+}
+
+// The first byte of a kind.
+fn first_byte(kind: AckKind) -> u8
+    ensures { λ r. ⌜ r ≡ firstOf (toldAckKind kind) ⌝ }
+{
+    match kind {
+        AckKind::PubAck => 0x40,
+        AckKind::PubRec => 0x50,
+        AckKind::PubRel => 0x62,
+        AckKind::PubComp => 0x70,
+    }
+}
+
+// 20, then the fields.
+fn early(m: AckHead, reason_string: &[u8], user: &[u8], user_lengths: &[usize]) -> Tested
+    ensures { λ r. ⌜ toldTested r ≡ earlyOf (ack (toldAckKind (m .kind)) (handed m (now («reason_string» .entry)) (now (user .entry)) (now («user_lengths» .entry)))) ⌝ }
+{
+    if !belongs(m, reason_string, user, user_lengths) {
+        return Tested::Refused(Error::ListMismatch);
+    }
+    let kind = m.kind;
+    row_tests::then(
+        test_reason(kind, m.reason),
+        row_tests::then(
+            row_tests::test_text(m.reason_string, reason_string),
+            list_tests::test_words(user, user_lengths),
+        ),
+    )
+}
+
+// The reason, as it stands.
+fn put_reason(out: &mut [u8], at: usize, reason: u8)
+    ensures { λ r. ⌜ now (out .exit) ≡ sets (now (out .entry)) at (reason ∷ []) ⌝ }
+{
+    fixed::put_u8(&mut *out, at, reason);
+}
+
+// The reason, L and the properties.
+fn put_block(
+    out: &mut [u8],
+    at: usize,
+    m: AckHead,
+    reason_string: &[u8],
+    user: &[u8],
+    user_lengths: &[usize],
+)
+    ensures { λ r. ⌜ (propsSize ackPlace (givenFor m (now («reason_string» .entry)) (now (user .entry)) (now («user_lengths» .entry))) ≤ most → now (out .exit) ≡ sets (now (out .entry)) at (m .reason ∷ (short (propsSize ackPlace (givenFor m (now («reason_string» .entry)) (now (user .entry)) (now («user_lengths» .entry)))) ++ propsBytes ackPlace (givenFor m (now («reason_string» .entry)) (now (user .entry)) (now («user_lengths» .entry)))))) ⌝ }
+{
+    let len = block_length(m, reason_string, user, user_lengths);
+    put_reason(&mut *out, at, m.reason);
+    let first = run::after(out.len(), at, 1);
+    let n = put_length(&mut *out, first, len);
+    let second = run::after(out.len(), first, n);
+    let k = row_puts::put_lent(&mut *out, second, 31, m.reason_string, reason_string);
+    let third = run::after(out.len(), second, k);
+    list_puts::put_pairs(&mut *out, third, user, user_lengths);
+}
+
+// The frame.
+fn put(out: &mut [u8], m: AckHead, reason_string: &[u8], user: &[u8], user_lengths: &[usize])
+    ensures { λ r. ⌜ (belongsOf (ack (toldAckKind (m .kind)) (handed m (now («reason_string» .entry)) (now (user .entry)) (now («user_lengths» .entry)))) ≡ true → restIs (ack (toldAckKind (m .kind)) (handed m (now («reason_string» .entry)) (now (user .entry)) (now («user_lengths» .entry)))) ≤ most → now (out .exit) ≡ sets (now (out .entry)) 0 (frameBytes (ack (toldAckKind (m .kind)) (handed m (now («reason_string» .entry)) (now (user .entry)) (now («user_lengths» .entry)))))) ⌝ }
+{
+    let len = rest(m, reason_string, user, user_lengths);
+    let kind = m.kind;
+    let byte1 = first_byte(kind);
+    let n = settle::put_header(&mut *out, byte1, len);
+    let first = run::after(out.len(), 0, n);
+    fixed::put_u16(&mut *out, first, m.pkid);
+    if !is_plain(m) {
+        let second = run::after(out.len(), first, 2);
+        put_block(&mut *out, second, m, reason_string, user, user_lengths);
+    }
+}
+
+// The frame from index 0 on, and its size; a refused write leaves the output as it stood.
+pub fn write(
+    m: AckHead,
+    reason_string: &[u8],
+    user: &[u8],
+    user_lengths: &[usize],
+    limit: Limit,
+    out: &mut [u8],
+) -> Written
+    ensures { λ r. ⌜ WrittenOf (limitOf limit) (ack (toldAckKind (m .kind)) (handed m (now («reason_string» .entry)) (now (user .entry)) (now («user_lengths» .entry)))) (now (out .entry)) (now (out .exit)) (toldWritten r) ⌝ }
+{
+    let fields = early(m, reason_string, user, user_lengths);
+    let len = rest(m, reason_string, user, user_lengths);
+    match settle::settle(fields, len, limit, Tested::Fine, out.len()) {
+        Written::Refused(e) => Written::Refused(e),
+        Written::Size(n) => {
+            put(&mut *out, m, reason_string, user, user_lengths);
+            Written::Size(n)
+        }
+    }
+}
