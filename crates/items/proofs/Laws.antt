@@ -14,7 +14,7 @@ use mir.Val.{hasKey}
 use types.Run.{OneOf, miss}
 use Rattle.grammar.specs.Choice.{lookup}
 use Rattle.grammar.specs.Gram.{forget}
-use Rattle.grammar.specs.Tables.{Form, u8, u16, u32, number, text, bytes, pair, Place, publishPlace, subscribePlace, ackPlace}
+use Rattle.grammar.specs.Tables.{Form, u8, u16, u32, number, text, bytes, pair, Place, publishPlace, subscribePlace, ackPlace, unsubscribePlace}
 use Rattle.grammar.specs.Record.{PropOf, allOf}
 use Rattle.reading.specs.Reader.{Fit, got, bad, Reader, _>>=_, chainFit}
 use Rattle.reading.specs.Read.{propertyOf, propertiesFit}
@@ -164,7 +164,7 @@ not-other f ks t v e o =
 
 -- 01, table of properties: 38 is a text pair in every row
 pub user-form : (w : PropertyPlace) → some pair ≡ lookup (placeOf w) 38
-unfolding publishPlace subscribePlace ackPlace
+unfolding publishPlace subscribePlace ackPlace unsubscribePlace
 user-form Publish = refl
 user-form Subscribe = refl
 user-form Ack = refl
