@@ -1,0 +1,68 @@
+// The properties of every acknowledgement as they are written, after `write` of the properties in puback.rs to unsuback.rs: a reason
+// string (31), then user properties (38), one put for six kinds.
+use length_puts::put_length;
+use row_belongs;
+use row_tests::Tested;
+use rows::run;
+ghost use mathlib.Core.Path.{_≡_};
+ghost use mathlib.Core.List.{_++_};
+ghost use Prim.Native.Nat.{_≤_};
+ghost use Rattle.grammar.specs.Tables.{ackPlace};
+ghost use Rattle.writing.specs.Lists.{flat};
+ghost use Rattle.writing.specs.Handed.{blockBelongs};
+ghost use Rattle.writing.specs.Spell.{short, propsBytes};
+ghost use Rattle.writing.specs.Size.{most, propsSize, cap};
+ghost use Rattle.writing.specs.Order.{judge, fieldTests, propsFields};
+ghost use Rattle.row_tests.specs.Tested.{toldTested};
+ghost use Rattle.row_puts.specs.Behind.{Behind};
+ghost use Rattle.ack_rows.specs.Given.{given};
+
+// False is 20: the reason string or the user properties do not belong together.
+pub fn rows_belong(block: bool, on: bool, text: &[u8], user: &[u8], user_lengths: &[usize]) -> bool
+    ensures { λ r. ⌜ r ≡ blockBelongs ackPlace block (given on (now (text .entry)) (now (user .entry)) (now («user_lengths» .entry))) ⌝ }
+{
+    row_belongs::both(
+        row_belongs::lent_belongs(block, on, text),
+        row_belongs::pairs_belong(block, user, user_lengths),
+    )
+}
+
+// L, cut off where it is too large.
+pub fn rows_length(on: bool, text: &[u8], user: &[u8], user_lengths: &[usize]) -> usize
+    ensures { λ r. ⌜ r ≡ cap (propsSize ackPlace (given on (now (text .entry)) (now (user .entry)) (now («user_lengths» .entry)))) ⌝ }
+{
+    row_sizes::add(
+        row_sizes::lent_size(on, text),
+        row_sizes::pairs_size(user, user_lengths),
+    )
+}
+
+// Their texts: 18, then 9.
+pub fn test_rows(on: bool, text: &[u8], user: &[u8], user_lengths: &[usize]) -> Tested
+    ensures { λ r. ⌜ toldTested r ≡ judge (flat fieldTests (propsFields ackPlace (given on (now (text .entry)) (now (user .entry)) (now («user_lengths» .entry))))) ⌝ }
+{
+    row_tests::then(
+        row_tests::test_text(on, text),
+        list_tests::test_words(user, user_lengths),
+    )
+}
+
+// L and the properties; gives the index behind them.
+pub fn put_rows(
+    out: &mut [u8],
+    at: usize,
+    on: bool,
+    text: &[u8],
+    user: &[u8],
+    user_lengths: &[usize],
+) -> usize
+    ensures { λ r. ⌜ (propsSize ackPlace (given on (now (text .entry)) (now (user .entry)) (now («user_lengths» .entry))) ≤ most → Behind (now (out .entry)) at (short (propsSize ackPlace (given on (now (text .entry)) (now (user .entry)) (now («user_lengths» .entry)))) ++ propsBytes ackPlace (given on (now (text .entry)) (now (user .entry)) (now («user_lengths» .entry)))) (now (out .exit)) r) ⌝ }
+{
+    let len = rows_length(on, text, user, user_lengths);
+    let n = put_length(&mut *out, at, len);
+    let first = run::after(out.len(), at, n);
+    let k = row_puts::put_lent(&mut *out, first, 31, on, text);
+    let second = run::after(out.len(), first, k);
+    let j = list_puts::put_pairs(&mut *out, second, user, user_lengths);
+    run::after(out.len(), second, j)
+}
