@@ -1,0 +1,103 @@
+-- What is found of an Unsubscribe, and its bytes. Assumes nothing.
+use mathlib.Core.Path.{_≡_, refl, sym, ap, _∙_}
+use mathlib.Core.Bool.{Bool, true, not, _&&_, and-true}
+use mathlib.Core.List.{List, [], _∷_, _++_, append-assoc, append-nil}
+use Prim.Native.Nat.{ℕ, _+_, _≤_, min}
+use native.Mathlib.Omega.{arith}
+use lib.ListN.{length}
+use lib.Seq.{sets}
+use Rattle.grammar.specs.Choice.{isEmpty}
+use Rattle.grammar.specs.Tables.{pair, unsubscribePlace}
+use Rattle.reading.specs.Refusal.{nr}
+use Rattle.reading.specs.Reader.{Fit, _>>_, guard}
+use Rattle.writing.specs.Lists.{flat}
+use Rattle.writing.specs.Handed.{Run, UnsubscribeHanded, unsubscribe, pairs, unsubscribeGiven, strings, addsUp, rowBelongs, belongs}
+use Rattle.writing.specs.Size.{most, withLength, givenSize, propsSize, topicsSize, restIs, cap}
+use Rattle.writing.specs.Spell.{wide, short, string, rowBytes, propsBytes}
+use Rattle.writing.specs.Order.{judge}
+use Rattle.writing.specs.Write.{firstByte, frameBytes}
+use Rattle.writing.proofs.ForCode.{judgeAll, unsubscribe-belongs, unsubscribe-tests, unsubscribe-sum, unsubscribe-frame, cap-small, cap-length}
+use Rattle.writing.proofs.Pins.{unsubscribe-props, first-bytes}
+use Rattle.writing.proofs.Says.{length-wide}
+use Rattle.row_sizes.proofs.Laws.{cap-left, cap-both}
+use Rattle.row_puts.specs.Put.{Put}
+use Rattle.row_puts.specs.Behind.{Behind}
+use Rattle.row_puts.proofs.Laws.{store-next, put-next, next-last, next-then}
+use Rattle.settle.specs.Found.{earlyOf, lateOf}
+use Rattle.settle.proofs.Laws.{early-fields}
+
+first-byte : (h : UnsubscribeHanded) → firstByte (unsubscribe h) ≡ 0xA2
+unfolding firstByte
+first-byte h = first-bytes .8
+
+-- L of the user properties alone
+block-length : (u : Run) (l : ℕ) → l ≡ cap (givenSize pair (pairs u)) → l ≡ cap (propsSize unsubscribePlace (unsubscribeGiven u))
+block-length u l e =
+    let i : givenSize pair (pairs u) ≡ givenSize pair (pairs u) + 0 = omega arith in
+    e ∙ ap cap (i ∙ sym (unsubscribe-sum u))
+
+module _ (h : UnsubscribeHanded) where
+  -- ---- 20
+
+  pub belong-all : {x y r : Bool} → x ≡ rowBelongs (h .block) (pairs (h .user)) → y ≡ addsUp (h .topics) → r ≡ (x && y) → r ≡ belongs (unsubscribe h)
+  belong-all {x} e f g = sym (unsubscribe-belongs h ∙ rw (← e, ← f, and-true x, ← g))
+
+  -- ---- R
+
+  pub unsubscribe-rest : (l w f a r : ℕ) → l ≡ cap (givenSize pair (pairs (h .user))) → w ≡ cap (withLength l) → f ≡ cap (topicsSize (h .topics))
+      → a ≡ cap (w + f) → r ≡ cap (a + 2) → r ≡ cap (restIs (unsubscribe h))
+  unfolding restIs
+  unsubscribe-rest l w f a r e g i j k =
+      let n : ℕ = propsSize unsubscribePlace (unsubscribeGiven (h .user)) in
+      let t : ℕ = topicsSize (h .topics) in
+      let p : w ≡ cap (withLength n) = g ∙ rw (block-length (h .user) l e) (cap-length n) in
+      let q : withLength n + t + 2 ≡ 2 + (withLength n + t) = omega arith in
+      k ∙ cap-left a (withLength n + t) 2 (j ∙ cap-both w f (withLength n) t p i) ∙ rw q
+
+  -- ---- 20 and the fields
+
+  pub early-all : {b : Bool} {x y r : Fit (Unit {0})} → b ≡ belongs (unsubscribe h) → b ≡ true → x ≡ judgeAll (h .user) → y ≡ judgeAll (h .topics) → r ≡ (x >> y) → r ≡ earlyOf (unsubscribe h)
+  early-all {b} e f i j k = k ∙ rw (i, j) (sym (unsubscribe-tests h)) ∙ early-fields (unsubscribe h) b e f
+
+  -- ---- 13
+
+  pub late-all : {x : Fit (Unit {0})} → x ≡ guard (not (isEmpty (strings (h .topics)))) (nr 13 []) → x ≡ lateOf (unsubscribe h)
+  unfolding judge
+  late-all e = e
+
+  -- ---- the bytes
+
+  abbrev pub block : List ℕ
+  block = short (propsSize unsubscribePlace (unsubscribeGiven (h .user))) ++ propsBytes unsubscribePlace (unsubscribeGiven (h .user))
+
+  -- a block in a frame that is not too long is not too long
+  length-small : restIs (unsubscribe h) ≤ most → propsSize unsubscribePlace (unsubscribeGiven (h .user)) ≤ most
+  unfolding restIs
+  length-small s = omega arith
+
+  pub put-frame : (before out₁ out₂ out₃ out₄ : List ℕ) (len n first second third j : ℕ) → len ≡ cap (restIs (unsubscribe h))
+      → Put before 0 (0xA2 ∷ short len) out₁ n → first ≡ min (0 + n) (length out₁)
+      → out₂ ≡ sets out₁ first (wide 2 (h .ident)) → second ≡ min (first + 2) (length out₂)
+      → (propsSize unsubscribePlace (unsubscribeGiven (h .user)) ≤ most → Behind out₂ second block out₃ third)
+      → Put out₃ third (flat string (strings (h .topics))) out₄ j
+      → belongs (unsubscribe h) ≡ true → restIs (unsubscribe h) ≤ most → out₄ ≡ sets before 0 (frameBytes (unsubscribe h))
+  put-frame before out₁ out₂ out₃ out₄ len n first second third j l p₁ m₁ q₂ m₂ p₃ p₄ e s =
+      let i : len ≡ restIs (unsubscribe h) = l ∙ cap-small (restIs (unsubscribe h)) s in
+      let ts : List ℕ = flat string (strings (h .topics)) in
+      next-last (put-next p₁ m₁) (wide 2 (h .ident) ++ (block ++ ts))
+      (next-last (store-next (wide 2 (h .ident)) q₂ (sym (length-wide 2 (h .ident))) m₂) (block ++ ts)
+      (next-last (p₃ (length-small s)) ts (p₄ .stores)))
+      ∙ ap (sets before 0) (sym (spelt i e))
+    where
+      spelt : len ≡ restIs (unsubscribe h) → belongs (unsubscribe h) ≡ true → frameBytes (unsubscribe h) ≡ (0xA2 ∷ short len) ++ (wide 2 (h .ident) ++ (block ++ flat string (strings (h .topics))))
+      spelt i e = unsubscribe-frame h e ∙ rw (i, append-assoc (short (propsSize unsubscribePlace (unsubscribeGiven (h .user)))) (propsBytes unsubscribePlace (unsubscribeGiven (h .user))) (flat string (strings (h .topics))), first-byte h)
+
+pub put-rows : (u : Run) (before out₁ out₂ : List ℕ) (at len n first j second : ℕ) → len ≡ cap (givenSize pair (pairs u))
+    → (out₁ ≡ sets before at (short len)) × (n ≡ length (short len)) → first ≡ min (at + n) (length out₁)
+    → Put out₁ first (rowBytes (38, pair) (pairs u)) out₂ j → second ≡ min (first + j) (length out₂)
+    → propsSize unsubscribePlace (unsubscribeGiven u) ≤ most
+    → Behind before at (short (propsSize unsubscribePlace (unsubscribeGiven u)) ++ propsBytes unsubscribePlace (unsubscribeGiven u)) out₂ second
+put-rows u before out₁ out₂ at len n first j second l (q₁, c₁) m₁ p₂ m₂ s =
+    let i : len ≡ propsSize unsubscribePlace (unsubscribeGiven u) = block-length u len l ∙ cap-small (propsSize unsubscribePlace (unsubscribeGiven u)) s in
+    let r : List ℕ = rowBytes (38, pair) (pairs u) in
+    rw (← i, unsubscribe-props u, append-nil r) (next-then (store-next (short len) q₁ c₁ m₁) (put-next p₂ m₂))

@@ -1,0 +1,158 @@
+// An Unsubscribe, written, after `write` and `size` of unsubscribe.rs: first every refusal and the size, touching nothing, then the bytes.
+// An empty topic list is refused.
+use length_puts::put_length;
+use number_puts::fixed;
+use records::answer::Limit;
+use records::answer::Sized;
+use records::answer::Written;
+use records::error::Error;
+use row_belongs;
+use row_tests::Tested;
+use rows::run;
+ghost use mathlib.Core.Path.{_≡_};
+ghost use mathlib.Core.Bool.{true};
+ghost use mathlib.Core.List.{_++_};
+ghost use Prim.Native.Nat.{_≤_};
+ghost use lib.Seq.{sets};
+ghost use Rattle.grammar.specs.Tables.{unsubscribePlace};
+ghost use Rattle.writing.specs.Handed.{unsubscribe, unsubscribeGiven, belongs as belongsOf};
+ghost use Rattle.writing.specs.Spell.{short, propsBytes};
+ghost use Rattle.writing.specs.Size.{most, propsSize, restIs, cap};
+ghost use Rattle.writing.specs.Write.{frameBytes, sizeOf, Written as WrittenOf};
+ghost use Rattle.records.specs.Told.{limitOf};
+ghost use Rattle.records.specs.Answered.{toldSized, toldWritten};
+ghost use Rattle.rows.specs.Given.{run as runOf};
+ghost use Rattle.row_tests.specs.Tested.{toldTested};
+ghost use Rattle.row_puts.specs.Behind.{Behind};
+ghost use Rattle.settle.specs.Found.{earlyOf};
+ghost use Rattle.unsubscribe_write.specs.Handed.{handed};
+
+// What is handed over by value; the user properties and the topics are lent beside it.
+pub struct UnsubscribeHead {
+    pub pkid: u16,
+    // whether there are properties
+    pub block: bool,
+}
+
+// False is 20: the user properties or the topics do not belong together.
+fn belongs(
+    m: UnsubscribeHead,
+    user: &[u8],
+    user_lengths: &[usize],
+    topics: &[u8],
+    topic_lengths: &[usize],
+) -> bool
+    ensures { λ r. ⌜ r ≡ belongsOf (unsubscribe (handed m (now (user .entry)) (now («user_lengths» .entry)) (now (topics .entry)) (now («topic_lengths» .entry)))) ⌝ }
+{
+    row_belongs::both(
+        row_belongs::pairs_belong(m.block, user, user_lengths),
+        run::adds_up(topics, topic_lengths),
+    )
+}
+
+// R, cut off where it is too large.
+fn rest(
+    m: UnsubscribeHead,
+    user: &[u8],
+    user_lengths: &[usize],
+    topics: &[u8],
+    topic_lengths: &[usize],
+) -> usize
+    ensures { λ r. ⌜ r ≡ cap (restIs (unsubscribe (handed m (now (user .entry)) (now («user_lengths» .entry)) (now (topics .entry)) (now («topic_lengths» .entry))))) ⌝ }
+{
+    let block = row_sizes::with_length(row_sizes::pairs_size(user, user_lengths));
+    row_sizes::add(
+        row_sizes::add(block, topics_write::topics_size(topics, topic_lengths)),
+        2,
+    )
+}
+
+// How many bytes the frame is: refused with 20, then 17 for R.
+pub fn size(
+    m: UnsubscribeHead,
+    user: &[u8],
+    user_lengths: &[usize],
+    topics: &[u8],
+    topic_lengths: &[usize],
+) -> Sized
+    ensures { λ r. ⌜ toldSized r ≡ sizeOf (unsubscribe (handed m (now (user .entry)) (now («user_lengths» .entry)) (now (topics .entry)) (now («topic_lengths» .entry)))) ⌝ }
+{
+    settle::size(
+        belongs(m, user, user_lengths, topics, topic_lengths),
+        rest(m, user, user_lengths, topics, topic_lengths),
+    )
+}
+
+// 20, then the fields.
+fn early(
+    m: UnsubscribeHead,
+    user: &[u8],
+    user_lengths: &[usize],
+    topics: &[u8],
+    topic_lengths: &[usize],
+) -> Tested
+    ensures { λ r. ⌜ toldTested r ≡ earlyOf (unsubscribe (handed m (now (user .entry)) (now («user_lengths» .entry)) (now (topics .entry)) (now («topic_lengths» .entry)))) ⌝ }
+{
+    if !belongs(m, user, user_lengths, topics, topic_lengths) {
+        return Tested::Refused(Error::ListMismatch);
+    }
+    row_tests::then(
+        list_tests::test_words(user, user_lengths),
+        list_tests::test_words(topics, topic_lengths),
+    )
+}
+
+// L and the properties; gives the index behind them.
+fn put_block(out: &mut [u8], at: usize, user: &[u8], user_lengths: &[usize]) -> usize
+    ensures { λ r. ⌜ (propsSize unsubscribePlace (unsubscribeGiven (runOf (now (user .entry)) (now («user_lengths» .entry)))) ≤ most → Behind (now (out .entry)) at (short (propsSize unsubscribePlace (unsubscribeGiven (runOf (now (user .entry)) (now («user_lengths» .entry))))) ++ propsBytes unsubscribePlace (unsubscribeGiven (runOf (now (user .entry)) (now («user_lengths» .entry))))) (now (out .exit)) r) ⌝ }
+{
+    let len = row_sizes::pairs_size(user, user_lengths);
+    let n = put_length(&mut *out, at, len);
+    let first = run::after(out.len(), at, n);
+    let j = list_puts::put_pairs(&mut *out, first, user, user_lengths);
+    run::after(out.len(), first, j)
+}
+
+// The frame.
+fn put(
+    out: &mut [u8],
+    m: UnsubscribeHead,
+    user: &[u8],
+    user_lengths: &[usize],
+    topics: &[u8],
+    topic_lengths: &[usize],
+)
+    ensures { λ r. ⌜ (belongsOf (unsubscribe (handed m (now (user .entry)) (now («user_lengths» .entry)) (now (topics .entry)) (now («topic_lengths» .entry)))) ≡ true → restIs (unsubscribe (handed m (now (user .entry)) (now («user_lengths» .entry)) (now (topics .entry)) (now («topic_lengths» .entry)))) ≤ most → now (out .exit) ≡ sets (now (out .entry)) 0 (frameBytes (unsubscribe (handed m (now (user .entry)) (now («user_lengths» .entry)) (now (topics .entry)) (now («topic_lengths» .entry)))))) ⌝ }
+{
+    let len = rest(m, user, user_lengths, topics, topic_lengths);
+    let n = settle::put_header(&mut *out, 0xA2, len);
+    let first = run::after(out.len(), 0, n);
+    fixed::put_u16(&mut *out, first, m.pkid);
+    let second = run::after(out.len(), first, 2);
+    let third = put_block(&mut *out, second, user, user_lengths);
+    topics_write::put_topics(&mut *out, third, topics, topic_lengths);
+}
+
+// The frame from index 0 on, and its size; a refused write leaves the output as it stood.
+pub fn write(
+    m: UnsubscribeHead,
+    user: &[u8],
+    user_lengths: &[usize],
+    topics: &[u8],
+    topic_lengths: &[usize],
+    limit: Limit,
+    out: &mut [u8],
+) -> Written
+    ensures { λ r. ⌜ WrittenOf (limitOf limit) (unsubscribe (handed m (now (user .entry)) (now («user_lengths» .entry)) (now (topics .entry)) (now («topic_lengths» .entry)))) (now (out .entry)) (now (out .exit)) (toldWritten r) ⌝ }
+{
+    let fields = early(m, user, user_lengths, topics, topic_lengths);
+    let len = rest(m, user, user_lengths, topics, topic_lengths);
+    let end = topics_write::test_asked(topic_lengths);
+    match settle::settle(fields, len, limit, end, out.len()) {
+        Written::Refused(e) => Written::Refused(e),
+        Written::Size(n) => {
+            put(&mut *out, m, user, user_lengths, topics, topic_lengths);
+            Written::Size(n)
+        }
+    }
+}
