@@ -1,12 +1,16 @@
-// What is handed over of a packet by value, one case for each kind that is carried; strings and lists are lent beside it.
-use puback_write::PubAckHead;
+// What is handed over of a packet by value, one case for each layout that is carried; strings and lists are lent beside it.
+use ack_write::AckHead;
 use publish_plan::head::PublishHead;
+use reply_write::ReplyHead;
 use subscribe_write::SubscribeHead;
+use unsubscribe_write::UnsubscribeHead;
 
 pub enum PacketHead {
     Publish(PublishHead),
-    PubAck(PubAckHead),
+    Ack(AckHead),
     Subscribe(SubscribeHead),
+    Reply(ReplyHead),
+    Unsubscribe(UnsubscribeHead),
     PingReq,
     PingResp,
 }

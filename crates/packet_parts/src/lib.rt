@@ -7,7 +7,7 @@ use row_belongs::both;
 ghost use mathlib.Core.Path.{_≡_};
 ghost use mathlib.Core.List.{[], _∷_};
 ghost use Rattle.grammar.specs.Choice.{isEmpty, all};
-ghost use Rattle.packet_parts.specs.Parts.{Parts, parts, publishParts, ackParts, subscribeParts, userParts, foreign};
+ghost use Rattle.packet_parts.specs.Parts.{Parts, parts, publishParts, reasonParts, textParts, entryParts, userParts, foreign};
 
 // Nothing that only a Publish has.
 fn no_publish(
@@ -38,45 +38,36 @@ fn no_publish(
     payload.len() == 0
 }
 
-// No filters.
-fn no_filters(filters: &[u8], filter_lengths: &[usize], options: &[u8]) -> bool
-    ensures { λ r. ⌜ r ≡ all isEmpty (now (filters .entry) ∷ now («filter_lengths» .entry) ∷ now (options .entry) ∷ []) ⌝ }
+// No list of strings: user properties, or the texts of filters or topics.
+fn no_run(bytes: &[u8], lengths: &[usize]) -> bool
+    ensures { λ r. ⌜ r ≡ all isEmpty (now (bytes .entry) ∷ now (lengths .entry) ∷ []) ⌝ }
 {
-    if filters.len() != 0 {
+    if bytes.len() != 0 {
         return false;
     }
-    if filter_lengths.len() != 0 {
-        return false;
-    }
-    options.len() == 0
+    lengths.len() == 0
 }
 
-// No user properties.
-fn no_user(user: &[u8], user_lengths: &[usize]) -> bool
-    ensures { λ r. ⌜ r ≡ all isEmpty (now (user .entry) ∷ now («user_lengths» .entry) ∷ []) ⌝ }
-{
-    if user.len() != 0 {
-        return false;
-    }
-    user_lengths.len() == 0
-}
-
-// Of each kind, where it is given which parts are empty: those of a Publish, a PubAck, a Subscribe, and the user properties.
+// Of each layout, where it is given which parts are empty: those of a Publish, the reason string, the texts of filters or topics, the
+// options or reasons, and the user properties.
 fn nothing_of_others(
     head: PacketHead,
     publish: bool,
-    puback: bool,
-    subscribe: bool,
+    reason: bool,
+    texts: bool,
+    entries: bool,
     user: bool,
 ) -> bool
-    ensures { λ r. ⌜ ((p : Parts) → publish ≡ all isEmpty (publishParts p) → puback ≡ all isEmpty (ackParts p) → subscribe ≡ all isEmpty (subscribeParts p) → user ≡ all isEmpty (userParts p) → r ≡ all isEmpty (foreign head p)) ⌝ }
+    ensures { λ r. ⌜ ((p : Parts) → publish ≡ all isEmpty (publishParts p) → reason ≡ all isEmpty (reasonParts p) → texts ≡ all isEmpty (textParts p) → entries ≡ all isEmpty (entryParts p) → user ≡ all isEmpty (userParts p) → r ≡ all isEmpty (foreign head p)) ⌝ }
 {
     match head {
-        PacketHead::Publish(_) => both(puback, subscribe),
-        PacketHead::PubAck(_) => both(publish, subscribe),
-        PacketHead::Subscribe(_) => both(publish, puback),
-        PacketHead::PingReq => both(publish, both(puback, both(subscribe, user))),
-        PacketHead::PingResp => both(publish, both(puback, both(subscribe, user))),
+        PacketHead::Publish(_) => both(reason, both(texts, entries)),
+        PacketHead::Ack(_) => both(publish, both(texts, entries)),
+        PacketHead::Subscribe(_) => both(publish, reason),
+        PacketHead::Reply(_) => both(publish, texts),
+        PacketHead::Unsubscribe(_) => both(publish, both(reason, entries)),
+        PacketHead::PingReq => both(publish, both(reason, both(texts, both(entries, user)))),
+        PacketHead::PingResp => both(publish, both(reason, both(texts, both(entries, user)))),
     }
 }
 
@@ -92,11 +83,11 @@ pub fn nothing_else(
     content_type: &[u8],
     payload: &[u8],
     reason_string: &[u8],
-    filters: &[u8],
-    filter_lengths: &[usize],
-    options: &[u8],
+    entry_bytes: &[u8],
+    entry_lengths: &[usize],
+    entries: &[u8],
 ) -> bool
-    ensures { λ r. ⌜ r ≡ all isEmpty (foreign head (parts (now (topic .entry)) (now («response_topic» .entry)) (now («correlation_data» .entry)) (now (user .entry)) (now («user_lengths» .entry)) (now («subscription_identifiers» .entry)) (now («content_type» .entry)) (now (payload .entry)) (now («reason_string» .entry)) (now (filters .entry)) (now («filter_lengths» .entry)) (now (options .entry)))) ⌝ }
+    ensures { λ r. ⌜ r ≡ all isEmpty (foreign head (parts (now (topic .entry)) (now («response_topic» .entry)) (now («correlation_data» .entry)) (now (user .entry)) (now («user_lengths» .entry)) (now («subscription_identifiers» .entry)) (now («content_type» .entry)) (now (payload .entry)) (now («reason_string» .entry)) (now («entry_bytes» .entry)) (now («entry_lengths» .entry)) (now (entries .entry)))) ⌝ }
 {
     let publish = no_publish(
         topic,
@@ -106,8 +97,9 @@ pub fn nothing_else(
         content_type,
         payload,
     );
-    let puback = reason_string.len() == 0;
-    let subscribe = no_filters(filters, filter_lengths, options);
-    let user = no_user(user, user_lengths);
-    nothing_of_others(head, publish, puback, subscribe, user)
+    let reason = reason_string.len() == 0;
+    let texts = no_run(entry_bytes, entry_lengths);
+    let alone = entries.len() == 0;
+    let user = no_run(user, user_lengths);
+    nothing_of_others(head, publish, reason, texts, alone, user)
 }

@@ -24,11 +24,11 @@ pub fn size(
     content_type: &[u8],
     payload: &[u8],
     reason_string: &[u8],
-    filters: &[u8],
-    filter_lengths: &[usize],
-    options: &[u8],
+    entry_bytes: &[u8],
+    entry_lengths: &[usize],
+    entries: &[u8],
 ) -> Sized
-    ensures { λ r. ⌜ toldSized r ≡ sizedBehind (unionOf head (parts (now (topic .entry)) (now («response_topic» .entry)) (now («correlation_data» .entry)) (now (user .entry)) (now («user_lengths» .entry)) (now («subscription_identifiers» .entry)) (now («content_type» .entry)) (now (payload .entry)) (now («reason_string» .entry)) (now (filters .entry)) (now («filter_lengths» .entry)) (now (options .entry)))) ⌝ }
+    ensures { λ r. ⌜ toldSized r ≡ sizedBehind (unionOf head (parts (now (topic .entry)) (now («response_topic» .entry)) (now («correlation_data» .entry)) (now (user .entry)) (now («user_lengths» .entry)) (now («subscription_identifiers» .entry)) (now («content_type» .entry)) (now (payload .entry)) (now («reason_string» .entry)) (now («entry_bytes» .entry)) (now («entry_lengths» .entry)) (now (entries .entry)))) ⌝ }
 {
     let alone = nothing_else(
         head,
@@ -41,9 +41,9 @@ pub fn size(
         content_type,
         payload,
         reason_string,
-        filters,
-        filter_lengths,
-        options,
+        entry_bytes,
+        entry_lengths,
+        entries,
     );
     if !alone {
         return Sized::Refused(Error::ListMismatch);
@@ -60,15 +60,21 @@ pub fn size(
             content_type,
             payload,
         ),
-        PacketHead::PubAck(m) => puback_write::size(m, reason_string, user, user_lengths),
+        PacketHead::Ack(m) => ack_write::size(m, reason_string, user, user_lengths),
         PacketHead::Subscribe(m) => subscribe_write::size(
             m,
             user,
             user_lengths,
-            filters,
-            filter_lengths,
-            options,
+            entry_bytes,
+            entry_lengths,
+            entries,
         ),
+        PacketHead::Reply(m) => {
+            reply_write::size(m, reason_string, user, user_lengths, entries)
+        }
+        PacketHead::Unsubscribe(m) => {
+            unsubscribe_write::size(m, user, user_lengths, entry_bytes, entry_lengths)
+        }
         PacketHead::PingReq => ping::ping_size(),
         PacketHead::PingResp => ping::ping_size(),
     }
@@ -86,13 +92,13 @@ pub fn write(
     content_type: &[u8],
     payload: &[u8],
     reason_string: &[u8],
-    filters: &[u8],
-    filter_lengths: &[usize],
-    options: &[u8],
+    entry_bytes: &[u8],
+    entry_lengths: &[usize],
+    entries: &[u8],
     limit: Limit,
     out: &mut [u8],
 ) -> Written
-    ensures { λ r. ⌜ WrittenBehind (limitOf limit) (unionOf head (parts (now (topic .entry)) (now («response_topic» .entry)) (now («correlation_data» .entry)) (now (user .entry)) (now («user_lengths» .entry)) (now («subscription_identifiers» .entry)) (now («content_type» .entry)) (now (payload .entry)) (now («reason_string» .entry)) (now (filters .entry)) (now («filter_lengths» .entry)) (now (options .entry)))) (now (out .entry)) (now (out .exit)) (toldWritten r) ⌝ }
+    ensures { λ r. ⌜ WrittenBehind (limitOf limit) (unionOf head (parts (now (topic .entry)) (now («response_topic» .entry)) (now («correlation_data» .entry)) (now (user .entry)) (now («user_lengths» .entry)) (now («subscription_identifiers» .entry)) (now («content_type» .entry)) (now (payload .entry)) (now («reason_string» .entry)) (now («entry_bytes» .entry)) (now («entry_lengths» .entry)) (now (entries .entry)))) (now (out .entry)) (now (out .exit)) (toldWritten r) ⌝ }
 {
     let alone = nothing_else(
         head,
@@ -105,9 +111,9 @@ pub fn write(
         content_type,
         payload,
         reason_string,
-        filters,
-        filter_lengths,
-        options,
+        entry_bytes,
+        entry_lengths,
+        entries,
     );
     if !alone {
         return Written::Refused(Error::ListMismatch);
@@ -126,16 +132,34 @@ pub fn write(
             limit,
             &mut *out,
         ),
-        PacketHead::PubAck(m) => {
-            puback_write::write(m, reason_string, user, user_lengths, limit, &mut *out)
+        PacketHead::Ack(m) => {
+            ack_write::write(m, reason_string, user, user_lengths, limit, &mut *out)
         }
         PacketHead::Subscribe(m) => subscribe_write::write(
             m,
             user,
             user_lengths,
-            filters,
-            filter_lengths,
-            options,
+            entry_bytes,
+            entry_lengths,
+            entries,
+            limit,
+            &mut *out,
+        ),
+        PacketHead::Reply(m) => reply_write::write(
+            m,
+            reason_string,
+            user,
+            user_lengths,
+            entries,
+            limit,
+            &mut *out,
+        ),
+        PacketHead::Unsubscribe(m) => unsubscribe_write::write(
+            m,
+            user,
+            user_lengths,
+            entry_bytes,
+            entry_lengths,
             limit,
             &mut *out,
         ),

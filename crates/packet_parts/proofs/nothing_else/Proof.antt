@@ -1,6 +1,6 @@
 -- `packet_parts::nothing_else` is right since it asks of each kind's parts whether they are empty. Assumes nothing.
-use denote.Ref.{now}
 use borrow.Author.Needs.{needs}
+use denote.Ref.{now}
 use Rattle.packet_parts.proofs.Laws.{last-lent}
 use Rattle.packet_parts.proofs.nothing_else.Statement.{statement}
 use Rattle.packet_parts.proofs.nothing_else.Tie as tie
@@ -8,24 +8,26 @@ use Rattle.packet_parts.proofs.nothing_else.Tie as tie
 no-publish-requires : tie.Need-no-publish-requires
 no-publish-requires c κs = search needs
 
-no-filters-requires : tie.Need-no-filters-requires
-no-filters-requires c κs = search needs
+no-run-requires : tie.Need-no-run-requires
+no-run-requires c κs = search needs
 
-no-user-requires : tie.Need-no-user-requires
-no-user-requires c κs = search needs
+no-run-requires-2 : tie.Need-no-run-requires-2
+no-run-requires-2 c κs = search needs
 
 nothing-of-others-requires : tie.Need-nothing-of-others-requires
 nothing-of-others-requires c κs = search needs
 
 returns : tie.Need-returns
-returns c = c .nothing-of-others .ensures _ (c .before .before .before .no-publish .ensures) (last-lent (now (c .before .before .before .before .before .before .before .before .before .before .before .before .before .before .before .before .args .reason-string))) (c .before .before .no-filters .ensures) (c .before .no-user .ensures)
+returns c =
+    let a = c .before .before .before .before .before .before .before .before .before .before .before .before .before .before .before .before .args in
+    c .nothing-of-others .ensures _ (c .before .before .before .no-publish .ensures) (last-lent (now (a .reason-string))) (c .before .before .no-run .ensures) (last-lent (now (a .entries))) (c .before .no-run2 .ensures)
 
 pub nothing-else-spec : {M : Type 1} → statement M
 nothing-else-spec =
     tie.close
     (tie.spec
     no-publish-requires
-    no-filters-requires
-    no-user-requires
+    no-run-requires
+    no-run-requires-2
     nothing-of-others-requires
     returns)
