@@ -1,7 +1,7 @@
 -- `packet_write::write` is right since 20 is given for what does not belong to the record, and else the kind is written. Assumes nothing.
+use borrow.Author.Needs.{needs}
 use mathlib.Core.Path.{sym, _∙_}
 use borrow.Author.Tests.{not-true, not-false}
-use borrow.Author.Needs.{needs}
 use Rattle.packet_write.proofs.Laws.{written-alone, written-mixed}
 use Rattle.packet_write.proofs.write.Statement.{statement}
 use Rattle.packet_write.proofs.write.Tie as tie
@@ -29,6 +29,18 @@ enum-known-head-3 c = search needs
 
 write-requires-3 : tie.Need-write-requires-3
 write-requires-3 c κs = search needs
+
+enum-known-head-4 : tie.Need-enum-known-head-4
+enum-known-head-4 c = search needs
+
+write-requires-4 : tie.Need-write-requires-4
+write-requires-4 c κs = search needs
+
+enum-known-head-5 : tie.Need-enum-known-head-5
+enum-known-head-5 c = search needs
+
+write-requires-5 : tie.Need-write-requires-5
+write-requires-5 c κs = search needs
 
 enum-told : tie.Need-enum-told
 enum-told c = search needs
@@ -64,13 +76,25 @@ same-length-4 : tie.Need-same-length-4
 same-length-4 c = search needs
 
 returns-5 : tie.Need-returns-5
-returns-5 c = written-alone _ _ (sym (c .before .before .before .before .before .before .before .nothing-else .ensures) ∙ not-false _ (c .before .before .before .before .before .before .if1 .left)) _ _ _ _ (rw (c .before .before .before .before .enum-told .given .1) (c .before .before .write-ping-req .ensures))
+returns-5 c = written-alone _ _ (sym (c .before .before .before .before .before .before .before .before .nothing-else .ensures) ∙ not-false _ (c .before .before .before .before .before .before .before .if1 .left)) _ _ _ _ (rw (c .before .before .before .before .before .head4 .given .1) (c .before .before .write4 .ensures))
 
 same-length-5 : tie.Need-same-length-5
 same-length-5 c = search needs
 
 returns-6 : tie.Need-returns-6
-returns-6 c = written-alone _ _ (sym (c .before .before .before .before .before .before .before .nothing-else .ensures) ∙ not-false _ (c .before .before .before .before .before .before .if1 .left)) _ _ _ _ (rw (c .before .before .before .before .enum-told2 .given .1) (c .before .before .write-ping-resp .ensures))
+returns-6 c = written-alone _ _ (sym (c .before .before .before .before .before .before .before .before .nothing-else .ensures) ∙ not-false _ (c .before .before .before .before .before .before .before .if1 .left)) _ _ _ _ (rw (c .before .before .before .before .before .head5 .given .1) (c .before .before .write5 .ensures))
+
+same-length-6 : tie.Need-same-length-6
+same-length-6 c = search needs
+
+returns-7 : tie.Need-returns-7
+returns-7 c = written-alone _ _ (sym (c .before .before .before .before .before .before .before .nothing-else .ensures) ∙ not-false _ (c .before .before .before .before .before .before .if1 .left)) _ _ _ _ (rw (c .before .before .before .before .enum-told .given .1) (c .before .before .write-ping-req .ensures))
+
+same-length-7 : tie.Need-same-length-7
+same-length-7 c = search needs
+
+returns-8 : tie.Need-returns-8
+returns-8 c = written-alone _ _ (sym (c .before .before .before .before .before .before .before .nothing-else .ensures) ∙ not-false _ (c .before .before .before .before .before .before .if1 .left)) _ _ _ _ (rw (c .before .before .before .before .enum-told2 .given .1) (c .before .before .write-ping-resp .ensures))
 
 pub write-spec : {M : Type 1} → statement M
 write-spec =
@@ -84,6 +108,10 @@ write-spec =
     write-requires-2
     enum-known-head-3
     write-requires-3
+    enum-known-head-4
+    write-requires-4
+    enum-known-head-5
+    write-requires-5
     enum-told
     write-ping-req-requires
     enum-told-2
@@ -97,4 +125,8 @@ write-spec =
     same-length-4
     returns-5
     same-length-5
-    returns-6)
+    returns-6
+    same-length-6
+    returns-7
+    same-length-7
+    returns-8)
