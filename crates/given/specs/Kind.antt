@@ -5,7 +5,7 @@ use mathlib.Core.List.{List, [], _∷_}
 use Prim.Native.Nat.{ℕ}
 use lib.ListN.{length}
 use Rattle.grammar.specs.Choice.{lookup}
-use Rattle.grammar.specs.Tables.{Form, Place, publishPlace, subscribePlace, ackPlace}
+use Rattle.grammar.specs.Tables.{Form, Place, publishPlace, subscribePlace, ackPlace, unsubscribePlace}
 use Rattle.grammar.specs.Record.{Val, PropOf}
 use Rattle.reading.specs.Reader.{Fit, bad}
 use Rattle.reading.specs.Read.{propertyOf}
@@ -13,17 +13,24 @@ use Rattle.reading.specs.Place.{Span, asPlaces, noItem, userAt}
 use Rattle.positions.specs.Position.{fromAt}
 use Rattle.property_value.specs.Told.{toldProperty, OfForm}
 use Rattle.property_value.specs.declared.GotProperty.{GotProperty}
+use Rattle.tables.specs.Property.{placeOf}
+use Rattle.given.specs.declared.kind.Row.{Row}
 
--- 01, table of properties: the kinds that have a block with user properties
+-- 01, table of properties; 02, P1: the kinds that have a block with user properties
 unfoldable pub blocks : List (ℕ × Place)
-blocks = (3, publishPlace) ∷ (4, ackPlace) ∷ (8, subscribePlace) ∷ []
+blocks = (3, publishPlace) ∷ (4, ackPlace) ∷ (5, ackPlace) ∷ (6, ackPlace) ∷ (7, ackPlace) ∷ (8, subscribePlace) ∷ (9, ackPlace) ∷ (10, unsubscribePlace) ∷ (11, ackPlace) ∷ []
+
+-- the row that a kind's block has, if it has one
+abbrev pub toldRow : Row → Option Place
+toldRow (Row.Of place) = some (placeOf place)
+toldRow Row.NoRow = none
 
 -- of the kind's row, if it has one
 abbrev pub userIn : Option Place → List ℕ → Span → ℕ → Fit (Val Span)
 userIn none s p n = bad noItem
 userIn (some place) s p n = userAt asPlaces s p place n
 
--- header: "`kind` is 3, 4 or 8; any other is 21"
+-- header: "`kind` is 3 to 11; any other is 21"
 abbrev pub userOf : ℕ → List ℕ → Span → ℕ → Fit (Val Span)
 userOf kind = userIn (lookup blocks kind)
 
@@ -32,7 +39,7 @@ abbrev pub propertyIn : Option Place → List ℕ → ℕ → Fit (PropOf Span �
 propertyIn none s at = bad noItem
 propertyIn (some row) s at = fromAt (propertyOf asPlaces row (length s)) s at
 
--- header: "`kind` is 3, 4 or 8; any other is 21"
+-- header: "`kind` is 3 to 11; any other is 21"
 abbrev pub propertyAt : ℕ → List ℕ → ℕ → Fit (PropOf Span × ℕ)
 propertyAt kind = propertyIn (lookup blocks kind)
 

@@ -6,19 +6,41 @@ use records::error::Error;
 use records::span::Span;
 use tables::property::PropertyPlace;
 ghost use mathlib.Core.Path.{_≡_};
+ghost use Rattle.grammar.specs.Choice.{lookup};
 ghost use Rattle.records.specs.Told.{toldSpan};
 ghost use Rattle.records.specs.Answered.{toldUser};
-ghost use Rattle.given.specs.Kind.{userOf, PropertyGiven};
+ghost use Rattle.given.specs.Kind.{blocks, toldRow, userOf, PropertyGiven};
+
+// The row of a kind's block, or that it has none.
+pub enum Row {
+    Of(PropertyPlace),
+    NoRow,
+}
+
+pub fn row_of(kind: u8) -> Row
+    ensures { λ r. ⌜ toldRow r ≡ lookup blocks kind ⌝ }
+{
+    match kind {
+        3 => Row::Of(PropertyPlace::Publish),
+        4 => Row::Of(PropertyPlace::Ack),
+        5 => Row::Of(PropertyPlace::Ack),
+        6 => Row::Of(PropertyPlace::Ack),
+        7 => Row::Of(PropertyPlace::Ack),
+        8 => Row::Of(PropertyPlace::Subscribe),
+        9 => Row::Of(PropertyPlace::Ack),
+        10 => Row::Of(PropertyPlace::Unsubscribe),
+        11 => Row::Of(PropertyPlace::Ack),
+        0..=2 | 12..=255 => Row::NoRow,
+    }
+}
 
 // Of the block of a kind that has one.
 pub fn user_item(stream: &[u8], kind: u8, p: Span, n: usize) -> UserItem
     ensures { λ r. ⌜ toldUser r ≡ userOf kind (now (stream .entry)) (toldSpan p) n ⌝ }
 {
-    match kind {
-        3 => items::user_property(PropertyPlace::Publish, stream, p, n),
-        4 => items::user_property(PropertyPlace::PubAck, stream, p, n),
-        8 => items::user_property(PropertyPlace::Subscribe, stream, p, n),
-        0..=2 | 5..=7 | 9..=255 => UserItem::NoItem,
+    match row_of(kind) {
+        Row::Of(place) => items::user_property(place, stream, p, n),
+        Row::NoRow => UserItem::NoItem,
     }
 }
 
@@ -26,10 +48,8 @@ pub fn user_item(stream: &[u8], kind: u8, p: Span, n: usize) -> UserItem
 pub fn property_at(stream: &[u8], kind: u8, at: usize) -> GotProperty
     ensures { λ r. ⌜ PropertyGiven kind (now (stream .entry)) at r ⌝ }
 {
-    match kind {
-        3 => read_property(PropertyPlace::Publish, stream, at),
-        4 => read_property(PropertyPlace::PubAck, stream, at),
-        8 => read_property(PropertyPlace::Subscribe, stream, at),
-        0..=2 | 5..=7 | 9..=255 => GotProperty::Refused(Error::NoItem),
+    match row_of(kind) {
+        Row::Of(place) => read_property(place, stream, at),
+        Row::NoRow => GotProperty::Refused(Error::NoItem),
     }
 }

@@ -1,43 +1,28 @@
--- `given::kind::user_item` is right since each kind with a block has its own arm. Assumes nothing.
+-- `given::kind::user_item` is right since the kind's row is asked for first. Assumes nothing.
 use borrow.Author.Needs.{needs}
-use Rattle.tables.proofs.Laws.{lookup-absent}
-use Rattle.given.specs.Kind.{blocks}
+use mathlib.Core.Path.{sym}
 use Rattle.given.proofs.kind.user_item.Statement.{statement}
 use Rattle.given.proofs.kind.user_item.Tie as tie
+
+row-of-requires : tie.Need-row-of-requires
+row-of-requires c κs = search needs
+
+enum-known-place : tie.Need-enum-known-place
+enum-known-place c = search needs
 
 user-property-requires : tie.Need-user-property-requires
 user-property-requires c κs = search needs
 
-user-property-requires-2 : tie.Need-user-property-requires-2
-user-property-requires-2 c κs = search needs
-
-user-property-requires-3 : tie.Need-user-property-requires-3
-user-property-requires-3 c κs = search needs
+enum-told : tie.Need-enum-told
+enum-told c = search needs
 
 returns : tie.Need-returns
-unfolding blocks
-returns c = rw (c .before .match .keys1) (c .user-property .ensures)
+returns c = rw (sym (rw (c .before .before .place .given .1) at (c .before .before .before .before .row-of .ensures))) (c .user-property .ensures)
 
 returns-2 : tie.Need-returns-2
-unfolding blocks
-returns-2 c = rw (c .before .match .keys2) (c .user-property2 .ensures)
-
-returns-3 : tie.Need-returns-3
-unfolding blocks
-returns-3 c = rw (c .before .match .keys3) (c .user-property3 .ensures)
-
-returns-4 : tie.Need-returns-4
-unfolding blocks
-returns-4 c = rw (lookup-absent blocks (c .before .before .args .kind) (c .match .rest))
+returns-2 c = rw (sym (rw (c .enum-told .given .1) at (c .before .before .row-of .ensures)))
 
 pub user-item-spec : {M : Type 1} → statement M
 user-item-spec =
     tie.close
-    (tie.spec
-    user-property-requires
-    user-property-requires-2
-    user-property-requires-3
-    returns
-    returns-2
-    returns-3
-    returns-4)
+    (tie.spec row-of-requires enum-known-place user-property-requires enum-told returns returns-2)
