@@ -5,16 +5,16 @@ use mathlib.Core.Logic.{_↔_}
 use mathlib.Core.List.{List, [], _∷_, _++_}
 use Prim.Native.Nat.{ℕ, zero, suc}
 use lib.ListN.{length}
-use Rattle.grammar.specs.Tables.{Place}
+use Rattle.grammar.specs.Tables.{Place, reasonsOf}
 use Rattle.grammar.specs.Record as record-of
 use Rattle.grammar.specs.Sentence.{Value}
 use Rattle.reading.specs.Refusal.{Refusal}
 use Rattle.reading.specs.Reader.{Fit, got, bad}
-use Rattle.reading.specs.Place.{asPlaces, noItem, nthOf, onGot, sayVal, sayFilter}
+use Rattle.reading.specs.Place.{asPlaces, noItem, nthOf, onGot, heldOf, sayVal, sayFilter}
 use Rattle.reading.proofs.Reading.{bad-got, got-inj}
 use Rattle.reading.proofs.Refusing.{got-bad}
-use Rattle.reading.proofs.Items.{nth-user, nth-subscription, nth-filter, user-iff, subscription-iff, filter-iff, user-only, subscription-only, filter-only}
-use Rattle.records.specs.Told.{toldSpan}
+use Rattle.reading.proofs.Items.{nth-user, nth-subscription, nth-filter, nth-topic, user-iff, subscription-iff, filter-iff, reason-iff, topic-iff, user-only, subscription-only, filter-only, reason-only, topic-only}
+use Rattle.records.specs.Told.{toldSpan, toldReplyKind}
 use Rattle.records.specs.Answered.{toldUser, toldIdentifier, toldFilterItem}
 use Rattle.records.proofs.Laws.{injective-by}
 use Rattle.records.proofs.Answered.{backUser, back-user, backIdentifier, back-identifier, backFilterItem, back-filter-item}
@@ -23,8 +23,12 @@ use Rattle.records.specs.declared.answer.IdentifierItem.{IdentifierItem}
 use Rattle.records.specs.declared.answer.FilterItem.{FilterItem}
 use Rattle.records.specs.declared.span.Span.{Span}
 use Rattle.items.specs.Nth.{NthUser, NthIdentifier}
+use Rattle.records.specs.declared.reply_record.ReplyKind.{ReplyKind}
 use Rattle.filter_runs.specs.Told.{NthFilter}
-use Rattle.promises.specs.Item.{IsNth, HasUser, HasIdentifier, HasFilter}
+use Rattle.entry_runs.specs.Told.{toldReasonItem, toldTopicItem, NthReason, NthTopic}
+use Rattle.entry_runs.specs.declared.ReasonItem.{ReasonItem}
+use Rattle.entry_runs.specs.declared.TopicItem.{TopicItem}
+use Rattle.promises.specs.Item.{IsNth, HasUser, HasIdentifier, HasFilter, HasReason, HasTopic}
 
 -- the n-th of a list, in both spellings
 pub nth-when : {A : Type 0} (n : ℕ) (vs : List A) (v : A) → (nthOf n vs ≡ got v) ↔ IsNth n vs v
@@ -50,6 +54,20 @@ has-when {kept = kept} {n = n} {v = v} i = (
 none-when : {R A B : Type 0} {H : B → Type 0} (f : A → B) (m : Fit A) → ((v : B) → (onGot f m ≡ got v) ↔ H v) → ((k : Refusal) → m ≡ bad k → k ≡ noItem) → R ↔ (m ≡ bad noItem) → R ↔ ((v : B) → H v → ⊥)
 none-when f (got a) i only t = (λ x. got-bad (t .0 x), λ no. absurd (no (f a) (i (f a) .0 refl)))
 none-when f (bad k) i only t = (λ x v h. bad-got (i v .1 h), λ no. t .1 (ap bad (only k refl)))
+
+-- what is handed back as it is
+itself : {A : Type 0} (m : Fit A) → onGot (λ x. x) m ≡ m
+itself (got a) = refl
+itself (bad k) = refl
+
+-- what tells 21 is none
+reason-back : (r : ReasonItem) → toldReasonItem r ≡ bad noItem → r ≡ ReasonItem.NoItem
+reason-back (ReasonItem.Reason c) e = absurd (bad-got (sym e))
+reason-back ReasonItem.NoItem e = refl
+
+topic-back : (r : TopicItem) → toldTopicItem r ≡ bad noItem → r ≡ TopicItem.NoItem
+topic-back (TopicItem.Topic q) e = absurd (bad-got (sym e))
+topic-back TopicItem.NoItem e = refl
 
 module _ (s : List ℕ) (p : Span) (n : ℕ) where
   -- ---- `items::user_property`, of the block of a row
@@ -80,3 +98,21 @@ module _ (s : List ℕ) (p : Span) (n : ℕ) where
 
     pub filter-refused : (r ≡ FilterItem.NoItem) ↔ ((f : record-of.Filter (List ℕ)) → HasFilter s p n f → ⊥)
     filter-refused = none-when (sayFilter s) (toldFilterItem r) filter-given (λ k e. filter-only asPlaces s (toldSpan p) k n (sym m ∙ e)) (ap toldFilterItem, injective-by toldFilterItem backFilterItem back-filter-item)
+
+  -- ---- `entry_runs::reason`, of the reasons of a SubAck or UnsubAck
+
+  module _ (kind : ReplyKind) (r : ReasonItem) (m : NthReason s p kind n r) where
+    pub reason-given : (c : ℕ) → (onGot (λ x. x) (toldReasonItem r) ≡ got c) ↔ HasReason (reasonsOf (toldReplyKind kind)) s p n c
+    reason-given c = rw (itself (toldReasonItem r), m) (has-when {kept = λ cs. cs} (reason-iff s (toldSpan p) n (reasonsOf (toldReplyKind kind)) c))
+
+    pub reason-refused : (r ≡ ReasonItem.NoItem) ↔ ((c : ℕ) → HasReason (reasonsOf (toldReplyKind kind)) s p n c → ⊥)
+    reason-refused = none-when (λ x. x) (toldReasonItem r) reason-given (λ k e. reason-only s (toldSpan p) k (reasonsOf (toldReplyKind kind)) n (sym m ∙ e)) (ap toldReasonItem, reason-back r)
+
+  -- ---- `entry_runs::topic`, of the topics of an Unsubscribe
+
+  module _ (r : TopicItem) (m : NthTopic s p n r) where
+    pub topic-given : (t : List ℕ) → (onGot (heldOf s) (toldTopicItem r) ≡ got t) ↔ HasTopic s p n t
+    topic-given t = rw (m, nth-topic s (toldSpan p) n) (has-when {kept = λ ts. ts} (topic-iff s (toldSpan p) n t))
+
+    pub topic-refused : (r ≡ TopicItem.NoItem) ↔ ((t : List ℕ) → HasTopic s p n t → ⊥)
+    topic-refused = none-when (heldOf s) (toldTopicItem r) topic-given (λ k e. topic-only asPlaces s (toldSpan p) k n (sym m ∙ e)) (ap toldTopicItem, topic-back r)

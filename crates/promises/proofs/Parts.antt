@@ -1,22 +1,24 @@
--- What the places of a record hold is its value: the parts that `publish_parts` and `puback` give are the strings of the sentence. Assumes nothing.
+-- What the places of a record hold is its value: the parts that `publish_parts` and `ack` give are the strings of the sentence. Assumes nothing.
 use mathlib.Core.Path.{_≡_, refl, ap, _∙_}
 use mathlib.Core.Option.{Option, none, some}
 use mathlib.Core.List.{List}
 use Prim.Native.Nat.{ℕ}
 use Rattle.grammar.specs.Tables.{publishPlace, ackPlace}
-use Rattle.grammar.specs.Record.{Val, num, str, duo, PublishProps, AckProps, publish, ack}
+use Rattle.grammar.specs.Record.{Val, num, str, duo, PublishProps, Props, publish, ack}
 use Rattle.grammar.specs.Record as record-of
 use Rattle.grammar.specs.Sentence.{Value, Packet}
 use Rattle.reading.specs.Reader.{Fit, got, bad}
 use Rattle.reading.specs.Read.{asBytes}
-use Rattle.reading.specs.Place.{Span, heldOf, valuesAt, onGot, onSome, ifSome, sayVal, sayPublishProps, sayAckProps, say}
+use Rattle.reading.specs.Place.{Span, heldOf, valuesAt, onGot, onSome, ifSome, sayVal, sayPublishProps, sayProps, say}
 use Rattle.reading.proofs.Reading.{bad-got, from-got, from-bind}
-use Rattle.records.specs.Said.{toldPublishBlock, toldPubAckBlock, toldPacket}
+use Rattle.records.specs.Told.{toldAckKind}
+use Rattle.records.specs.Said.{toldPublishBlock, toldBlock, toldPacket}
 use Rattle.records.specs.declared.packet_record.Packet as code
-use Rattle.records.specs.declared.puback_record.PubAck.{PubAck}
+use Rattle.records.specs.declared.ack_record.Ack.{Ack}
+use Rattle.records.specs.declared.ack_record.AckKind.{AckKind}
 use Rattle.records.specs.declared.publish_record.Publish.{Publish}
 use Rattle.wire.specs.Told.{stringIf, inBlock}
-use Rattle.promises.specs.Reading.{itself, PublishParts, PubAckParts}
+use Rattle.promises.specs.Reading.{itself, PublishParts, AckParts}
 
 module _ (s : List ℕ) where
   -- ---- a string of a block
@@ -70,12 +72,12 @@ module _ (s : List ℕ) where
         },
       )
 
-  -- ---- PubAck
+  -- ---- the publish acknowledgements
 
-  reason-said : (p : AckProps Span (λ A. Span)) (q : AckProps (List ℕ) List) → sayAckProps s p ≡ got q → Said (p .reason) (q .reason)
+  reason-said : (p : Props Span (λ A. Span)) (q : Props (List ℕ) List) → sayProps s ackPlace p ≡ got q → Said (p .reason) (q .reason)
   reason-said p = from-bind (valuesAt asBytes s (p .user) ackPlace 38) _ λ us e. from-got (λ q. Said (p .reason) (q .reason)) _ refl
 
-  pub puback-parts : (m : PubAck) (v : Packet) → say s (toldPacket (code.Packet.PubAck m)) ≡ got v → (w : record-of.Ack (List ℕ) List) × (v ≡ ack 4 w) × PubAckParts s m w
-  puback-parts m = from-bind (ifSome (sayAckProps s) (toldPubAckBlock (m .properties))) _ λ ps e.
-      from-got (λ (v : Packet). (w : record-of.Ack (List ℕ) List) × (v ≡ ack 4 w) × PubAckParts s m w) _
-      (_, refl, record { reason = part-said (λ p. p .reason) (λ q. q .reason) (sayAckProps s) reason-said (toldPubAckBlock (m .properties)) ps e })
+  pub ack-parts : (k : AckKind) (m : Ack) (v : Packet) → say s (toldPacket (code.Packet.Ack k m)) ≡ got v → (w : record-of.Ack (List ℕ) List) × (v ≡ ack (toldAckKind k) w) × AckParts s m w
+  ack-parts k m = from-bind (ifSome (sayProps s ackPlace) (toldBlock (m .properties))) _ λ ps e.
+      from-got (λ (v : Packet). (w : record-of.Ack (List ℕ) List) × (v ≡ ack (toldAckKind k) w) × AckParts s m w) _
+      (_, refl, record { reason = part-said (λ p. p .reason) (λ q. q .reason) (sayProps s ackPlace) reason-said (toldBlock (m .properties)) ps e })

@@ -2,7 +2,7 @@
 -- walk gives the lists of the sentence in order. Assumes nothing.
 use mathlib.Core.Path.{_≡_, refl, sym, ap, _∙_, subst}
 use mathlib.Core.Bool.{Bool, true, false}
-use mathlib.Core.Option.{some}
+use mathlib.Core.Option.{Option, some}
 use mathlib.Core.List.{List, [], _∷_, map}
 use Prim.Native.Nat.{ℕ, zero, suc, _+_, _-_, _≤_, _<_}
 use native.Mathlib.Omega.{arith}
@@ -11,42 +11,44 @@ use lib.ListN.{length, take, drop}
 use lib.Seq.{length-take-le}
 use borrow.Author.Tests.{leb-false}
 use Rattle.grammar.specs.Choice.{lookup}
-use Rattle.grammar.specs.Tables.{Place, publishPlace, subscribePlace, ackPlace}
-use Rattle.grammar.specs.Record.{PropOf, allOf, PublishProps, SubscribeProps, AckProps, publish, ack, subscribe}
+use Rattle.grammar.specs.Tables.{Place, publishPlace, subscribePlace, ackPlace, unsubscribePlace, reasonsOf}
+use Rattle.grammar.specs.Record.{PropOf, allOf, PublishProps, Props, publish, ack, subscribe, reply, unsubscribe}
 use Rattle.grammar.specs.Record as record-of
 use Rattle.grammar.specs.Sentence.{Value, Prop, someOf, Packet}
 use Rattle.reading.specs.Refusal.{accepted}
 use Rattle.reading.specs.Reader.{Fit, got, bad, Reader, Filler, _>>_, guard, manyFit, onlyFit}
-use Rattle.reading.specs.Read.{asBytes, propertyOf, propertiesFit, filterOf, filtersFit}
-use Rattle.reading.specs.Place.{Span, partOf, liesIn, asPlaces, noItem, orNoItem, again, valuesAt, ifSome, sayVal, sayPublishProps, saySubscribeProps, sayAckProps, say, OnBoth}
+use Rattle.reading.specs.Read.{someFit, asBytes, propertyOf, propertiesFit, textOf, filterOf, reasonsFit, filtersFit, topicsFit}
+use Rattle.reading.specs.Place.{Span, partOf, liesIn, asPlaces, noItem, orNoItem, again, valuesAt, ifSome, sayVal, heldOf, sayPublishProps, sayProps, say, OnBoth}
 use Rattle.reading.proofs.Lists.{T-of}
 use Rattle.reading.proofs.Reading.{bad-got, got-inj, from-got, from-bind, from-guard}
 use Rattle.reading.proofs.Forget.{Like, gots, bads, Reading}
-use Rattle.reading.proofs.Places.{properties-says, filters-says}
+use Rattle.reading.proofs.Places.{properties-says, filters-says, topics-says}
 use Rattle.reading.proofs.Items.{again-like, all-says, if-some}
 use Rattle.positions.specs.Position.{fromAt}
 use Rattle.positions.proofs.At.{part-slice}
-use Rattle.positions.proofs.Less.{property-less, filter-less}
+use Rattle.positions.proofs.Less.{text-less, property-less, filter-less}
 use Rattle.positions.proofs.Run.{none-passed, passed-end, passed-bad, passed-next, item-ahead}
-use Rattle.positions.proofs.Trails.{Trails, trails-property, trails-filter}
+use Rattle.positions.proofs.Trails.{Trails, trails-text, trails-property, trails-filter}
 use Rattle.positions.proofs.Walk.{Less}
-use Rattle.records.specs.Told.{toldSpan}
-use Rattle.records.specs.Said.{toldPublishProperties, toldSubscribeProperties, toldPubAckProperties, toldPublishBlock, toldSubscribeBlock, toldPubAckBlock, toldPublish, toldSubscribe, toldPubAck}
+use Rattle.records.specs.Told.{toldSpan, toldAckKind, toldReplyKind}
+use Rattle.records.specs.Said.{toldPublishProperties, toldProperties, toldPublishBlock, toldBlock, toldPublish, toldSubscribe, toldAck, toldReply, toldUnsubscribe}
 use Rattle.records.specs.declared.answer.Limit.{Limit}
 use Rattle.records.specs.declared.answer.Read.{Read}
 use Rattle.records.specs.declared.packet_record.Packet as code
-use Rattle.records.specs.declared.puback_record.PubAck.{PubAck}
-use Rattle.records.specs.declared.puback_record.PubAckProperties.{PubAckProperties}
-use Rattle.records.specs.declared.puback_record.MaybePubAckProperties.{MaybePubAckProperties}
+use Rattle.records.specs.declared.ack_record.Ack.{Ack}
+use Rattle.records.specs.declared.ack_record.AckKind.{AckKind}
+use Rattle.records.specs.declared.properties_record.Properties.{Properties}
+use Rattle.records.specs.declared.properties_record.MaybeProperties.{MaybeProperties}
 use Rattle.records.specs.declared.publish_record.Publish.{Publish}
 use Rattle.records.specs.declared.publish_record.PublishProperties.{PublishProperties}
 use Rattle.records.specs.declared.publish_record.MaybePublishProperties.{MaybePublishProperties}
+use Rattle.records.specs.declared.reply_record.Reply.{Reply}
+use Rattle.records.specs.declared.reply_record.ReplyKind.{ReplyKind}
 use Rattle.records.specs.declared.subscribe_record.Subscribe.{Subscribe}
-use Rattle.records.specs.declared.subscribe_record.SubscribeProperties.{SubscribeProperties}
-use Rattle.records.specs.declared.subscribe_record.MaybeSubscribeProperties.{MaybeSubscribeProperties}
+use Rattle.records.specs.declared.unsubscribe_record.Unsubscribe.{Unsubscribe}
 use Rattle.packet.specs.Told.{Meets, Says}
 use Rattle.given.specs.Kind.{blocks}
-use Rattle.promises.specs.Walk.{Walked, arrived, onward, Walks, nextFilter, UserWalk, PublishWalk, FilterWalk}
+use Rattle.promises.specs.Walk.{Walked, arrived, onward, Walks, nextFilter, nextTopic, UserWalk, PublishWalk, FilterWalk, TopicWalk}
 use Rattle.promises.proofs.Reading.{record-says}
 use Rattle.promises.proofs.Items.{present}
 
@@ -121,13 +123,25 @@ module _ (s : List ℕ) (p : Span) where
       let (h, i) = again-got (propertiesFit asPlaces row) s p ps e in
       walks (propertyOf asPlaces row) (property-less row) (λ end. trails-property asPlaces end row) s p ps h i
 
+-- entries of the run at a place
+entries-walk : {A : Type 0} (q : ℕ → Reader A) → ((end : ℕ) → Less end (q end)) → ((end : ℕ) → Trails (q end)) → (s : List ℕ) (p : Span) (fs : List A)
+    → again (λ end. someFit (q end)) s p ≡ got fs → Walks (λ t. fromAt (q (length t)) t) s p fs
+unfolding onlyFit
+entries-walk {A = A} q L T s p fs e =
+    let (h, i) = again-got (λ end. someFit (q end)) s p fs e in
+    walks q L T s p fs h
+    (from-bind (manyFit (q (p .start + p .len)) (partOf s p)) _ (λ gs j. from-guard (someOf gs) _ _ λ _. from-got (λ (z : List A). manyFit (q (p .start + p .len)) (partOf s p) ≡ got z) gs j) fs i)
+
+module _ (s : List ℕ) (p : Span) where
   -- header, `ecch_next_filter`: the filters of the run at a place
   pub filters-walk : (fs : List (record-of.Filter Span)) → again (filtersFit asPlaces) s p ≡ got fs → Walks nextFilter s p fs
-  unfolding filtersFit onlyFit
-  filters-walk fs e =
-      let (h, i) = again-got (filtersFit asPlaces) s p fs e in
-      walks (filterOf asPlaces) filter-less (trails-filter asPlaces) s p fs h
-      (from-bind (manyFit (filterOf asPlaces (p .start + p .len)) (partOf s p)) _ (λ gs j. from-guard (someOf gs) _ _ λ _. from-got (λ (z : List (record-of.Filter Span)). manyFit (filterOf asPlaces (p .start + p .len)) (partOf s p) ≡ got z) gs j) fs i)
+  unfolding filtersFit
+  filters-walk fs e = entries-walk (filterOf asPlaces) filter-less (trails-filter asPlaces) s p fs e
+
+  -- header, `ecch_next_topic`: the topics
+  pub topics-walk : (ts : List Span) → again (topicsFit asPlaces) s p ≡ got ts → Walks nextTopic s p ts
+  unfolding topicsFit
+  topics-walk ts e = entries-walk (textOf asPlaces) text-less (trails-text asPlaces) s p ts e
 
 -- ---- of a record that says a sentence
 
@@ -150,6 +164,11 @@ module _ (s : List ℕ) where
       let (gs, j, r) = like-there (again (filtersFit asPlaces) s p) (again (filtersFit asBytes) s p) fs (again-like s (filters-says s) p) e in
       (gs, filters-walk s p gs j, r)
 
+  topic-run-walk : (p : Span) (ts : List (List ℕ)) → again (topicsFit asBytes) s p ≡ got ts → TopicWalk s p ts
+  topic-run-walk p ts e =
+      let (gs, j, r) = like-there (again (topicsFit asPlaces) s p) (again (topicsFit asBytes) s p) ts (again-like s (topics-says s) p) e in
+      (gs, topics-walk s p gs j, r)
+
   user-walk : (kind : ℕ) (row : Place) → lookup blocks kind ≡ some row → (p : Span) (us : List Value) → valuesAt asBytes s p row 38 ≡ got us → UserWalk kind s p us
   unfolding valuesAt
   user-walk kind row h p = from-bind (again (propertiesFit asBytes row) s p) _ λ qs e.
@@ -167,15 +186,15 @@ module _ (s : List ℕ) where
           from-got (λ (z : PublishProps (List ℕ) List). PublishWalk s (toldSpan (p .block)) (z .user) (z .subscriptions)) _ (ps, w, l 38, l 11) qs (rw e at f)
       go (bad k) e qs f = absurd (bad-got (rw e at f))
 
-  subscribe-block-walk : (p : SubscribeProperties) (qs : SubscribeProps (List ℕ) List) → saySubscribeProps s (toldSubscribeProperties p) ≡ got qs → UserWalk 8 s (toldSpan (p .block)) (qs .user)
-  unfolding blocks
-  subscribe-block-walk p = from-bind (valuesAt asBytes s (toldSpan (p .block)) subscribePlace 38) _ λ us e.
-      from-got (λ (qs : SubscribeProps (List ℕ) List). UserWalk 8 s (toldSpan (p .block)) (qs .user)) _ (user-walk 8 subscribePlace refl (toldSpan (p .block)) us e)
+  props-walk : (kind : ℕ) (row : Place) → lookup blocks kind ≡ some row → (p : Properties) (qs : Props (List ℕ) List) → sayProps s row (toldProperties p) ≡ got qs → UserWalk kind s (toldSpan (p .block)) (qs .user)
+  props-walk kind row h p = from-bind (valuesAt asBytes s (toldSpan (p .block)) row 38) _ λ us e.
+      from-got (λ (qs : Props (List ℕ) List). UserWalk kind s (toldSpan (p .block)) (qs .user)) _ (user-walk kind row h (toldSpan (p .block)) us e)
 
-  puback-block-walk : (p : PubAckProperties) (qs : AckProps (List ℕ) List) → sayAckProps s (toldPubAckProperties p) ≡ got qs → UserWalk 4 s (toldSpan (p .block)) (qs .user)
-  unfolding blocks
-  puback-block-walk p = from-bind (valuesAt asBytes s (toldSpan (p .block)) ackPlace 38) _ λ us e.
-      from-got (λ (qs : AckProps (List ℕ) List). UserWalk 4 s (toldSpan (p .block)) (qs .user)) _ (user-walk 4 ackPlace refl (toldSpan (p .block)) us e)
+  block-walks : (kind : ℕ) (row : Place) → lookup blocks kind ≡ some row → {w : Option (Props (List ℕ) List)} (b : MaybeProperties) (p : Properties) → OnBoth (Reading (sayProps s row)) (toldBlock b) w → b ≡ MaybeProperties.Present p
+      → (qs : Props (List ℕ) List) × (w ≡ some qs) × UserWalk kind s (toldSpan (p .block)) (qs .user)
+  block-walks kind row h b p o f =
+      let (qs, k, l) = present o (toldProperties p) (ap toldBlock f) in
+      (qs, k, props-walk kind row h p qs l)
 
   -- ---- the sentence that a record says, by its kind
 
@@ -186,17 +205,41 @@ module _ (s : List ℕ) where
       (_, refl, if-some (sayPublishProps s) (λ a b h. h) (m .props) ps e)
 
   says-ack : (k : ℕ) (m : record-of.Ack Span (λ A. Span)) (v : Packet) → say s (ack k m) ≡ got v
-      → (w : record-of.Ack (List ℕ) List) × (v ≡ ack k w) × OnBoth (Reading (sayAckProps s)) (m .props) (w .props)
-  says-ack k m = from-bind (ifSome (sayAckProps s) (m .props)) _ λ ps e.
-      from-got (λ (v : Packet). (w : record-of.Ack (List ℕ) List) × (v ≡ ack k w) × OnBoth (Reading (sayAckProps s)) (m .props) (w .props)) _
-      (_, refl, if-some (sayAckProps s) (λ a b h. h) (m .props) ps e)
+      → (w : record-of.Ack (List ℕ) List) × (v ≡ ack k w) × OnBoth (Reading (sayProps s ackPlace)) (m .props) (w .props)
+  says-ack k m = from-bind (ifSome (sayProps s ackPlace) (m .props)) _ λ ps e.
+      from-got (λ (v : Packet). (w : record-of.Ack (List ℕ) List) × (v ≡ ack k w) × OnBoth (Reading (sayProps s ackPlace)) (m .props) (w .props)) _
+      (_, refl, if-some (sayProps s ackPlace) (λ a b h. h) (m .props) ps e)
 
   says-subscribe : (m : record-of.Subscribe Span (λ A. Span)) (v : Packet) → say s (subscribe m) ≡ got v
-      → (w : record-of.Subscribe (List ℕ) List) × (v ≡ subscribe w) × OnBoth (Reading (saySubscribeProps s)) (m .props) (w .props) × FilterWalk s (m .filters) (w .filters)
-  says-subscribe m = from-bind (ifSome (saySubscribeProps s) (m .props)) _ λ ps e. from-bind (again (filtersFit asBytes) s (m .filters)) _ λ fs e′.
-      from-got
-      (λ (v : Packet). (w : record-of.Subscribe (List ℕ) List) × (v ≡ subscribe w) × OnBoth (Reading (saySubscribeProps s)) (m .props) (w .props) × FilterWalk s (m .filters) (w .filters)) _
-      (_, refl, if-some (saySubscribeProps s) (λ a b h. h) (m .props) ps e, run-walk (m .filters) fs e′)
+      → (w : record-of.Subscribe (List ℕ) List) × (v ≡ subscribe w) × OnBoth (Reading (sayProps s subscribePlace)) (m .props) (w .props) × FilterWalk s (m .filters) (w .filters)
+  says-subscribe m = from-bind (ifSome (sayProps s subscribePlace) (m .props)) _ λ ps e. from-bind (again (filtersFit asBytes) s (m .filters)) _ λ fs e′.
+      from-got (λ (v : Packet). (w : record-of.Subscribe (List ℕ) List) × (v ≡ subscribe w) × OnBoth (Reading (sayProps s subscribePlace)) (m .props) (w .props) × FilterWalk s (m .filters) (w .filters)) _
+      (_, refl, if-some (sayProps s subscribePlace) (λ a b h. h) (m .props) ps e, run-walk (m .filters) fs e′)
+
+  says-reply : (k : ℕ) (m : record-of.Reply Span (λ A. Span)) (v : Packet) → say s (reply k m) ≡ got v
+      → (w : record-of.Reply (List ℕ) List) × (v ≡ reply k w) × OnBoth (Reading (sayProps s ackPlace)) (m .props) (w .props)
+  says-reply k m = from-bind (ifSome (sayProps s ackPlace) (m .props)) _ λ ps e. from-bind (again (reasonsFit (reasonsOf k)) s (m .reasons)) _ λ fs e′.
+      from-got (λ (v : Packet). (w : record-of.Reply (List ℕ) List) × (v ≡ reply k w) × OnBoth (Reading (sayProps s ackPlace)) (m .props) (w .props)) _
+      (_, refl, if-some (sayProps s ackPlace) (λ a b h. h) (m .props) ps e)
+
+  says-unsubscribe : (m : record-of.Unsubscribe Span (λ A. Span)) (v : Packet) → say s (unsubscribe m) ≡ got v
+      → (w : record-of.Unsubscribe (List ℕ) List) × (v ≡ unsubscribe w) × OnBoth (Reading (sayProps s unsubscribePlace)) (m .props) (w .props) × TopicWalk s (m .topics) (w .topics)
+  says-unsubscribe m = from-bind (ifSome (sayProps s unsubscribePlace) (m .props)) _ λ ps e. from-bind (again (topicsFit asBytes) s (m .topics)) _ λ fs e′.
+      from-got (λ (v : Packet). (w : record-of.Unsubscribe (List ℕ) List) × (v ≡ unsubscribe w) × OnBoth (Reading (sayProps s unsubscribePlace)) (m .props) (w .props) × TopicWalk s (m .topics) (w .topics)) _
+      (_, refl, if-some (sayProps s unsubscribePlace) (λ a b h. h) (m .props) ps e, topic-run-walk (m .topics) fs e′)
+
+-- the rows of the kinds that share a layout
+ack-row : (k : AckKind) → lookup blocks (toldAckKind k) ≡ some ackPlace
+unfolding blocks
+ack-row AckKind.PubAck = refl
+ack-row AckKind.PubRec = refl
+ack-row AckKind.PubRel = refl
+ack-row AckKind.PubComp = refl
+
+reply-row : (k : ReplyKind) → lookup blocks (toldReplyKind k) ≡ some ackPlace
+unfolding blocks
+reply-row ReplyKind.SubAck = refl
+reply-row ReplyKind.UnsubAck = refl
 
 -- ---- of an answer that meets the contract of `packet::read`
 
@@ -211,27 +254,54 @@ module _ (limit : Limit) (s : List ℕ) (r : Read) (h : Meets limit s r) (n : �
       let (qs, k, l) = present b (toldPublishProperties p) (ap toldPublishBlock f) in
       (w, qs, subst (λ (x : Packet). Says s r (accepted x n)) j a, k, publish-block-walk s p qs l)
 
-  -- user properties of a PubAck that has a block
-  pub puback-walk : (m : PubAck) (p : PubAckProperties) → r ≡ Read.Packet (code.Packet.PubAck m) n → m .properties ≡ MaybePubAckProperties.Present p
-      → (w : record-of.Ack (List ℕ) List) × (qs : AckProps (List ℕ) List) × Says s r (accepted (ack 4 w) n) × (w .props ≡ some qs) × UserWalk 4 s (toldSpan (p .block)) (qs .user)
-  puback-walk m p e f =
-      let (v, i, a) = record-says limit s r h (code.Packet.PubAck m) n e in
-      let (w, j, b) = says-ack s 4 (toldPubAck m) v i in
-      let (qs, k, l) = present b (toldPubAckProperties p) (ap toldPubAckBlock f) in
-      (w, qs, subst (λ (x : Packet). Says s r (accepted x n)) j a, k, puback-block-walk s p qs l)
+  -- user properties of a publish acknowledgement that has a block
+  pub ack-walk : (k : AckKind) (m : Ack) (p : Properties) → r ≡ Read.Packet (code.Packet.Ack k m) n → m .properties ≡ MaybeProperties.Present p
+      → (w : record-of.Ack (List ℕ) List) × (qs : Props (List ℕ) List) × Says s r (accepted (ack (toldAckKind k) w) n) × (w .props ≡ some qs) × UserWalk (toldAckKind k) s (toldSpan (p .block)) (qs .user)
+  ack-walk k m p e f =
+      let (v, i, a) = record-says limit s r h (code.Packet.Ack k m) n e in
+      let (w, j, b) = says-ack s (toldAckKind k) (toldAck m) v i in
+      let (qs, k′, l) = block-walks s (toldAckKind k) ackPlace (ack-row k) (m .properties) p b f in
+      (w, qs, subst (λ (x : Packet). Says s r (accepted x n)) j a, k′, l)
 
   -- user properties of a Subscribe that has a block
-  pub subscribe-walk : (m : Subscribe) (p : SubscribeProperties) → r ≡ Read.Packet (code.Packet.Subscribe m) n → m .properties ≡ MaybeSubscribeProperties.Present p
-      → (w : record-of.Subscribe (List ℕ) List) × (qs : SubscribeProps (List ℕ) List) × Says s r (accepted (subscribe w) n) × (w .props ≡ some qs) × UserWalk 8 s (toldSpan (p .block)) (qs .user)
+  pub subscribe-walk : (m : Subscribe) (p : Properties) → r ≡ Read.Packet (code.Packet.Subscribe m) n → m .properties ≡ MaybeProperties.Present p
+      → (w : record-of.Subscribe (List ℕ) List) × (qs : Props (List ℕ) List) × Says s r (accepted (subscribe w) n) × (w .props ≡ some qs) × UserWalk 8 s (toldSpan (p .block)) (qs .user)
+  unfolding blocks
   subscribe-walk m p e f =
       let (v, i, a) = record-says limit s r h (code.Packet.Subscribe m) n e in
       let (w, j, b, g) = says-subscribe s (toldSubscribe m) v i in
-      let (qs, k, l) = present b (toldSubscribeProperties p) (ap toldSubscribeBlock f) in
-      (w, qs, subst (λ (x : Packet). Says s r (accepted x n)) j a, k, subscribe-block-walk s p qs l)
+      let (qs, k′, l) = block-walks s 8 subscribePlace refl (m .properties) p b f in
+      (w, qs, subst (λ (x : Packet). Says s r (accepted x n)) j a, k′, l)
+
+  -- user properties of a SubAck or UnsubAck that has a block
+  pub reply-walk : (k : ReplyKind) (m : Reply) (p : Properties) → r ≡ Read.Packet (code.Packet.Reply k m) n → m .properties ≡ MaybeProperties.Present p
+      → (w : record-of.Reply (List ℕ) List) × (qs : Props (List ℕ) List) × Says s r (accepted (reply (toldReplyKind k) w) n) × (w .props ≡ some qs) × UserWalk (toldReplyKind k) s (toldSpan (p .block)) (qs .user)
+  reply-walk k m p e f =
+      let (v, i, a) = record-says limit s r h (code.Packet.Reply k m) n e in
+      let (w, j, b) = says-reply s (toldReplyKind k) (toldReply m) v i in
+      let (qs, k′, l) = block-walks s (toldReplyKind k) ackPlace (reply-row k) (m .properties) p b f in
+      (w, qs, subst (λ (x : Packet). Says s r (accepted x n)) j a, k′, l)
+
+  -- user properties of an Unsubscribe that has a block
+  pub unsubscribe-walk : (m : Unsubscribe) (p : Properties) → r ≡ Read.Packet (code.Packet.Unsubscribe m) n → m .properties ≡ MaybeProperties.Present p
+      → (w : record-of.Unsubscribe (List ℕ) List) × (qs : Props (List ℕ) List) × Says s r (accepted (unsubscribe w) n) × (w .props ≡ some qs) × UserWalk 10 s (toldSpan (p .block)) (qs .user)
+  unfolding blocks
+  unsubscribe-walk m p e f =
+      let (v, i, a) = record-says limit s r h (code.Packet.Unsubscribe m) n e in
+      let (w, j, b, g) = says-unsubscribe s (toldUnsubscribe m) v i in
+      let (qs, k′, l) = block-walks s 10 unsubscribePlace refl (m .properties) p b f in
+      (w, qs, subst (λ (x : Packet). Says s r (accepted x n)) j a, k′, l)
 
   -- filters of a Subscribe
   pub filter-walk : (m : Subscribe) → r ≡ Read.Packet (code.Packet.Subscribe m) n → (w : record-of.Subscribe (List ℕ) List) × Says s r (accepted (subscribe w) n) × FilterWalk s (toldSpan (m .filters)) (w .filters)
   filter-walk m e =
       let (v, i, a) = record-says limit s r h (code.Packet.Subscribe m) n e in
       let (w, j, b, g) = says-subscribe s (toldSubscribe m) v i in
+      (w, subst (λ (x : Packet). Says s r (accepted x n)) j a, g)
+
+  -- topics of an Unsubscribe
+  pub topic-walk : (m : Unsubscribe) → r ≡ Read.Packet (code.Packet.Unsubscribe m) n → (w : record-of.Unsubscribe (List ℕ) List) × Says s r (accepted (unsubscribe w) n) × TopicWalk s (toldSpan (m .topics)) (w .topics)
+  topic-walk m e =
+      let (v, i, a) = record-says limit s r h (code.Packet.Unsubscribe m) n e in
+      let (w, j, b, g) = says-unsubscribe s (toldUnsubscribe m) v i in
       (w, subst (λ (x : Packet). Says s r (accepted x n)) j a, g)

@@ -7,7 +7,7 @@ use Rattle.grammar.specs.Gram.{Gram, Only, Many}
 use Rattle.grammar.specs.Tables.{Place, publishPlace}
 use Rattle.grammar.specs.Record.{allOf}
 use Rattle.grammar.specs.Record as record-of
-use Rattle.grammar.specs.Sentence.{Value, Property, FilterOf, someOf}
+use Rattle.grammar.specs.Sentence.{Value, Property, Text, FilterOf, ReasonOf, someOf}
 use Rattle.reading.specs.Place.{partOf}
 use Rattle.records.specs.Told.{toldSpan}
 use Rattle.records.specs.declared.span.Span.{Span}
@@ -31,3 +31,11 @@ HasIdentifier = HasItem (Many (Property publishPlace)) (allOf 11)
 -- 01, row 21: "or filter run", whose n-th filter is f
 abbrev pub HasFilter : List ℕ → Span → ℕ → record-of.Filter (List ℕ) → Type 0
 HasFilter = HasItem (Only someOf (Many FilterOf)) (λ fs. fs)
+
+-- 02, P1: the same of the reasons of a SubAck or UnsubAck, each of rs, whose n-th is c
+abbrev pub HasReason : List ℕ → List ℕ → Span → ℕ → ℕ → Type 0
+HasReason rs = HasItem (Only someOf (Many (ReasonOf rs))) (λ cs. cs)
+
+-- 02, P1: and of the topics of an Unsubscribe, whose n-th is t
+abbrev pub HasTopic : List ℕ → Span → ℕ → List ℕ → Type 0
+HasTopic = HasItem (Only someOf (Many Text)) (λ ts. ts)

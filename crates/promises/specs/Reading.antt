@@ -5,18 +5,22 @@ use Prim.Native.Nat.{ℕ}
 use Rattle.grammar.specs.Tables.{Place}
 use Rattle.grammar.specs.Record as record-of
 use Rattle.grammar.specs.Sentence.{Value}
-use Rattle.reading.specs.Place.{nthOf, onGot, sayVal, sayFilter}
+use Rattle.reading.specs.Place.{nthOf, onGot, heldOf, sayVal, sayFilter}
 use Rattle.records.specs.Answered.{toldUser, toldIdentifier, toldFilterItem}
 use Rattle.records.specs.declared.answer.UserItem.{UserItem}
 use Rattle.records.specs.declared.answer.IdentifierItem.{IdentifierItem}
 use Rattle.records.specs.declared.answer.FilterItem.{FilterItem}
-use Rattle.records.specs.declared.puback_record.PubAck.{PubAck}
+use Rattle.records.specs.declared.ack_record.Ack.{Ack}
 use Rattle.records.specs.declared.publish_record.Publish.{Publish}
 use Rattle.records.specs.declared.span.Span.{Span}
 use Rattle.wire.specs.Told.{stringIf, inBlock}
 use Rattle.items.specs.Nth.{NthUser, NthIdentifier}
-use Rattle.puback.specs.Told.{reasonIn}
+use Rattle.ack.specs.Told.{reasonIn}
 use Rattle.filter_runs.specs.Told.{NthFilter}
+use Rattle.entry_runs.specs.Told.{toldReasonItem, toldTopicItem, NthReason, NthTopic}
+use Rattle.entry_runs.specs.declared.ReasonItem.{ReasonItem}
+use Rattle.entry_runs.specs.declared.TopicItem.{TopicItem}
+use Rattle.records.specs.declared.reply_record.ReplyKind.{ReplyKind}
 use Rattle.publish_parts.specs.Parts.{topicIn, payloadIn, responseIn, correlationIn, contentIn}
 
 -- ---- parts
@@ -34,8 +38,8 @@ pub record PublishParts (s : List ℕ) (m : Publish) (w : record-of.Publish (Lis
   pub correlation : correlationIn s m ≡ stringIf itself (inBlock (λ ps. ps .correlation) (w .props))
   pub content : contentIn s m ≡ stringIf itself (inBlock (λ ps. ps .content) (w .props))
 
--- the same of a PubAck's reason string
-pub record PubAckParts (s : List ℕ) (m : PubAck) (w : record-of.Ack (List ℕ) List) : Type 0 where
+-- the same of the reason string of a publish acknowledgement
+pub record AckParts (s : List ℕ) (m : Ack) (w : record-of.Ack (List ℕ) List) : Type 0 where
   pub reason : reasonIn s m ≡ stringIf itself (inBlock (λ ps. ps .reason) (w .props))
 
 -- ---- items
@@ -52,3 +56,11 @@ IdentifierItems s b vs = (k : ℕ) (u : IdentifierItem) → NthIdentifier s b k 
 -- and of `filter_runs::filter`, of the run at b
 abbrev pub FilterItems : List ℕ → Span → List (record-of.Filter (List ℕ)) → Type 0
 FilterItems s b fs = (k : ℕ) (u : FilterItem) → NthFilter s b k u → onGot (sayFilter s) (toldFilterItem u) ≡ nthOf k fs
+
+-- 02, P1: of `entry_runs::reason`, of the run at b in a frame of the kind
+abbrev pub ReasonItems : List ℕ → ReplyKind → Span → List ℕ → Type 0
+ReasonItems s kind b cs = (k : ℕ) (u : ReasonItem) → NthReason s b kind k u → toldReasonItem u ≡ nthOf k cs
+
+-- 02, P1: and of `entry_runs::topic`, of the run at b
+abbrev pub TopicItems : List ℕ → Span → List (List ℕ) → Type 0
+TopicItems s b ts = (k : ℕ) (u : TopicItem) → NthTopic s b k u → onGot (heldOf s) (toldTopicItem u) ≡ nthOf k ts

@@ -6,8 +6,8 @@ use lib.ListN.{length, take}
 use Rattle.grammar.specs.Record.{PropOf, allOf, Filter}
 use Rattle.grammar.specs.Sentence.{Value}
 use Rattle.reading.specs.Reader.{Fit, got}
-use Rattle.reading.specs.Read.{filterOf}
-use Rattle.reading.specs.Place.{Span, asPlaces, sayVal, sayFilter}
+use Rattle.reading.specs.Read.{textOf, filterOf}
+use Rattle.reading.specs.Place.{Span, asPlaces, heldOf, sayVal, sayFilter}
 use Rattle.positions.specs.Position.{fromAt}
 use Rattle.given.specs.Kind.{propertyAt}
 
@@ -25,6 +25,10 @@ pub record Walks {A : Type 0} (item : List ℕ → ℕ → Fit (A × ℕ)) (s : 
 abbrev pub nextFilter : List ℕ → ℕ → Fit (Filter Span × ℕ)
 nextFilter s at = fromAt (filterOf asPlaces (length s)) s at
 
+-- 02, P1: header, `ecch_next_topic`: the topic, at index `at` of the stream
+abbrev pub nextTopic : List ℕ → ℕ → Fit (Span × ℕ)
+nextTopic s at = fromAt (textOf asPlaces (length s)) s at
+
 -- ---- header: "To walk what ecch_read found"; what the walk gives, its places looked up in the stream
 
 -- header, `ecch_property`, over the block at p in a kind's row: the user properties are us
@@ -38,3 +42,7 @@ PublishWalk s p us ns = (ps : List (PropOf Span)) × Walks (propertyAt 3) s p ps
 -- header, `ecch_next_filter`, over the filters at p: they are fs
 abbrev pub FilterWalk : List ℕ → Span → List (Filter (List ℕ)) → Type 0
 FilterWalk s p fs = (gs : List (Filter Span)) × Walks nextFilter s p gs × (map (sayFilter s) gs ≡ fs)
+
+-- 02, P1: header, `ecch_next_topic`, over the topics at p: they are ts
+abbrev pub TopicWalk : List ℕ → Span → List (List ℕ) → Type 0
+TopicWalk s p ts = (gs : List Span) × Walks nextTopic s p gs × (map (heldOf s) gs ≡ ts)
