@@ -7,9 +7,9 @@ use Prim.Native.Nat.{ℕ, _<_}
 use native.Mathlib.Omega.{arith}
 use lib.Dec.{eqb}
 use lib.ListN.{drop}
-use Rattle.grammar.specs.Choice.{isIn, isEmpty, all}
-use Rattle.grammar.specs.Tables.{publishPlace, subscribePlace, ackPlace, reasons, kinds}
-use Rattle.grammar.specs.Record.{num, mkFilter, PublishProps, SubscribeProps, AckProps}
+use Rattle.grammar.specs.Choice.{lookup, isEmpty, all}
+use Rattle.grammar.specs.Tables.{publishPlace, subscribePlace, ackPlace, unsubscribePlace, reasonsOf, anAck, aReply, kinds}
+use Rattle.grammar.specs.Record.{num, mkFilter, PublishProps, Props}
 use Rattle.grammar.specs.Record as record-of
 use Rattle.grammar.specs.Sentence.{Packet, Sentence}
 use Rattle.reading.specs.Refusal.{accepted}
@@ -18,35 +18,36 @@ use Rattle.reading.specs.Place.{say}
 use Rattle.reading.specs.Demand.{Begins}
 use Rattle.reading.proofs.Reading.{got-inj}
 use Rattle.reading.proofs.Items.{say-items}
-use Rattle.writing.specs.Handed.{Handed, PublishHanded, SubscribeHanded, AckHanded, publish, ack, subscribe, strings, duos, filters}
+use Rattle.writing.specs.Handed.{Handed, PublishHanded, SubscribeHanded, AckHanded, ReplyHanded, UnsubscribeHanded, publish, ack, subscribe, reply, unsubscribe, strings, duos, filters}
 use Rattle.writing.specs.Write.{frameBytes, WrittenBehind}
-use Rattle.writing.specs.Meant.{meant, said, publishSet, subscribeSet, ackSet, thePublish, theAck, theSubscribe, nonePublish, noneSubscribe, noneAck, Typed, Plain}
+use Rattle.writing.specs.Meant.{meant, said, publishSet, subscribeSet, ackSet, unsubscribeSet, thePublish, theAck, theSubscribe, theReply, theUnsubscribe, nonePublish, noneSubscribe, noneAck, noneUnsubscribe, Typed, Plain}
 use Rattle.writing.proofs.Demand.{said-meant}
-use Rattle.records.specs.Told.{toldBool, toldQoS, toldReason, limitOf}
+use Rattle.records.specs.Told.{toldBool, toldQoS, toldAckKind, toldReplyKind, limitOf}
 use Rattle.records.specs.Said.{toldPacket}
 use Rattle.records.specs.Answered.{toldWritten}
 use Rattle.records.specs.declared.answer.Limit.{Limit}
 use Rattle.records.specs.declared.answer.Read.{Read}
 use Rattle.records.specs.declared.answer.Written.{Written}
 use Rattle.records.specs.declared.packet_record.Packet as code
-use Rattle.records.specs.declared.puback_record.PubAck.{PubAck}
-use Rattle.records.specs.declared.puback_record.PubAckProperties.{PubAckProperties}
-use Rattle.records.specs.declared.puback_record.MaybePubAckProperties.{MaybePubAckProperties}
-use Rattle.records.specs.declared.puback_record.PubAckReason.{PubAckReason}
+use Rattle.records.specs.declared.ack_record.Ack.{Ack}
+use Rattle.records.specs.declared.ack_record.AckKind.{AckKind}
+use Rattle.records.specs.declared.properties_record.Properties.{Properties}
+use Rattle.records.specs.declared.properties_record.MaybeProperties.{MaybeProperties}
 use Rattle.records.specs.declared.publish_record.Publish.{Publish}
 use Rattle.records.specs.declared.publish_record.PublishProperties.{PublishProperties}
 use Rattle.records.specs.declared.publish_record.MaybePublishProperties.{MaybePublishProperties}
 use Rattle.records.specs.declared.qos.QoS.{QoS}
 use Rattle.records.specs.declared.subscribe_record.Subscribe.{Subscribe}
-use Rattle.records.specs.declared.subscribe_record.SubscribeProperties.{SubscribeProperties}
-use Rattle.records.specs.declared.subscribe_record.MaybeSubscribeProperties.{MaybeSubscribeProperties}
+use Rattle.records.specs.declared.reply_record.Reply.{Reply}
+use Rattle.records.specs.declared.reply_record.ReplyKind.{ReplyKind}
+use Rattle.records.specs.declared.unsubscribe_record.Unsubscribe.{Unsubscribe}
 use Rattle.packet.specs.Told.{Says}
 use Rattle.packet.specs.Told as reading
-use Rattle.promises.specs.Reading.{PublishParts, PubAckParts, UserItems, IdentifierItems, FilterItems}
+use Rattle.promises.specs.Reading.{PublishParts, AckParts, UserItems, IdentifierItems, FilterItems, ReasonItems, TopicItems}
 use Rattle.promises.proofs.Reading.{sentence-read}
 use Rattle.promises.proofs.Reading as promises
-use Rattle.promises.proofs.Parts.{publish-parts, puback-parts}
-use Rattle.promises.proofs.Items.{publish-items, puback-items, subscribe-items, filter-items}
+use Rattle.promises.proofs.Parts.{publish-parts, ack-parts}
+use Rattle.promises.proofs.Items.{publish-items, ack-items, subscribe-items, reply-items, unsubscribe-items, filter-items, reason-items, topic-items}
 use Rattle.packet_parts.specs.Parts.{Parts, foreign}
 use Rattle.packet_write.specs.Union.{own, unionOf}
 use Rattle.packet_parts.specs.declared.head.PacketHead.{PacketHead}
@@ -64,17 +65,18 @@ qos-below QoS.AtMostOnce = omega arith
 qos-below QoS.AtLeastOnce = omega arith
 qos-below QoS.ExactlyOnce = omega arith
 
-listed : (a : PubAckReason) → isIn (toldReason a) reasons ≡ true
-unfolding reasons
-listed PubAckReason.Success = refl
-listed PubAckReason.NoMatchingSubscribers = refl
-listed PubAckReason.UnspecifiedError = refl
-listed PubAckReason.ImplementationSpecificError = refl
-listed PubAckReason.NotAuthorized = refl
-listed PubAckReason.TopicNameInvalid = refl
-listed PubAckReason.PacketIdentifierInUse = refl
-listed PubAckReason.QuotaExceeded = refl
-listed PubAckReason.PayloadFormatInvalid = refl
+-- the kinds that share a layout are carried
+ack-kind : (k : AckKind) → lookup kinds (toldAckKind k) ≡ some (anAck (reasonsOf (toldAckKind k)))
+unfolding kinds reasonsOf
+ack-kind AckKind.PubAck = refl
+ack-kind AckKind.PubRec = refl
+ack-kind AckKind.PubRel = refl
+ack-kind AckKind.PubComp = refl
+
+reply-kind : (k : ReplyKind) → lookup kinds (toldReplyKind k) ≡ some (aReply (reasonsOf (toldReplyKind k)))
+unfolding kinds reasonsOf
+reply-kind ReplyKind.SubAck = refl
+reply-kind ReplyKind.UnsubAck = refl
 
 pub typed : (m : PacketHead) (p : Parts) → Widths m → LentOctets p → Typed (own m p)
 unfolding kinds
@@ -93,8 +95,10 @@ typed (PacketHead.Publish m) p b l = record {
   content = l .content;
   payload = l .payload;
 }
-typed (PacketHead.PubAck m) p b l = record { reasons = reasons; kind = refl; reason = listed (m .reason); ident = b; text = l .reason; user = l .user }
-typed (PacketHead.Subscribe m) p b l = record { ident = b; user = l .user; filters = l .filters }
+typed (PacketHead.Ack m) p b l = record { kind = ack-kind (m .kind); reason = b .reason; ident = b .pkid; text = l .reason; user = l .user }
+typed (PacketHead.Subscribe m) p b l = record { ident = b; user = l .user; filters = l .entryBytes }
+typed (PacketHead.Reply m) p b l = record { kind = reply-kind (m .kind); ident = b; text = l .reason; user = l .user; reasons = l .entries }
+typed (PacketHead.Unsubscribe m) p b l = record { ident = b; user = l .user; topics = l .entryBytes }
 typed PacketHead.PingReq p b l = refl
 typed PacketHead.PingResp p b l = refl
 
@@ -104,9 +108,9 @@ typed PacketHead.PingResp p b l = refl
 publish-props : {m v : record-of.Publish (List ℕ) List} → record-of.publish m ≡ record-of.publish v → m .props ≡ v .props
 publish-props e = cc
 
--- the set of a PubAck
-puback-props : {m v : record-of.Ack (List ℕ) List} → record-of.ack 4 m ≡ record-of.ack 4 v → m .props ≡ v .props
-puback-props e = cc
+-- the set of an acknowledgement of a Publish
+ack-props : (k : ℕ) {m v : record-of.Ack (List ℕ) List} → record-of.ack k m ≡ record-of.ack k v → m .props ≡ v .props
+ack-props k e = cc
 
 -- the set of a Subscribe, and its filters
 subscribe-props : {m v : record-of.Subscribe (List ℕ) List} → record-of.subscribe m ≡ record-of.subscribe v → m .props ≡ v .props
@@ -114,6 +118,20 @@ subscribe-props e = cc
 
 subscribe-filters : {m v : record-of.Subscribe (List ℕ) List} → record-of.subscribe m ≡ record-of.subscribe v → m .filters ≡ v .filters
 subscribe-filters e = cc
+
+-- the set of a SubAck or UnsubAck, and its reasons
+reply-props : (k : ℕ) {m v : record-of.Reply (List ℕ) List} → record-of.reply k m ≡ record-of.reply k v → m .props ≡ v .props
+reply-props k e = cc
+
+reply-reasons : (k : ℕ) {m v : record-of.Reply (List ℕ) List} → record-of.reply k m ≡ record-of.reply k v → m .reasons ≡ v .reasons
+reply-reasons k e = cc
+
+-- the set of an Unsubscribe, and its topics
+unsubscribe-props : {m v : record-of.Unsubscribe (List ℕ) List} → record-of.unsubscribe m ≡ record-of.unsubscribe v → m .props ≡ v .props
+unsubscribe-props e = cc
+
+unsubscribe-topics : {m v : record-of.Unsubscribe (List ℕ) List} → record-of.unsubscribe m ≡ record-of.unsubscribe v → m .topics ≡ v .topics
+unsubscribe-topics e = cc
 
 -- where a set is read, it is the one that was handed over
 the-set : {A : Type 0} (t : Bool) (a b : A) → cond t none (some a) ≡ some b → a ≡ b
@@ -144,7 +162,7 @@ module _ (limit : Limit) (alone : Bool) (h : Handed) (before after : List ℕ) (
         let b : accepted (said h) n ≡ accepted v n = got-inj (sym a ∙ e) in
         cc
 
-    -- ---- the parts of a Publish and of a PubAck, as the functions of `publish_parts` and `puback` give them
+    -- ---- the parts of a Publish and of its acknowledgements, as the functions of `publish_parts` and `ack` give them
 
     told-by : (p : code.Packet) → r ≡ Read.Packet p n → say (frameBytes h ++ rest) (toldPacket p) ≡ got (said h)
     told-by p e =
@@ -156,8 +174,8 @@ module _ (limit : Limit) (alone : Bool) (h : Handed) (before after : List ℕ) (
     pub publish-back : (x : Publish) → r ≡ Read.Packet (code.Packet.Publish x) n → (v : record-of.Publish (List ℕ) List) × (said h ≡ record-of.publish v) × PublishParts (frameBytes h ++ rest) x v
     publish-back x e = publish-parts (frameBytes h ++ rest) x (said h) (told-by (code.Packet.Publish x) e)
 
-    pub puback-back : (x : PubAck) → r ≡ Read.Packet (code.Packet.PubAck x) n → (v : record-of.Ack (List ℕ) List) × (said h ≡ record-of.ack 4 v) × PubAckParts (frameBytes h ++ rest) x v
-    puback-back x e = puback-parts (frameBytes h ++ rest) x (said h) (told-by (code.Packet.PubAck x) e)
+    pub ack-back : (k : AckKind) (x : Ack) → r ≡ Read.Packet (code.Packet.Ack k x) n → (v : record-of.Ack (List ℕ) List) × (said h ≡ record-of.ack (toldAckKind k) v) × AckParts (frameBytes h ++ rest) x v
+    ack-back k x e = ack-parts (frameBytes h ++ rest) k x (said h) (told-by (code.Packet.Ack k x) e)
 
   -- the output itself, read
   pub output-read : (r : Read) → reading.Meets Limit.Unlimited after r → ReadsAs after r (said h) n
@@ -165,7 +183,7 @@ module _ (limit : Limit) (alone : Bool) (h : Handed) (before after : List ℕ) (
       let e = writing.frame-out limit alone h before after w m n i in
       subst (λ (s : List ℕ). ReadsAs s r (said h) n) (sym e) (reads-said (drop n before) r (subst (λ (s : List ℕ). reading.Meets Limit.Unlimited s r) e j))
 
--- ---- the items, as the functions of `items` and `filter_runs` give them: the lists that were handed over, in order, and then 21
+-- ---- the items, as the functions of `items`, `filter_runs` and `entry_runs` give them: the lists that were handed over, in order, and then 21
 
 module _ (limit : Limit) (alone : Bool) (before after : List ℕ) (w : Written) (n : ℕ) (i : w ≡ Written.Size n) (rest : List ℕ) (r : Read) where
   pub publish-items-back : (h : PublishHanded) → Obeys limit alone (publish h) before after w → Typed (publish h) → reading.Meets Limit.Unlimited (frameBytes (publish h) ++ rest) r
@@ -179,19 +197,19 @@ module _ (limit : Limit) (alone : Bool) (before after : List ℕ) (w : Written) 
       let d : publishSet h ≡ qs = the-set (nonePublish h) (publishSet h) qs (publish-props c ∙ b) in
       (subst (λ (q : PublishProps (List ℕ) List). UserItems s publishPlace (p .block) (q .user)) (sym d) us, subst (λ (q : PublishProps (List ℕ) List). IdentifierItems s (p .block) (q .subscriptions)) (sym d) ns)
 
-  pub puback-items-back : (h : AckHanded) → Obeys limit alone (ack 4 h) before after w → Typed (ack 4 h) → reading.Meets Limit.Unlimited (frameBytes (ack 4 h) ++ rest) r
-      → (x : PubAck) (p : PubAckProperties) → r ≡ Read.Packet (code.Packet.PubAck x) n → x .properties ≡ MaybePubAckProperties.Present p
-      → UserItems (frameBytes (ack 4 h) ++ rest) ackPlace (p .block) (duos (strings (h .user)))
+  pub ack-items-back : (k : AckKind) (h : AckHanded) → Obeys limit alone (ack (toldAckKind k) h) before after w → Typed (ack (toldAckKind k) h) → reading.Meets Limit.Unlimited (frameBytes (ack (toldAckKind k) h) ++ rest) r
+      → (x : Ack) (p : Properties) → r ≡ Read.Packet (code.Packet.Ack k x) n → x .properties ≡ MaybeProperties.Present p
+      → UserItems (frameBytes (ack (toldAckKind k) h) ++ rest) ackPlace (p .block) (duos (strings (h .user)))
   unfolding said
-  puback-items-back h m t j x p e f =
-      let s = frameBytes (ack 4 h) ++ rest in
-      let (v, qs, a, b, us) = puback-items Limit.Unlimited s r j n x p e f in
-      let c : _≡_ {A = Packet} (said (ack 4 h)) (record-of.ack 4 v) = says-said limit alone (ack 4 h) before after w m n i t rest r j (record-of.ack 4 v) a in
-      let d : ackSet h ≡ qs = the-set (noneAck h) (ackSet h) qs (puback-props c ∙ b) in
-      subst (λ (q : AckProps (List ℕ) List). UserItems s ackPlace (p .block) (q .user)) (sym d) us
+  ack-items-back k h m t j x p e f =
+      let s = frameBytes (ack (toldAckKind k) h) ++ rest in
+      let (v, qs, a, b, us) = ack-items Limit.Unlimited s r j n k x p e f in
+      let c : _≡_ {A = Packet} (said (ack (toldAckKind k) h)) (record-of.ack (toldAckKind k) v) = says-said limit alone (ack (toldAckKind k) h) before after w m n i t rest r j (record-of.ack (toldAckKind k) v) a in
+      let d : ackSet (h .text) (h .user) ≡ qs = the-set (noneAck (h .text) (h .user)) (ackSet (h .text) (h .user)) qs (ack-props (toldAckKind k) c ∙ b) in
+      subst (λ (q : Props (List ℕ) List). UserItems s ackPlace (p .block) (q .user)) (sym d) us
 
   pub subscribe-items-back : (h : SubscribeHanded) → Obeys limit alone (subscribe h) before after w → Typed (subscribe h) → reading.Meets Limit.Unlimited (frameBytes (subscribe h) ++ rest) r
-      → (x : Subscribe) (p : SubscribeProperties) → r ≡ Read.Packet (code.Packet.Subscribe x) n → x .properties ≡ MaybeSubscribeProperties.Present p
+      → (x : Subscribe) (p : Properties) → r ≡ Read.Packet (code.Packet.Subscribe x) n → x .properties ≡ MaybeProperties.Present p
       → UserItems (frameBytes (subscribe h) ++ rest) subscribePlace (p .block) (duos (strings (h .user)))
   unfolding said
   subscribe-items-back h m t j x p e f =
@@ -199,7 +217,29 @@ module _ (limit : Limit) (alone : Bool) (before after : List ℕ) (w : Written) 
       let (v, qs, a, b, us) = subscribe-items Limit.Unlimited s r j n x p e f in
       let c : _≡_ {A = Packet} (said (subscribe h)) (record-of.subscribe v) = says-said limit alone (subscribe h) before after w m n i t rest r j (record-of.subscribe v) a in
       let d : subscribeSet h ≡ qs = the-set (noneSubscribe h) (subscribeSet h) qs (subscribe-props c ∙ b) in
-      subst (λ (q : SubscribeProps (List ℕ) List). UserItems s subscribePlace (p .block) (q .user)) (sym d) us
+      subst (λ (q : Props (List ℕ) List). UserItems s subscribePlace (p .block) (q .user)) (sym d) us
+
+  pub reply-items-back : (k : ReplyKind) (h : ReplyHanded) → Obeys limit alone (reply (toldReplyKind k) h) before after w → Typed (reply (toldReplyKind k) h) → reading.Meets Limit.Unlimited (frameBytes (reply (toldReplyKind k) h) ++ rest) r
+      → (x : Reply) (p : Properties) → r ≡ Read.Packet (code.Packet.Reply k x) n → x .properties ≡ MaybeProperties.Present p
+      → UserItems (frameBytes (reply (toldReplyKind k) h) ++ rest) ackPlace (p .block) (duos (strings (h .user)))
+  unfolding said
+  reply-items-back k h m t j x p e f =
+      let s = frameBytes (reply (toldReplyKind k) h) ++ rest in
+      let (v, qs, a, b, us) = reply-items Limit.Unlimited s r j n k x p e f in
+      let c : _≡_ {A = Packet} (said (reply (toldReplyKind k) h)) (record-of.reply (toldReplyKind k) v) = says-said limit alone (reply (toldReplyKind k) h) before after w m n i t rest r j (record-of.reply (toldReplyKind k) v) a in
+      let d : ackSet (h .text) (h .user) ≡ qs = the-set (noneAck (h .text) (h .user)) (ackSet (h .text) (h .user)) qs (reply-props (toldReplyKind k) c ∙ b) in
+      subst (λ (q : Props (List ℕ) List). UserItems s ackPlace (p .block) (q .user)) (sym d) us
+
+  pub unsubscribe-items-back : (h : UnsubscribeHanded) → Obeys limit alone (unsubscribe h) before after w → Typed (unsubscribe h) → reading.Meets Limit.Unlimited (frameBytes (unsubscribe h) ++ rest) r
+      → (x : Unsubscribe) (p : Properties) → r ≡ Read.Packet (code.Packet.Unsubscribe x) n → x .properties ≡ MaybeProperties.Present p
+      → UserItems (frameBytes (unsubscribe h) ++ rest) unsubscribePlace (p .block) (duos (strings (h .user)))
+  unfolding said
+  unsubscribe-items-back h m t j x p e f =
+      let s = frameBytes (unsubscribe h) ++ rest in
+      let (v, qs, a, b, us) = unsubscribe-items Limit.Unlimited s r j n x p e f in
+      let c : _≡_ {A = Packet} (said (unsubscribe h)) (record-of.unsubscribe v) = says-said limit alone (unsubscribe h) before after w m n i t rest r j (record-of.unsubscribe v) a in
+      let d : unsubscribeSet (h .user) ≡ qs = the-set (noneUnsubscribe (h .user)) (unsubscribeSet (h .user)) qs (unsubscribe-props c ∙ b) in
+      subst (λ (q : Props (List ℕ) List). UserItems s unsubscribePlace (p .block) (q .user)) (sym d) us
 
   pub filter-items-back : (h : SubscribeHanded) → Obeys limit alone (subscribe h) before after w → Typed (subscribe h) → reading.Meets Limit.Unlimited (frameBytes (subscribe h) ++ rest) r
       → (x : Subscribe) → r ≡ Read.Packet (code.Packet.Subscribe x) n → FilterItems (frameBytes (subscribe h) ++ rest) (x .filters) (map mkFilter (filters h))
@@ -209,6 +249,24 @@ module _ (limit : Limit) (alone : Bool) (before after : List ℕ) (w : Written) 
       let (v, a, fs) = filter-items Limit.Unlimited s r j n x e in
       let c : _≡_ {A = Packet} (said (subscribe h)) (record-of.subscribe v) = says-said limit alone (subscribe h) before after w m n i t rest r j (record-of.subscribe v) a in
       subst (λ (l : List (record-of.Filter (List ℕ))). FilterItems s (x .filters) l) (sym (subscribe-filters c)) fs
+
+  pub reason-items-back : (k : ReplyKind) (h : ReplyHanded) → Obeys limit alone (reply (toldReplyKind k) h) before after w → Typed (reply (toldReplyKind k) h) → reading.Meets Limit.Unlimited (frameBytes (reply (toldReplyKind k) h) ++ rest) r
+      → (x : Reply) → r ≡ Read.Packet (code.Packet.Reply k x) n → ReasonItems (frameBytes (reply (toldReplyKind k) h) ++ rest) k (x .reasons) (h .reasons)
+  unfolding said
+  reason-items-back k h m t j x e =
+      let s = frameBytes (reply (toldReplyKind k) h) ++ rest in
+      let (v, a, fs) = reason-items Limit.Unlimited s r j n k x e in
+      let c : _≡_ {A = Packet} (said (reply (toldReplyKind k) h)) (record-of.reply (toldReplyKind k) v) = says-said limit alone (reply (toldReplyKind k) h) before after w m n i t rest r j (record-of.reply (toldReplyKind k) v) a in
+      subst (λ (l : List ℕ). ReasonItems s k (x .reasons) l) (sym (reply-reasons (toldReplyKind k) c)) fs
+
+  pub topic-items-back : (h : UnsubscribeHanded) → Obeys limit alone (unsubscribe h) before after w → Typed (unsubscribe h) → reading.Meets Limit.Unlimited (frameBytes (unsubscribe h) ++ rest) r
+      → (x : Unsubscribe) → r ≡ Read.Packet (code.Packet.Unsubscribe x) n → TopicItems (frameBytes (unsubscribe h) ++ rest) (x .topics) (strings (h .topics))
+  unfolding said
+  topic-items-back h m t j x e =
+      let s = frameBytes (unsubscribe h) ++ rest in
+      let (v, a, fs) = topic-items Limit.Unlimited s r j n x e in
+      let c : _≡_ {A = Packet} (said (unsubscribe h)) (record-of.unsubscribe v) = says-said limit alone (unsubscribe h) before after w m n i t rest r j (record-of.unsubscribe v) a in
+      subst (λ (l : List (List ℕ)). TopicItems s (x .topics) l) (sym (unsubscribe-topics c)) fs
 
 -- ---- outside the two conditions: what the bytes say instead
 
@@ -222,9 +280,17 @@ pub publish-no-set : (h : PublishHanded) → nonePublish h ≡ true → said (pu
 unfolding said
 publish-no-set h e = rw e
 
-pub puback-no-set : (h : AckHanded) → noneAck h ≡ true → said (ack 4 h) ≡ theAck 4 h none
+pub ack-no-set : (k : ℕ) (h : AckHanded) → noneAck (h .text) (h .user) ≡ true → said (ack k h) ≡ theAck k h none
 unfolding said
-puback-no-set h e = rw e
+ack-no-set k h e = rw e
+
+pub reply-no-set : (k : ℕ) (h : ReplyHanded) → noneAck (h .text) (h .user) ≡ true → said (reply k h) ≡ theReply k h none
+unfolding said
+reply-no-set k h e = rw e
+
+pub unsubscribe-no-set : (h : UnsubscribeHanded) → noneUnsubscribe (h .user) ≡ true → said (unsubscribe h) ≡ theUnsubscribe h none
+unfolding said
+unsubscribe-no-set h e = rw e
 
 pub subscribe-no-set : (h : SubscribeHanded) → noneSubscribe h ≡ true → said (subscribe h) ≡ theSubscribe h none
 unfolding said

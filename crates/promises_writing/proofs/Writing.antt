@@ -18,7 +18,7 @@ use Rattle.writing.specs.Order.{Field}
 use Rattle.writing.specs.Size.{sizeIs}
 use Rattle.writing.specs.Write.{frameBytes, sizeOf, writeOf, outOf, sizedBehind, answeredBehind, outBehind, WrittenBehind}
 use Rattle.writing.specs.Write as writing
-use Rattle.writing.specs.Refuse.{Faulty, long-raw, long-word, long-filter, bad-word, bad-filter, bad-rule, bad-qos, FirstFault, Refuses, Unsized, mismatch, field, too-long, too-large, no-name, number, none-asked, no-room, Accepts}
+use Rattle.writing.specs.Refuse.{Faulty, long-raw, long-word, long-filter, bad-word, bad-filter, bad-rule, bad-qos, unlisted, FirstFault, Refuses, Unsized, mismatch, field, too-long, too-large, no-name, number, none-asked, no-room, Accepts}
 use Rattle.writing.specs.Refuse as refuse
 use Rattle.writing.specs.Meant.{said, Typed}
 use Rattle.writing.proofs.Verdict.{accepted-when, refused-when, answered-when, unanswered-when, sized-when, unsized-when}
@@ -59,6 +59,7 @@ row-of-field (bad-word s u) = refl
 row-of-field (bad-filter s u) = refl
 row-of-field (bad-rule s u r) = refl
 row-of-field (bad-qos s u r q) = refl
+row-of-field (unlisted u) = refl
 
 row-of-fields : {fs : List Field} {k : Refusal} → FirstFault k fs → isIn (rowOf k) writerRows ≡ true
 row-of-fields (refuse.here f) = row-of-field f

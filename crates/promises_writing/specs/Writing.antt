@@ -19,6 +19,7 @@ use Rattle.records.specs.declared.answer.Sized.{Sized}
 use Rattle.records.specs.declared.answer.Written.{Written}
 use Rattle.records.specs.declared.packet_record.Packet as code
 use Rattle.publish_plan.specs.declared.head.PublishHead.{PublishHead}
+use Rattle.ack_write.specs.declared.AckHead.{AckHead}
 use Rattle.packet_parts.specs.Parts.{Parts}
 use Rattle.writing.specs.Write.{sizedBehind, WrittenBehind}
 use Rattle.packet_parts.specs.declared.head.PacketHead.{PacketHead}
@@ -42,9 +43,10 @@ pub data Refusing (P : Refusal → Type 0) : Bool → Refusal → Type 0 where
   foreign : Refusing P false (nr 20 [])
   own : {k : Refusal} → P k → Refusing P true k
 
--- 01, writing order: "20; then 18, and 9 ..; with 14 then 11 ..; 17 ..; 16; 12; 17 ..; 13; 19": the refusals of a writer
+-- 01, writing order: "20; then 18, and 9 ..; with 14 then 11 ..; 17 ..; 16; 12; 17 ..; 13; 19": the refusals of a writer; 02, P1: "an unlisted
+-- reason 15, read or written"
 abbrev pub writerRows : List ℕ
-writerRows = 9 ∷ 11 ∷ 12 ∷ 13 ∷ 14 ∷ 16 ∷ 17 ∷ 18 ∷ 19 ∷ 20 ∷ []
+writerRows = 9 ∷ 11 ∷ 12 ∷ 13 ∷ 14 ∷ 15 ∷ 16 ∷ 17 ∷ 18 ∷ 19 ∷ 20 ∷ []
 
 -- ---- what the types of the arguments ensure: u8, u16 and u32 are below their bounds; nothing of a usize
 
@@ -55,11 +57,18 @@ pub record PublishWidths (m : PublishHead) : Type 0 where
   pub expiry : Below 4294967296 (numberU32 (m .«message_expiry_interval»))
   pub alias : Below 65536 (numberU16 (m .«topic_alias»))
 
+-- of a publish acknowledgement by value
+pub record AckWidths (m : AckHead) : Type 0 where
+  pub pkid : m .pkid < 65536
+  pub reason : m .reason < 256
+
 -- of a packet by value
 abbrev pub Widths : PacketHead → Type 0
 Widths (PacketHead.Publish m) = PublishWidths m
-Widths (PacketHead.PubAck m) = m .pkid < 65536
+Widths (PacketHead.Ack m) = AckWidths m
 Widths (PacketHead.Subscribe m) = m .pkid < 65536
+Widths (PacketHead.Reply m) = m .pkid < 65536
+Widths (PacketHead.Unsubscribe m) = m .pkid < 65536
 Widths PacketHead.PingReq = Unit {0}
 Widths PacketHead.PingResp = Unit {0}
 
@@ -72,4 +81,5 @@ pub record LentOctets (p : Parts) : Type 0 where
   pub content : Octets (p .content)
   pub payload : Octets (p .payload)
   pub reason : Octets (p .reason)
-  pub filters : Octets (p .filters)
+  pub entryBytes : Octets (p .entryBytes)
+  pub entries : Octets (p .entries)
