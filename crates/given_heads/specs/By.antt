@@ -2,9 +2,8 @@
 use mathlib.Core.List.{List}
 use Prim.Native.Nat.{ℕ}
 use Rattle.reading.specs.Reader.{Fit, got, _>>=_}
-use Rattle.writing.specs.Handed.{Lent, Handed, SubscribeHanded, publish, ack}
+use Rattle.writing.specs.Handed.{Lent, Handed, SubscribeHanded, UnsubscribeHanded, publish, ack, reply}
 use Rattle.records.specs.Told.{toldBool}
-use Rattle.records.specs.Answered.{reasonOf}
 use Rattle.tables.specs.Qos.{qosOf}
 use Rattle.rows.specs.Given.{run}
 use Rattle.given.specs.Given.{isOn, maybe}
@@ -46,14 +45,32 @@ subscribeBy pkid block identifierOn identifier user lengths filters filterLength
   options = options;
 }
 
--- ecch_puback_size, ecch_puback_write; header: refusal 15 before all else
-abbrev pub ackBy : (pkid reason block textOn : ℕ) → List ℕ → List ℕ → List ℕ → Fit Handed
-ackBy pkid reason block textOn text user lengths = do
-  told ← reasonOf reason
-  got (ack 4 (record {
-    ident = pkid;
-    reason = told;
-    block = isOn block;
-    text = lentBy textOn text;
-    user = run user lengths;
-  }))
+-- ecch_puback_size, ecch_puback_write, and the same of PubRec, PubRel and PubComp, by the number of the kind; 02, P1: a reason may be any byte, "the
+-- written one" is refused "where 14 stands"
+abbrev pub ackBy : (kind pkid reason block textOn : ℕ) → List ℕ → List ℕ → List ℕ → Handed
+ackBy kind pkid reason block textOn text user lengths = ack kind (record {
+  ident = pkid;
+  reason = reason;
+  block = isOn block;
+  text = lentBy textOn text;
+  user = run user lengths;
+})
+
+-- ecch_suback_size, ecch_suback_write, and the same of UnsubAck, by the number of the kind
+abbrev pub replyBy : (kind pkid block textOn : ℕ) → List ℕ → List ℕ → List ℕ → List ℕ → Handed
+replyBy kind pkid block textOn text user lengths reasons = reply kind (record {
+  ident = pkid;
+  block = isOn block;
+  text = lentBy textOn text;
+  user = run user lengths;
+  reasons = reasons;
+})
+
+-- ecch_unsubscribe_size, ecch_unsubscribe_write
+abbrev pub unsubscribeBy : (pkid block : ℕ) → List ℕ → List ℕ → List ℕ → List ℕ → UnsubscribeHanded
+unsubscribeBy pkid block user lengths topics topicLengths = record {
+  ident = pkid;
+  block = isOn block;
+  user = run user lengths;
+  topics = run topics topicLengths;
+}

@@ -1,4 +1,6 @@
 // The head of a packet to write, from the numbers that C hands over. bindings/c/ecchjulmina.h has the words.
-pub mod puback_by;
+pub mod ack_by;
 pub mod publish_by;
+pub mod reply_by;
 pub mod subscribe_by;
+pub mod unsubscribe_by;

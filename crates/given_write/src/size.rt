@@ -1,11 +1,10 @@
 // The size of what a head and the lists beside it hand over; the head's own refusal comes before all else.
-use given_heads::puback_by::GotPubAckHead;
 use given_heads::publish_by::GotPublishHead;
 use layout_answer::as_written;
 use records::answer::Written;
 ghost use mathlib.Core.Path.{_≡_};
 ghost use Rattle.records.specs.Answered.{toldWritten};
-ghost use Rattle.given_heads.specs.Head.{publishHanded, ackHanded};
+ghost use Rattle.given_heads.specs.Head.{publishHanded};
 ghost use Rattle.writing.specs.Write.{sizedBehind};
 
 pub fn size_publish(
@@ -33,25 +32,6 @@ pub fn size_publish(
             identifiers,
             content,
             payload,
-        )),
-    }
-}
-
-pub fn size_puback(
-    head: GotPubAckHead,
-    reason_string: &[u8],
-    user: &[u8],
-    user_lengths: &[usize],
-) -> Written
-    ensures { λ r. ⌜ toldWritten r ≡ sizedBehind (ackHanded head (now («reason_string» .entry)) (now (user .entry)) (now («user_lengths» .entry))) ⌝ }
-{
-    match head {
-        GotPubAckHead::Refused(e) => Written::Refused(e),
-        GotPubAckHead::Value(h) => as_written(puback_write::size(
-            h,
-            reason_string,
-            user,
-            user_lengths,
         )),
     }
 }

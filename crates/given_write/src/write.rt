@@ -1,11 +1,10 @@
 // What a head and the lists beside it hand over, written; the head's own refusal comes before all else, and touches nothing.
-use given_heads::puback_by::GotPubAckHead;
 use given_heads::publish_by::GotPublishHead;
 use records::answer::Limit;
 use records::answer::Written;
 ghost use Rattle.records.specs.Told.{limitOf};
 ghost use Rattle.records.specs.Answered.{toldWritten};
-ghost use Rattle.given_heads.specs.Head.{publishHanded, ackHanded};
+ghost use Rattle.given_heads.specs.Head.{publishHanded};
 ghost use Rattle.writing.specs.Write.{WrittenBehind};
 
 pub fn write_publish(
@@ -35,29 +34,6 @@ pub fn write_publish(
             identifiers,
             content,
             payload,
-            limit,
-            &mut *out,
-        ),
-    }
-}
-
-pub fn write_puback(
-    head: GotPubAckHead,
-    reason_string: &[u8],
-    user: &[u8],
-    user_lengths: &[usize],
-    limit: Limit,
-    out: &mut [u8],
-) -> Written
-    ensures { λ r. ⌜ WrittenBehind (limitOf limit) (ackHanded head (now («reason_string» .entry)) (now (user .entry)) (now («user_lengths» .entry))) (now (out .entry)) (now (out .exit)) (toldWritten r) ⌝ }
-{
-    match head {
-        GotPubAckHead::Refused(e) => Written::Refused(e),
-        GotPubAckHead::Value(h) => puback_write::write(
-            h,
-            reason_string,
-            user,
-            user_lengths,
             limit,
             &mut *out,
         ),

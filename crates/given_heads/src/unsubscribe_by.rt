@@ -1,0 +1,17 @@
+// An Unsubscribe that C hands over: its numbers and presence.
+use given::number::is_on;
+use unsubscribe_write::UnsubscribeHead;
+ghost use mathlib.Core.Path.{_≡_};
+ghost use mathlib.Core.List.{List};
+ghost use Prim.Native.Nat.{ℕ};
+ghost use Rattle.unsubscribe_write.specs.Handed.{handed};
+ghost use Rattle.given_heads.specs.By.{unsubscribeBy};
+
+pub fn unsubscribe_head(pkid: u16, block: u8) -> UnsubscribeHead
+    ensures { λ r. ⌜ ((user lengths topics topicLengths : List ℕ) → handed r user lengths topics topicLengths ≡ unsubscribeBy pkid block user lengths topics topicLengths) ⌝ }
+{
+    UnsubscribeHead {
+        pkid,
+        block: is_on(block),
+    }
+}
