@@ -4,7 +4,8 @@ use Prim.Native.Nat.{ℕ}
 use Rattle.layout.specs.declared.place.Head.{Head}
 use Rattle.layout.specs.declared.place.Block.{Block}
 
--- the header's order, from 0 (ECCH_TAKEN) to 37 (ECCH_SUBSCRIPTION_VALUE)
+-- the header's order, from 0 (ECCH_TAKEN) to 37 (ECCH_SUBSCRIPTION_VALUE); 02, P1: behind the last, the reasons and the topics, to 41
+-- (ECCH_TOPICS_LEN)
 abbrev pub laidOut : Head → Block → List ℕ
 laidOut h b =
     h .taken
@@ -45,4 +46,8 @@ laidOut h b =
     ∷ b .reason .len
     ∷ b .subscription .on
     ∷ b .subscription .value
+    ∷ h .reasons .start
+    ∷ h .reasons .len
+    ∷ h .topics .start
+    ∷ h .topics .len
     ∷ []

@@ -30,6 +30,8 @@ pub struct Head {
     pub topic: Span,
     pub payload: Span,
     pub filters: Span,
+    pub reasons: Span,
+    pub topics: Span,
 }
 
 // The properties of every kind.
@@ -46,7 +48,7 @@ pub struct Block {
 }
 
 // Each number at its index in the header.
-pub fn numbers(h: Head, b: Block) -> [u64; 38]
+pub fn numbers(h: Head, b: Block) -> [u64; 42]
     ensures { λ r. ⌜ r ≡ laidOut h b ⌝ }
 {
     [
@@ -88,5 +90,9 @@ pub fn numbers(h: Head, b: Block) -> [u64; 38]
         b.reason.len,
         b.subscription.on,
         b.subscription.value,
+        h.reasons.start as u64,
+        h.reasons.len as u64,
+        h.topics.start as u64,
+        h.topics.len as u64,
     ]
 }

@@ -1,6 +1,6 @@
 -- The properties of an answer under the names of the layout. Assumes nothing.
 use mathlib.Core.Option.{Option, none, some}
-use Rattle.grammar.specs.Record.{Val, num, str, duo, PublishProps, SubscribeProps, AckProps, publish, ack, subscribe, ping}
+use Rattle.grammar.specs.Record.{Val, num, str, duo, PublishProps, Props, publish, ack, subscribe, reply, unsubscribe, ping}
 use Rattle.reading.specs.Place.{Span, Placed}
 use Rattle.layout.specs.declared.place.Number.{Number}
 use Rattle.layout.specs.declared.place.Text.{Text}
@@ -69,19 +69,16 @@ publishBlock (some p) = record {
   subscription = noNumber;
 }
 
--- 01, table of properties, row Subscribe
-abbrev pub subscribeBlock : Option (SubscribeProps Span (λ A. Span)) → Block
-subscribeBlock none = noBlock
-subscribeBlock (some p) = plainBlock (texted (p .user)) noText (numbered (p .ident))
-
--- 01, table of properties, row PubAck
-abbrev pub ackBlock : Option (AckProps Span (λ A. Span)) → Block
-ackBlock none = noBlock
-ackBlock (some p) = plainBlock (texted (p .user)) (lettered (p .reason)) noNumber
+-- 01, table of properties; 02, P1: every other row; what a row does not have is absent
+abbrev pub propsBlock : Option (Props Span (λ A. Span)) → Block
+propsBlock none = noBlock
+propsBlock (some p) = plainBlock (texted (p .user)) (lettered (p .reason)) (numbered (p .ident))
 
 -- of a packet; a ping has none
 abbrev pub packetBlock : Placed → Block
 packetBlock (publish m) = publishBlock (m .props)
-packetBlock (ack k m) = ackBlock (m .props)
-packetBlock (subscribe m) = subscribeBlock (m .props)
+packetBlock (ack k m) = propsBlock (m .props)
+packetBlock (subscribe m) = propsBlock (m .props)
+packetBlock (reply k m) = propsBlock (m .props)
+packetBlock (unsubscribe m) = propsBlock (m .props)
 packetBlock (ping k) = noBlock

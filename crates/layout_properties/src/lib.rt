@@ -2,18 +2,17 @@
 use layout::place::Block;
 use layout::place::Number;
 use layout::place::Text;
-use records::puback_record::MaybePubAckProperties;
+use records::properties_record::MaybeProperties;
 use records::publish_record::MaybePublishProperties;
 use records::span::MaybeSpan;
 use records::span::MaybeU8;
 use records::span::MaybeU16;
 use records::span::MaybeU32;
 use records::span::Span;
-use records::subscribe_record::MaybeSubscribeProperties;
 ghost use mathlib.Core.Path.{_≡_};
 ghost use Rattle.records.specs.Told.{toldU8, toldU16, toldU32, toldString, toldSpan};
-ghost use Rattle.records.specs.Said.{toldPublishBlock, toldSubscribeBlock, toldPubAckBlock};
-ghost use Rattle.layout_properties.specs.Block.{noBlock, plainBlock, texted, numbered, lettered, publishBlock, subscribeBlock, ackBlock};
+ghost use Rattle.records.specs.Said.{toldPublishBlock, toldBlock};
+ghost use Rattle.layout_properties.specs.Block.{noBlock, plainBlock, texted, numbered, lettered, publishBlock, propsBlock};
 
 // ---- single values
 
@@ -139,26 +138,16 @@ pub fn publish_block(m: MaybePublishProperties) -> Block
     }
 }
 
-pub fn subscribe_block(m: MaybeSubscribeProperties) -> Block
-    ensures { λ r. ⌜ r ≡ subscribeBlock (toldSubscribeBlock m) ⌝ }
+// Of every kind but Publish.
+pub fn props_block(m: MaybeProperties) -> Block
+    ensures { λ r. ⌜ r ≡ propsBlock (toldBlock m) ⌝ }
 {
     match m {
-        MaybeSubscribeProperties::Absent => no_block(),
-        MaybeSubscribeProperties::Present(p) => {
-            let id = p.id;
-            plain_block(place_text(p.block), NO_TEXT, u32_number(id))
-        }
-    }
-}
-
-pub fn puback_block(m: MaybePubAckProperties) -> Block
-    ensures { λ r. ⌜ r ≡ ackBlock (toldPubAckBlock m) ⌝ }
-{
-    match m {
-        MaybePubAckProperties::Absent => no_block(),
-        MaybePubAckProperties::Present(p) => {
+        MaybeProperties::Absent => no_block(),
+        MaybeProperties::Present(p) => {
             let reason = p.reason_string;
-            plain_block(place_text(p.block), span_text(reason), NO_NUMBER)
+            let id = p.id;
+            plain_block(place_text(p.block), span_text(reason), u32_number(id))
         }
     }
 }

@@ -1,7 +1,7 @@
 -- What of a read stands under which name of the layout. Assumes nothing.
 use mathlib.Core.List.{List}
 use Prim.Native.Nat.{ℕ}
-use Rattle.grammar.specs.Record.{publish, ack, subscribe, ping}
+use Rattle.grammar.specs.Record.{publish, ack, subscribe, reply, unsubscribe, ping}
 use Rattle.reading.specs.Refusal.{Answer, accepted, refused}
 use Rattle.reading.specs.Place.{Placed}
 use Rattle.records.specs.Told.{backSpan}
@@ -32,11 +32,13 @@ refusedHead n a b = record {
   topic = noSpan;
   payload = noSpan;
   filters = noSpan;
+  reasons = noSpan;
+  topics = noSpan;
 }
 
 -- a packet of a kind other than Publish; header: "0 where it does not apply"
-abbrev pub plainHead : (taken kind pkid reason : ℕ) → (filters : Span) → Head
-plainHead n kind pkid reason filters = record {
+abbrev pub plainHead : (taken kind pkid reason : ℕ) → (filters reasons topics : Span) → Head
+plainHead n kind pkid reason filters reasons topics = record {
   taken = n;
   first = 0;
   second = 0;
@@ -49,6 +51,8 @@ plainHead n kind pkid reason filters = record {
   topic = noSpan;
   payload = noSpan;
   filters = filters;
+  reasons = reasons;
+  topics = topics;
 }
 
 -- the packet of each kind, and the bytes taken
@@ -66,10 +70,14 @@ headOf n (publish m) = record {
   topic = backSpan (m .topic);
   payload = backSpan (m .payload);
   filters = noSpan;
+  reasons = noSpan;
+  topics = noSpan;
 }
-headOf n (ack k m) = plainHead n k (m .ident) (m .reason) noSpan
-headOf n (subscribe m) = plainHead n 8 (m .ident) 0 (backSpan (m .filters))
-headOf n (ping k) = plainHead n k 0 0 noSpan
+headOf n (ack k m) = plainHead n k (m .ident) (m .reason) noSpan noSpan noSpan
+headOf n (subscribe m) = plainHead n 8 (m .ident) 0 (backSpan (m .filters)) noSpan noSpan
+headOf n (reply k m) = plainHead n k (m .ident) 0 noSpan (backSpan (m .reasons)) noSpan
+headOf n (unsubscribe m) = plainHead n 10 (m .ident) 0 noSpan noSpan (backSpan (m .topics))
+headOf n (ping k) = plainHead n k 0 0 noSpan noSpan noSpan
 
 -- ---- an answer
 

@@ -1,6 +1,5 @@
 // What of a read stands under which name of the layout.
 use codes::qos_number;
-use codes::reason_code;
 use layout::place::Head;
 use layout::place::numbers;
 use layout::store::store;
@@ -8,24 +7,27 @@ use layout::value::bit;
 use layout::value::first_value;
 use layout::value::second_value;
 use layout_properties::no_block;
-use layout_properties::puback_block;
+use layout_properties::props_block;
 use layout_properties::publish_block;
-use layout_properties::subscribe_block;
+use records::ack_record::Ack;
+use records::ack_record::AckKind;
 use records::answer::Read;
 use records::error::Error;
 use records::packet_record::Packet;
-use records::puback_record::PubAck;
 use records::publish_record::Publish;
+use records::reply_record::Reply;
+use records::reply_record::ReplyKind;
 use records::span::Span;
 use records::subscribe_record::Subscribe;
+use records::unsubscribe_record::Unsubscribe;
 use refusals::number;
 use refusals::values;
 ghost use mathlib.Core.Path.{_≡_};
 ghost use lib.Seq.{sets};
-ghost use Rattle.grammar.specs.Record.{publish, ack, subscribe, ping};
+ghost use Rattle.grammar.specs.Record.{publish, ack, subscribe, reply, unsubscribe, ping};
 ghost use Rattle.reading.specs.Refusal.{refusedAs};
-ghost use Rattle.records.specs.Told.{toldError};
-ghost use Rattle.records.specs.Said.{toldPublish, toldSubscribe, toldPubAck, toldPacket};
+ghost use Rattle.records.specs.Told.{toldError, toldAckKind, toldReplyKind};
+ghost use Rattle.records.specs.Said.{toldPublish, toldSubscribe, toldAck, toldReply, toldUnsubscribe, toldPacket};
 ghost use Rattle.records.specs.Answered.{told};
 ghost use Rattle.layout_read.specs.Record.{noSpan, refusedHead, plainHead, headOf, packetNumbers, readNumber, encoded};
 
@@ -54,6 +56,8 @@ fn refused_head(taken: usize, first: u64, second: u64) -> Head
         topic: nowhere,
         payload: nowhere,
         filters: nowhere,
+        reasons: nowhere,
+        topics: nowhere,
     }
 }
 
@@ -77,12 +81,22 @@ fn publish_head(taken: usize, m: Publish) -> Head
         topic,
         payload,
         filters: nowhere,
+        reasons: nowhere,
+        topics: nowhere,
     }
 }
 
 // Of a kind other than Publish.
-fn plain_head(taken: usize, kind: u64, pkid: u64, reason: u64, filters: Span) -> Head
-    ensures { λ r. ⌜ r ≡ plainHead taken kind pkid reason filters ⌝ }
+fn plain_head(
+    taken: usize,
+    kind: u64,
+    pkid: u64,
+    reason: u64,
+    filters: Span,
+    reasons: Span,
+    topics: Span,
+) -> Head
+    ensures { λ r. ⌜ r ≡ plainHead taken kind pkid reason filters reasons topics ⌝ }
 {
     let nowhere = no_span();
     Head {
@@ -98,59 +112,108 @@ fn plain_head(taken: usize, kind: u64, pkid: u64, reason: u64, filters: Span) ->
         topic: nowhere,
         payload: nowhere,
         filters,
+        reasons,
+        topics,
     }
 }
 
 // ---- a packet
 
-fn publish_numbers(taken: usize, m: Publish) -> [u64; 38]
+fn publish_numbers(taken: usize, m: Publish) -> [u64; 42]
     ensures { λ r. ⌜ r ≡ packetNumbers taken (publish (toldPublish m)) ⌝ }
 {
     let properties = m.properties;
     numbers(publish_head(taken, m), publish_block(properties))
 }
 
-fn puback_numbers(taken: usize, m: PubAck) -> [u64; 38]
-    ensures { λ r. ⌜ r ≡ packetNumbers taken (ack 4 (toldPubAck m)) ⌝ }
+fn ack_number(kind: AckKind) -> u64
+    ensures { λ r. ⌜ r ≡ toldAckKind kind ⌝ }
 {
-    let reason = m.reason;
-    let properties = m.properties;
-    numbers(
-        plain_head(
-            taken,
-            4,
-            m.pkid as u64,
-            reason_code(reason) as u64,
-            no_span(),
-        ),
-        puback_block(properties),
-    )
+    match kind {
+        AckKind::PubAck => 4,
+        AckKind::PubRec => 5,
+        AckKind::PubRel => 6,
+        AckKind::PubComp => 7,
+    }
 }
 
-fn subscribe_numbers(taken: usize, m: Subscribe) -> [u64; 38]
+fn reply_number(kind: ReplyKind) -> u64
+    ensures { λ r. ⌜ r ≡ toldReplyKind kind ⌝ }
+{
+    match kind {
+        ReplyKind::SubAck => 9,
+        ReplyKind::UnsubAck => 11,
+    }
+}
+
+fn ack_numbers(taken: usize, kind: AckKind, m: Ack) -> [u64; 42]
+    ensures { λ r. ⌜ r ≡ packetNumbers taken (ack (toldAckKind kind) (toldAck m)) ⌝ }
+{
+    let properties = m.properties;
+    let nowhere = no_span();
+    let k = ack_number(kind);
+    let head = plain_head(
+        taken,
+        k,
+        m.pkid as u64,
+        m.reason as u64,
+        nowhere,
+        nowhere,
+        nowhere,
+    );
+    numbers(head, props_block(properties))
+}
+
+fn subscribe_numbers(taken: usize, m: Subscribe) -> [u64; 42]
     ensures { λ r. ⌜ r ≡ packetNumbers taken (subscribe (toldSubscribe m)) ⌝ }
 {
     let filters = m.filters;
     let properties = m.properties;
+    let nowhere = no_span();
+    let head = plain_head(taken, 8, m.pkid as u64, 0, filters, nowhere, nowhere);
+    numbers(head, props_block(properties))
+}
+
+fn reply_numbers(taken: usize, kind: ReplyKind, m: Reply) -> [u64; 42]
+    ensures { λ r. ⌜ r ≡ packetNumbers taken (reply (toldReplyKind kind) (toldReply m)) ⌝ }
+{
+    let reasons = m.reasons;
+    let properties = m.properties;
+    let nowhere = no_span();
+    let k = reply_number(kind);
+    let head = plain_head(taken, k, m.pkid as u64, 0, nowhere, reasons, nowhere);
+    numbers(head, props_block(properties))
+}
+
+fn unsubscribe_numbers(taken: usize, m: Unsubscribe) -> [u64; 42]
+    ensures { λ r. ⌜ r ≡ packetNumbers taken (unsubscribe (toldUnsubscribe m)) ⌝ }
+{
+    let topics = m.topics;
+    let properties = m.properties;
+    let nowhere = no_span();
+    let head = plain_head(taken, 10, m.pkid as u64, 0, nowhere, nowhere, topics);
+    numbers(head, props_block(properties))
+}
+
+fn ping_numbers(taken: usize, kind: u64) -> [u64; 42]
+    ensures { λ r. ⌜ r ≡ packetNumbers taken (ping kind) ⌝ }
+{
+    let nowhere = no_span();
     numbers(
-        plain_head(taken, 8, m.pkid as u64, 0, filters),
-        subscribe_block(properties),
+        plain_head(taken, kind, 0, 0, nowhere, nowhere, nowhere),
+        no_block(),
     )
 }
 
-fn ping_numbers(taken: usize, kind: u64) -> [u64; 38]
-    ensures { λ r. ⌜ r ≡ packetNumbers taken (ping kind) ⌝ }
-{
-    numbers(plain_head(taken, kind, 0, 0, no_span()), no_block())
-}
-
-fn packet_numbers(taken: usize, p: Packet) -> [u64; 38]
+fn packet_numbers(taken: usize, p: Packet) -> [u64; 42]
     ensures { λ r. ⌜ r ≡ packetNumbers taken (toldPacket p) ⌝ }
 {
     match p {
         Packet::Publish(m) => publish_numbers(taken, m),
-        Packet::PubAck(m) => puback_numbers(taken, m),
+        Packet::Ack(k, m) => ack_numbers(taken, k, m),
         Packet::Subscribe(m) => subscribe_numbers(taken, m),
+        Packet::Reply(k, m) => reply_numbers(taken, k, m),
+        Packet::Unsubscribe(m) => unsubscribe_numbers(taken, m),
         Packet::PingReq => ping_numbers(taken, 12),
         Packet::PingResp => ping_numbers(taken, 13),
     }
@@ -158,7 +221,7 @@ fn packet_numbers(taken: usize, p: Packet) -> [u64; 38]
 
 // ---- an answer
 
-fn error_numbers(taken: usize, e: Error) -> [u64; 38]
+fn error_numbers(taken: usize, e: Error) -> [u64; 42]
     ensures { λ r. ⌜ r ≡ encoded (refusedAs (toldError e) taken) ⌝ }
 {
     let v = values(e);
@@ -168,7 +231,7 @@ fn error_numbers(taken: usize, e: Error) -> [u64; 38]
     )
 }
 
-fn read_numbers(read: Read) -> [u64; 38]
+fn read_numbers(read: Read) -> [u64; 42]
     ensures { λ r. ⌜ r ≡ encoded (told read) ⌝ }
 {
     match read {

@@ -1,6 +1,6 @@
 -- `layout_read::ping_numbers` is right since head and properties are those of the definition. Assumes nothing.
-use mathlib.Core.Path.{_∙_}
 use borrow.Author.Needs.{needs}
+use mathlib.Core.Path.{_∙_}
 use Rattle.layout_read.specs.Record.{packetNumbers}
 use Rattle.layout_read.proofs.ping_numbers.Statement.{statement}
 use Rattle.layout_read.proofs.ping_numbers.Tie as tie
