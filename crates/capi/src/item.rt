@@ -1,13 +1,14 @@
 // The n-th item of a list at a place of the stream.
+use given::kind::reason_item;
 use given::kind::user_item;
 use layout_item;
 use records::span::Span;
 ghost use mathlib.Core.Path.{_≡_};
 ghost use lib.Seq.{sets};
-ghost use Rattle.reading.specs.Place.{asPlaces, subscriptionAt, filterAt};
+ghost use Rattle.reading.specs.Place.{asPlaces, subscriptionAt, filterAt, topicAt};
 ghost use Rattle.layout.specs.Value.{fitNumber};
-ghost use Rattle.layout_item.specs.Item.{userNumbers, identifierNumbers, filterNumbers};
-ghost use Rattle.given.specs.Kind.{userOf};
+ghost use Rattle.layout_item.specs.Item.{userNumbers, identifierNumbers, filterNumbers, reasonNumbers, topicNumbers};
+ghost use Rattle.given.specs.Kind.{userOf, reasonGiven};
 
 // Key and value.
 #[no_mangle]
@@ -56,4 +57,37 @@ pub extern "C" fn ecch_filter(
 {
     let found = filter_runs::filter(stream, Span { start, len }, n);
     layout_item::store_filter(found, &mut *into)
+}
+
+// Of a SubAck or UnsubAck.
+#[no_mangle]
+pub extern "C" fn ecch_reason(
+    stream: &[u8],
+    kind: u8,
+    start: usize,
+    len: usize,
+    n: usize,
+    into: &mut [u64],
+) -> u32
+    ensures number { λ r. ⌜ r ≡ fitNumber (reasonGiven kind (now (stream .entry)) (record { start = start; len = len }) n) ⌝ }
+    ensures stored { λ r. ⌜ now (into .exit) ≡ sets (now (into .entry)) 0 (reasonNumbers (reasonGiven kind (now (stream .entry)) (record { start = start; len = len }) n)) ⌝ }
+{
+    let found = reason_item(stream, kind, Span { start, len }, n);
+    layout_item::store_reason(found, &mut *into)
+}
+
+// Of an Unsubscribe.
+#[no_mangle]
+pub extern "C" fn ecch_topic(
+    stream: &[u8],
+    start: usize,
+    len: usize,
+    n: usize,
+    into: &mut [u64],
+) -> u32
+    ensures number { λ r. ⌜ r ≡ fitNumber (topicAt asPlaces (now (stream .entry)) (record { start = start; len = len }) n) ⌝ }
+    ensures stored { λ r. ⌜ now (into .exit) ≡ sets (now (into .entry)) 0 (topicNumbers (topicAt asPlaces (now (stream .entry)) (record { start = start; len = len }) n)) ⌝ }
+{
+    let found = entry_runs::topic(stream, Span { start, len }, n);
+    layout_item::store_topic(found, &mut *into)
 }

@@ -1,15 +1,17 @@
 // The property or filter at an index of the stream, and the index after it: a list walked item by item costs each byte once.
 use given::kind::property_at;
 use layout_next::store_next_filter;
+use layout_next::store_next_topic;
 use layout_next::store_property;
+use wire::string::read_mqtt_string;
 ghost use mathlib.Core.Path.{_≡_};
 ghost use lib.ListN.{length};
 ghost use lib.Seq.{sets};
-ghost use Rattle.reading.specs.Read.{filterOf};
+ghost use Rattle.reading.specs.Read.{textOf, filterOf};
 ghost use Rattle.reading.specs.Place.{asPlaces};
 ghost use Rattle.positions.specs.Position.{fromAt};
 ghost use Rattle.layout.specs.Value.{fitNumber};
-ghost use Rattle.layout_next.specs.Next.{propertyNumbers, nextFilterNumbers};
+ghost use Rattle.layout_next.specs.Next.{propertyNumbers, nextFilterNumbers, nextTopicNumbers};
 ghost use Rattle.given.specs.Kind.{propertyAt};
 
 // Identifier and value.
@@ -30,4 +32,14 @@ pub extern "C" fn ecch_next_filter(stream: &[u8], at: usize, into: &mut [u64]) -
 {
     let found = filters::read_filter(stream, at);
     store_next_filter(found, &mut *into)
+}
+
+// Where it stands.
+#[no_mangle]
+pub extern "C" fn ecch_next_topic(stream: &[u8], at: usize, into: &mut [u64]) -> u32
+    ensures number { λ r. ⌜ r ≡ fitNumber (fromAt (textOf asPlaces (length (now (stream .entry)))) (now (stream .entry)) at) ⌝ }
+    ensures stored { λ r. ⌜ now (into .exit) ≡ sets (now (into .entry)) 0 (nextTopicNumbers (fromAt (textOf asPlaces (length (now (stream .entry)))) (now (stream .entry)) at)) ⌝ }
+{
+    let found = read_mqtt_string(stream, at);
+    store_next_topic(found, &mut *into)
 }

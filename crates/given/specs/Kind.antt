@@ -5,11 +5,11 @@ use mathlib.Core.List.{List, [], _∷_}
 use Prim.Native.Nat.{ℕ}
 use lib.ListN.{length}
 use Rattle.grammar.specs.Choice.{lookup}
-use Rattle.grammar.specs.Tables.{Form, Place, publishPlace, subscribePlace, ackPlace, unsubscribePlace}
+use Rattle.grammar.specs.Tables.{Form, Place, publishPlace, subscribePlace, ackPlace, unsubscribePlace, reasonsOf}
 use Rattle.grammar.specs.Record.{Val, PropOf}
 use Rattle.reading.specs.Reader.{Fit, bad}
 use Rattle.reading.specs.Read.{propertyOf}
-use Rattle.reading.specs.Place.{Span, asPlaces, noItem, userAt}
+use Rattle.reading.specs.Place.{Span, asPlaces, noItem, userAt, reasonAt}
 use Rattle.positions.specs.Position.{fromAt}
 use Rattle.property_value.specs.Told.{toldProperty, OfForm}
 use Rattle.property_value.specs.declared.GotProperty.{GotProperty}
@@ -52,3 +52,16 @@ formIn (some row) k = lookup row k
 pub record PropertyGiven (kind : ℕ) (s : List ℕ) (at : ℕ) (r : GotProperty) : Type 0 where
   pub says : toldProperty r ≡ propertyAt kind s at
   pub typed : OfForm (formIn (lookup blocks kind)) r
+
+-- 02, P1: the kinds that have reasons as entries, and those that each may give
+unfoldable pub replies : List (ℕ × List ℕ)
+replies = (9, reasonsOf 9) ∷ (11, reasonsOf 11) ∷ []
+
+-- the n-th reason, where the kind's reasons are rs
+abbrev pub reasonAmong : Option (List ℕ) → List ℕ → Span → ℕ → Fit ℕ
+reasonAmong none s p n = bad noItem
+reasonAmong (some rs) s p n = reasonAt s p rs n
+
+-- header, `ecch_reason`: "`kind` is 9 or 11; any other is 21"
+abbrev pub reasonGiven : ℕ → List ℕ → Span → ℕ → Fit ℕ
+reasonGiven kind = reasonAmong (lookup replies kind)

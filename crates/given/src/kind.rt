@@ -1,15 +1,18 @@
 // The item or property that C asks for by the number of a kind.
+use entry_runs::ReasonItem;
 use property_value::GotProperty;
 use property_value::read_property;
 use records::answer::UserItem;
 use records::error::Error;
+use records::reply_record::ReplyKind;
 use records::span::Span;
 use tables::property::PropertyPlace;
 ghost use mathlib.Core.Path.{_≡_};
 ghost use Rattle.grammar.specs.Choice.{lookup};
 ghost use Rattle.records.specs.Told.{toldSpan};
 ghost use Rattle.records.specs.Answered.{toldUser};
-ghost use Rattle.given.specs.Kind.{blocks, toldRow, userOf, PropertyGiven};
+ghost use Rattle.given.specs.Kind.{blocks, toldRow, userOf, reasonGiven, PropertyGiven};
+ghost use Rattle.entry_runs.specs.Told.{toldReasonItem};
 
 // The row of a kind's block, or that it has none.
 pub enum Row {
@@ -51,5 +54,16 @@ pub fn property_at(stream: &[u8], kind: u8, at: usize) -> GotProperty
     match row_of(kind) {
         Row::Of(place) => read_property(place, stream, at),
         Row::NoRow => GotProperty::Refused(Error::NoItem),
+    }
+}
+
+// The n-th reason of a kind that has reasons.
+pub fn reason_item(stream: &[u8], kind: u8, p: Span, n: usize) -> ReasonItem
+    ensures { λ r. ⌜ toldReasonItem r ≡ reasonGiven kind (now (stream .entry)) (toldSpan p) n ⌝ }
+{
+    match kind {
+        9 => entry_runs::reason(ReplyKind::SubAck, stream, p, n),
+        11 => entry_runs::reason(ReplyKind::UnsubAck, stream, p, n),
+        0..=8 | 10 | 12..=255 => ReasonItem::NoItem,
     }
 }

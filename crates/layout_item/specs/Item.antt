@@ -24,3 +24,13 @@ identifierNumbers (bad k) = 0 ∷ []
 abbrev pub filterNumbers : Fit (Filter Span) → List ℕ
 filterNumbers (got f) = f .path .start ∷ f .path .len ∷ f .qos ∷ f .noLocal ∷ f .preserve ∷ f .rule ∷ []
 filterNumbers (bad k) = 0 ∷ 0 ∷ 0 ∷ 0 ∷ 0 ∷ 0 ∷ []
+
+-- 02, P1: ecch_reason_layout
+abbrev pub reasonNumbers : Fit ℕ → List ℕ
+reasonNumbers (got c) = c ∷ []
+reasonNumbers (bad k) = 0 ∷ []
+
+-- 02, P1: ecch_topic_layout
+abbrev pub topicNumbers : Fit Span → List ℕ
+topicNumbers (got p) = p .start ∷ p .len ∷ []
+topicNumbers (bad k) = 0 ∷ 0 ∷ []

@@ -1,6 +1,8 @@
 // What is returned and stored of an item.
 use codes::qos_number;
 use codes::rule_number;
+use entry_runs::ReasonItem;
+use entry_runs::TopicItem;
 use layout::store::store;
 use layout::value::bit;
 use records::answer::FilterItem;
@@ -10,7 +12,8 @@ ghost use mathlib.Core.Path.{_≡_};
 ghost use lib.Seq.{sets};
 ghost use Rattle.records.specs.Answered.{toldUser, toldIdentifier, toldFilterItem};
 ghost use Rattle.layout.specs.Value.{fitNumber};
-ghost use Rattle.layout_item.specs.Item.{userNumbers, identifierNumbers, filterNumbers};
+ghost use Rattle.layout_item.specs.Item.{userNumbers, identifierNumbers, filterNumbers, reasonNumbers, topicNumbers};
+ghost use Rattle.entry_runs.specs.Told.{toldReasonItem, toldTopicItem};
 
 fn user_number(item: UserItem) -> u32
     ensures { λ r. ⌜ r ≡ fitNumber (toldUser item) ⌝ }
@@ -77,6 +80,42 @@ fn filter_numbers(item: FilterItem) -> [u64; 6]
     }
 }
 
+fn reason_number(item: ReasonItem) -> u32
+    ensures { λ r. ⌜ r ≡ fitNumber (toldReasonItem item) ⌝ }
+{
+    match item {
+        ReasonItem::Reason(_) => 0,
+        ReasonItem::NoItem => 21,
+    }
+}
+
+fn reason_numbers(item: ReasonItem) -> [u64; 1]
+    ensures { λ r. ⌜ r ≡ reasonNumbers (toldReasonItem item) ⌝ }
+{
+    match item {
+        ReasonItem::Reason(c) => [c as u64],
+        ReasonItem::NoItem => [0],
+    }
+}
+
+fn topic_number(item: TopicItem) -> u32
+    ensures { λ r. ⌜ r ≡ fitNumber (toldTopicItem item) ⌝ }
+{
+    match item {
+        TopicItem::Topic(_) => 0,
+        TopicItem::NoItem => 21,
+    }
+}
+
+fn topic_numbers(item: TopicItem) -> [u64; 2]
+    ensures { λ r. ⌜ r ≡ topicNumbers (toldTopicItem item) ⌝ }
+{
+    match item {
+        TopicItem::Topic(p) => [p.start as u64, p.len as u64],
+        TopicItem::NoItem => [0, 0],
+    }
+}
+
 // 0, or 21 if there is none; key and value are stored.
 pub fn store_user(item: UserItem, into: &mut [u64]) -> u32
     ensures number { λ r. ⌜ r ≡ fitNumber (toldUser item) ⌝ }
@@ -105,4 +144,24 @@ pub fn store_filter(item: FilterItem, into: &mut [u64]) -> u32
     let numbers = filter_numbers(item);
     store(&mut *into, &numbers);
     filter_number(item)
+}
+
+// The same of a reason.
+pub fn store_reason(item: ReasonItem, into: &mut [u64]) -> u32
+    ensures number { λ r. ⌜ r ≡ fitNumber (toldReasonItem item) ⌝ }
+    ensures stored { λ r. ⌜ now (into .exit) ≡ sets (now (into .entry)) 0 (reasonNumbers (toldReasonItem item)) ⌝ }
+{
+    let numbers = reason_numbers(item);
+    store(&mut *into, &numbers);
+    reason_number(item)
+}
+
+// The same of a topic: where it stands.
+pub fn store_topic(item: TopicItem, into: &mut [u64]) -> u32
+    ensures number { λ r. ⌜ r ≡ fitNumber (toldTopicItem item) ⌝ }
+    ensures stored { λ r. ⌜ now (into .exit) ≡ sets (now (into .entry)) 0 (topicNumbers (toldTopicItem item)) ⌝ }
+{
+    let numbers = topic_numbers(item);
+    store(&mut *into, &numbers);
+    topic_number(item)
 }

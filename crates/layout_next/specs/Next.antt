@@ -27,3 +27,8 @@ propertyNumbers (bad k) = badNumbers k
 abbrev pub nextFilterNumbers : Fit (Filter Span × ℕ) → List ℕ
 nextFilterNumbers (got z) = z .1 ∷ z .0 .path .start ∷ z .0 .path .len ∷ z .0 .qos ∷ z .0 .noLocal ∷ z .0 .preserve ∷ z .0 .rule ∷ []
 nextFilterNumbers (bad k) = badNumbers k
+
+-- 02, P1: ecch_next_topic_layout: a topic and the index after it
+abbrev pub nextTopicNumbers : Fit (Span × ℕ) → List ℕ
+nextTopicNumbers (got z) = z .1 ∷ z .0 .start ∷ z .0 .len ∷ 0 ∷ 0 ∷ 0 ∷ 0 ∷ []
+nextTopicNumbers (bad k) = badNumbers k

@@ -10,13 +10,15 @@ use property_value::Value;
 use records::error::Error;
 use refusals::number;
 use refusals::values;
+use wire::got::GotSpan;
 ghost use mathlib.Core.Path.{_≡_};
 ghost use lib.Seq.{sets};
 ghost use Rattle.records.specs.Told.{toldError};
 ghost use Rattle.property_value.specs.Told.{toldValue, toldProperty};
 ghost use Rattle.filters.specs.Told.{toldGotFilter};
 ghost use Rattle.layout.specs.Value.{fitNumber};
-ghost use Rattle.layout_next.specs.Next.{badNumbers, propertyRow, propertyNumbers, nextFilterNumbers};
+ghost use Rattle.layout_next.specs.Next.{badNumbers, propertyRow, propertyNumbers, nextFilterNumbers, nextTopicNumbers};
+ghost use Rattle.wire.specs.Told.{toldPart};
 
 // The refusal's value.
 fn bad_numbers(e: Error) -> [u64; 7]
@@ -115,4 +117,32 @@ pub fn store_next_filter(filter: GotFilter, into: &mut [u64]) -> u32
     let numbers = next_filter_numbers(filter);
     store(&mut *into, &numbers);
     next_filter_number(filter)
+}
+
+fn next_topic_number(topic: GotSpan) -> u32
+    ensures { λ r. ⌜ r ≡ fitNumber (toldPart topic) ⌝ }
+{
+    match topic {
+        GotSpan::Value(_, _) => 0,
+        GotSpan::Refused(e) => number(e) as u32,
+    }
+}
+
+fn next_topic_numbers(topic: GotSpan) -> [u64; 7]
+    ensures { λ r. ⌜ r ≡ nextTopicNumbers (toldPart topic) ⌝ }
+{
+    match topic {
+        GotSpan::Value(p, next) => [next as u64, p.start as u64, p.len as u64, 0, 0, 0, 0],
+        GotSpan::Refused(e) => bad_numbers(e),
+    }
+}
+
+// The same of a topic: where it stands.
+pub fn store_next_topic(topic: GotSpan, into: &mut [u64]) -> u32
+    ensures number { λ r. ⌜ r ≡ fitNumber (toldPart topic) ⌝ }
+    ensures stored { λ r. ⌜ now (into .exit) ≡ sets (now (into .entry)) 0 (nextTopicNumbers (toldPart topic)) ⌝ }
+{
+    let numbers = next_topic_numbers(topic);
+    store(&mut *into, &numbers);
+    next_topic_number(topic)
 }
