@@ -1,0 +1,132 @@
+// SubAck and UnsubAck: their size, and written; one function over the kind, and two that C calls.
+use given::number::bound;
+use given_heads::reply_by::reply_head;
+use layout_answer;
+use records::reply_record::ReplyKind;
+ghost use mathlib.Core.Path.{_≡_};
+ghost use lib.ListN.{length};
+ghost use lib.Seq.{sets};
+ghost use Rattle.writing.specs.Write.{sizeOf, answerOf, outOf};
+ghost use Rattle.records.specs.Told.{toldReplyKind};
+ghost use Rattle.layout.specs.Value.{fitNumber};
+ghost use Rattle.layout_answer.specs.Answer.{answerNumbers};
+ghost use Rattle.given.specs.Given.{limitGiven};
+ghost use Rattle.given_heads.specs.By.{replyBy};
+
+fn reply_size(
+    kind: ReplyKind,
+    pkid: u16,
+    block: u8,
+    reason_string_on: u8,
+    reason_string: &[u8],
+    user: &[u8],
+    user_lengths: &[usize],
+    reasons: &[u8],
+    answer: &mut [u64],
+) -> u32
+    ensures number { λ r. ⌜ r ≡ fitNumber (sizeOf (replyBy (toldReplyKind kind) pkid block «reason_string_on» (now («reason_string» .entry)) (now (user .entry)) (now («user_lengths» .entry)) (now (reasons .entry)))) ⌝ }
+    ensures stored { λ r. ⌜ now (answer .exit) ≡ sets (now (answer .entry)) 0 (answerNumbers (sizeOf (replyBy (toldReplyKind kind) pkid block «reason_string_on» (now («reason_string» .entry)) (now (user .entry)) (now («user_lengths» .entry)) (now (reasons .entry))))) ⌝ }
+{
+    let head = reply_head(kind, pkid, block, reason_string_on);
+    let size = reply_write::size(head, reason_string, user, user_lengths, reasons);
+    layout_answer::store_written(layout_answer::as_written(size), &mut *answer)
+}
+
+fn reply_write(
+    kind: ReplyKind,
+    pkid: u16,
+    block: u8,
+    reason_string_on: u8,
+    reason_string: &[u8],
+    user: &[u8],
+    user_lengths: &[usize],
+    reasons: &[u8],
+    limited: u8,
+    limit: usize,
+    out: &mut [u8],
+    answer: &mut [u64],
+) -> u32
+    ensures number { λ r. ⌜ r ≡ fitNumber (answerOf (limitGiven limited limit) (length (now (out .entry))) (replyBy (toldReplyKind kind) pkid block «reason_string_on» (now («reason_string» .entry)) (now (user .entry)) (now («user_lengths» .entry)) (now (reasons .entry)))) ⌝ }
+    ensures output { λ r. ⌜ now (out .exit) ≡ outOf (limitGiven limited limit) (now (out .entry)) (replyBy (toldReplyKind kind) pkid block «reason_string_on» (now («reason_string» .entry)) (now (user .entry)) (now («user_lengths» .entry)) (now (reasons .entry))) ⌝ }
+    ensures stored { λ r. ⌜ now (answer .exit) ≡ sets (now (answer .entry)) 0 (answerNumbers (answerOf (limitGiven limited limit) (length (now (out .entry))) (replyBy (toldReplyKind kind) pkid block «reason_string_on» (now («reason_string» .entry)) (now (user .entry)) (now («user_lengths» .entry)) (now (reasons .entry))))) ⌝ }
+{
+    let head = reply_head(kind, pkid, block, reason_string_on);
+    let written = reply_write::write(head, reason_string, user, user_lengths, reasons, bound(limited, limit), &mut *out);
+    layout_answer::store_written(written, &mut *answer)
+}
+
+#[no_mangle]
+pub extern "C" fn ecch_suback_size(
+    pkid: u16,
+    block: u8,
+    reason_string_on: u8,
+    reason_string: &[u8],
+    user: &[u8],
+    user_lengths: &[usize],
+    reasons: &[u8],
+    answer: &mut [u64],
+) -> u32
+    ensures number { λ r. ⌜ r ≡ fitNumber (sizeOf (replyBy 9 pkid block «reason_string_on» (now («reason_string» .entry)) (now (user .entry)) (now («user_lengths» .entry)) (now (reasons .entry)))) ⌝ }
+    ensures stored { λ r. ⌜ now (answer .exit) ≡ sets (now (answer .entry)) 0 (answerNumbers (sizeOf (replyBy 9 pkid block «reason_string_on» (now («reason_string» .entry)) (now (user .entry)) (now («user_lengths» .entry)) (now (reasons .entry))))) ⌝ }
+{
+    reply_size(ReplyKind::SubAck, pkid, block, reason_string_on, reason_string, user, user_lengths, reasons, &mut *answer)
+}
+
+#[no_mangle]
+pub extern "C" fn ecch_suback_write(
+    pkid: u16,
+    block: u8,
+    reason_string_on: u8,
+    reason_string: &[u8],
+    user: &[u8],
+    user_lengths: &[usize],
+    reasons: &[u8],
+    limited: u8,
+    limit: usize,
+    out: &mut [u8],
+    answer: &mut [u64],
+) -> u32
+    ensures number { λ r. ⌜ r ≡ fitNumber (answerOf (limitGiven limited limit) (length (now (out .entry))) (replyBy 9 pkid block «reason_string_on» (now («reason_string» .entry)) (now (user .entry)) (now («user_lengths» .entry)) (now (reasons .entry)))) ⌝ }
+    ensures output { λ r. ⌜ now (out .exit) ≡ outOf (limitGiven limited limit) (now (out .entry)) (replyBy 9 pkid block «reason_string_on» (now («reason_string» .entry)) (now (user .entry)) (now («user_lengths» .entry)) (now (reasons .entry))) ⌝ }
+    ensures stored { λ r. ⌜ now (answer .exit) ≡ sets (now (answer .entry)) 0 (answerNumbers (answerOf (limitGiven limited limit) (length (now (out .entry))) (replyBy 9 pkid block «reason_string_on» (now («reason_string» .entry)) (now (user .entry)) (now («user_lengths» .entry)) (now (reasons .entry))))) ⌝ }
+{
+    reply_write(ReplyKind::SubAck, pkid, block, reason_string_on, reason_string, user, user_lengths, reasons, limited, limit, &mut *out, &mut *answer)
+}
+
+#[no_mangle]
+pub extern "C" fn ecch_unsuback_size(
+    pkid: u16,
+    block: u8,
+    reason_string_on: u8,
+    reason_string: &[u8],
+    user: &[u8],
+    user_lengths: &[usize],
+    reasons: &[u8],
+    answer: &mut [u64],
+) -> u32
+    ensures number { λ r. ⌜ r ≡ fitNumber (sizeOf (replyBy 11 pkid block «reason_string_on» (now («reason_string» .entry)) (now (user .entry)) (now («user_lengths» .entry)) (now (reasons .entry)))) ⌝ }
+    ensures stored { λ r. ⌜ now (answer .exit) ≡ sets (now (answer .entry)) 0 (answerNumbers (sizeOf (replyBy 11 pkid block «reason_string_on» (now («reason_string» .entry)) (now (user .entry)) (now («user_lengths» .entry)) (now (reasons .entry))))) ⌝ }
+{
+    reply_size(ReplyKind::UnsubAck, pkid, block, reason_string_on, reason_string, user, user_lengths, reasons, &mut *answer)
+}
+
+#[no_mangle]
+pub extern "C" fn ecch_unsuback_write(
+    pkid: u16,
+    block: u8,
+    reason_string_on: u8,
+    reason_string: &[u8],
+    user: &[u8],
+    user_lengths: &[usize],
+    reasons: &[u8],
+    limited: u8,
+    limit: usize,
+    out: &mut [u8],
+    answer: &mut [u64],
+) -> u32
+    ensures number { λ r. ⌜ r ≡ fitNumber (answerOf (limitGiven limited limit) (length (now (out .entry))) (replyBy 11 pkid block «reason_string_on» (now («reason_string» .entry)) (now (user .entry)) (now («user_lengths» .entry)) (now (reasons .entry)))) ⌝ }
+    ensures output { λ r. ⌜ now (out .exit) ≡ outOf (limitGiven limited limit) (now (out .entry)) (replyBy 11 pkid block «reason_string_on» (now («reason_string» .entry)) (now (user .entry)) (now («user_lengths» .entry)) (now (reasons .entry))) ⌝ }
+    ensures stored { λ r. ⌜ now (answer .exit) ≡ sets (now (answer .entry)) 0 (answerNumbers (answerOf (limitGiven limited limit) (length (now (out .entry))) (replyBy 11 pkid block «reason_string_on» (now («reason_string» .entry)) (now (user .entry)) (now («user_lengths» .entry)) (now (reasons .entry))))) ⌝ }
+{
+    reply_write(ReplyKind::UnsubAck, pkid, block, reason_string_on, reason_string, user, user_lengths, reasons, limited, limit, &mut *out, &mut *answer)
+}
