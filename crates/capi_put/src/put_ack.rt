@@ -51,7 +51,14 @@ fn ack_write(
     ensures stored { λ r. ⌜ now (answer .exit) ≡ sets (now (answer .entry)) 0 (answerNumbers (answerOf (limitGiven limited limit) (length (now (out .entry))) (ackBy (toldAckKind kind) pkid reason block «reason_string_on» (now («reason_string» .entry)) (now (user .entry)) (now («user_lengths» .entry))))) ⌝ }
 {
     let head = ack_head(kind, pkid, reason, block, reason_string_on);
-    let written = ack_write::write(head, reason_string, user, user_lengths, bound(limited, limit), &mut *out);
+    let written = ack_write::write(
+        head,
+        reason_string,
+        user,
+        user_lengths,
+        bound(limited, limit),
+        &mut *out,
+    );
     layout_answer::store_written(written, &mut *answer)
 }
 
@@ -69,7 +76,17 @@ pub extern "C" fn ecch_puback_size(
     ensures number { λ r. ⌜ r ≡ fitNumber (sizeOf (ackBy 4 pkid reason block «reason_string_on» (now («reason_string» .entry)) (now (user .entry)) (now («user_lengths» .entry)))) ⌝ }
     ensures stored { λ r. ⌜ now (answer .exit) ≡ sets (now (answer .entry)) 0 (answerNumbers (sizeOf (ackBy 4 pkid reason block «reason_string_on» (now («reason_string» .entry)) (now (user .entry)) (now («user_lengths» .entry))))) ⌝ }
 {
-    ack_size(AckKind::PubAck, pkid, reason, block, reason_string_on, reason_string, user, user_lengths, &mut *answer)
+    ack_size(
+        AckKind::PubAck,
+        pkid,
+        reason,
+        block,
+        reason_string_on,
+        reason_string,
+        user,
+        user_lengths,
+        &mut *answer,
+    )
 }
 
 #[no_mangle]
@@ -90,7 +107,20 @@ pub extern "C" fn ecch_puback_write(
     ensures output { λ r. ⌜ now (out .exit) ≡ outOf (limitGiven limited limit) (now (out .entry)) (ackBy 4 pkid reason block «reason_string_on» (now («reason_string» .entry)) (now (user .entry)) (now («user_lengths» .entry))) ⌝ }
     ensures stored { λ r. ⌜ now (answer .exit) ≡ sets (now (answer .entry)) 0 (answerNumbers (answerOf (limitGiven limited limit) (length (now (out .entry))) (ackBy 4 pkid reason block «reason_string_on» (now («reason_string» .entry)) (now (user .entry)) (now («user_lengths» .entry))))) ⌝ }
 {
-    ack_write(AckKind::PubAck, pkid, reason, block, reason_string_on, reason_string, user, user_lengths, limited, limit, &mut *out, &mut *answer)
+    ack_write(
+        AckKind::PubAck,
+        pkid,
+        reason,
+        block,
+        reason_string_on,
+        reason_string,
+        user,
+        user_lengths,
+        limited,
+        limit,
+        &mut *out,
+        &mut *answer,
+    )
 }
 
 #[no_mangle]
@@ -107,7 +137,17 @@ pub extern "C" fn ecch_pubrec_size(
     ensures number { λ r. ⌜ r ≡ fitNumber (sizeOf (ackBy 5 pkid reason block «reason_string_on» (now («reason_string» .entry)) (now (user .entry)) (now («user_lengths» .entry)))) ⌝ }
     ensures stored { λ r. ⌜ now (answer .exit) ≡ sets (now (answer .entry)) 0 (answerNumbers (sizeOf (ackBy 5 pkid reason block «reason_string_on» (now («reason_string» .entry)) (now (user .entry)) (now («user_lengths» .entry))))) ⌝ }
 {
-    ack_size(AckKind::PubRec, pkid, reason, block, reason_string_on, reason_string, user, user_lengths, &mut *answer)
+    ack_size(
+        AckKind::PubRec,
+        pkid,
+        reason,
+        block,
+        reason_string_on,
+        reason_string,
+        user,
+        user_lengths,
+        &mut *answer,
+    )
 }
 
 #[no_mangle]
@@ -128,7 +168,20 @@ pub extern "C" fn ecch_pubrec_write(
     ensures output { λ r. ⌜ now (out .exit) ≡ outOf (limitGiven limited limit) (now (out .entry)) (ackBy 5 pkid reason block «reason_string_on» (now («reason_string» .entry)) (now (user .entry)) (now («user_lengths» .entry))) ⌝ }
     ensures stored { λ r. ⌜ now (answer .exit) ≡ sets (now (answer .entry)) 0 (answerNumbers (answerOf (limitGiven limited limit) (length (now (out .entry))) (ackBy 5 pkid reason block «reason_string_on» (now («reason_string» .entry)) (now (user .entry)) (now («user_lengths» .entry))))) ⌝ }
 {
-    ack_write(AckKind::PubRec, pkid, reason, block, reason_string_on, reason_string, user, user_lengths, limited, limit, &mut *out, &mut *answer)
+    ack_write(
+        AckKind::PubRec,
+        pkid,
+        reason,
+        block,
+        reason_string_on,
+        reason_string,
+        user,
+        user_lengths,
+        limited,
+        limit,
+        &mut *out,
+        &mut *answer,
+    )
 }
 
 #[no_mangle]
@@ -145,7 +198,17 @@ pub extern "C" fn ecch_pubrel_size(
     ensures number { λ r. ⌜ r ≡ fitNumber (sizeOf (ackBy 6 pkid reason block «reason_string_on» (now («reason_string» .entry)) (now (user .entry)) (now («user_lengths» .entry)))) ⌝ }
     ensures stored { λ r. ⌜ now (answer .exit) ≡ sets (now (answer .entry)) 0 (answerNumbers (sizeOf (ackBy 6 pkid reason block «reason_string_on» (now («reason_string» .entry)) (now (user .entry)) (now («user_lengths» .entry))))) ⌝ }
 {
-    ack_size(AckKind::PubRel, pkid, reason, block, reason_string_on, reason_string, user, user_lengths, &mut *answer)
+    ack_size(
+        AckKind::PubRel,
+        pkid,
+        reason,
+        block,
+        reason_string_on,
+        reason_string,
+        user,
+        user_lengths,
+        &mut *answer,
+    )
 }
 
 #[no_mangle]
@@ -166,7 +229,20 @@ pub extern "C" fn ecch_pubrel_write(
     ensures output { λ r. ⌜ now (out .exit) ≡ outOf (limitGiven limited limit) (now (out .entry)) (ackBy 6 pkid reason block «reason_string_on» (now («reason_string» .entry)) (now (user .entry)) (now («user_lengths» .entry))) ⌝ }
     ensures stored { λ r. ⌜ now (answer .exit) ≡ sets (now (answer .entry)) 0 (answerNumbers (answerOf (limitGiven limited limit) (length (now (out .entry))) (ackBy 6 pkid reason block «reason_string_on» (now («reason_string» .entry)) (now (user .entry)) (now («user_lengths» .entry))))) ⌝ }
 {
-    ack_write(AckKind::PubRel, pkid, reason, block, reason_string_on, reason_string, user, user_lengths, limited, limit, &mut *out, &mut *answer)
+    ack_write(
+        AckKind::PubRel,
+        pkid,
+        reason,
+        block,
+        reason_string_on,
+        reason_string,
+        user,
+        user_lengths,
+        limited,
+        limit,
+        &mut *out,
+        &mut *answer,
+    )
 }
 
 #[no_mangle]
@@ -183,7 +259,17 @@ pub extern "C" fn ecch_pubcomp_size(
     ensures number { λ r. ⌜ r ≡ fitNumber (sizeOf (ackBy 7 pkid reason block «reason_string_on» (now («reason_string» .entry)) (now (user .entry)) (now («user_lengths» .entry)))) ⌝ }
     ensures stored { λ r. ⌜ now (answer .exit) ≡ sets (now (answer .entry)) 0 (answerNumbers (sizeOf (ackBy 7 pkid reason block «reason_string_on» (now («reason_string» .entry)) (now (user .entry)) (now («user_lengths» .entry))))) ⌝ }
 {
-    ack_size(AckKind::PubComp, pkid, reason, block, reason_string_on, reason_string, user, user_lengths, &mut *answer)
+    ack_size(
+        AckKind::PubComp,
+        pkid,
+        reason,
+        block,
+        reason_string_on,
+        reason_string,
+        user,
+        user_lengths,
+        &mut *answer,
+    )
 }
 
 #[no_mangle]
@@ -204,5 +290,18 @@ pub extern "C" fn ecch_pubcomp_write(
     ensures output { λ r. ⌜ now (out .exit) ≡ outOf (limitGiven limited limit) (now (out .entry)) (ackBy 7 pkid reason block «reason_string_on» (now («reason_string» .entry)) (now (user .entry)) (now («user_lengths» .entry))) ⌝ }
     ensures stored { λ r. ⌜ now (answer .exit) ≡ sets (now (answer .entry)) 0 (answerNumbers (answerOf (limitGiven limited limit) (length (now (out .entry))) (ackBy 7 pkid reason block «reason_string_on» (now («reason_string» .entry)) (now (user .entry)) (now («user_lengths» .entry))))) ⌝ }
 {
-    ack_write(AckKind::PubComp, pkid, reason, block, reason_string_on, reason_string, user, user_lengths, limited, limit, &mut *out, &mut *answer)
+    ack_write(
+        AckKind::PubComp,
+        pkid,
+        reason,
+        block,
+        reason_string_on,
+        reason_string,
+        user,
+        user_lengths,
+        limited,
+        limit,
+        &mut *out,
+        &mut *answer,
+    )
 }

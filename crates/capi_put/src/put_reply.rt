@@ -51,7 +51,15 @@ fn reply_write(
     ensures stored { λ r. ⌜ now (answer .exit) ≡ sets (now (answer .entry)) 0 (answerNumbers (answerOf (limitGiven limited limit) (length (now (out .entry))) (replyBy (toldReplyKind kind) pkid block «reason_string_on» (now («reason_string» .entry)) (now (user .entry)) (now («user_lengths» .entry)) (now (reasons .entry))))) ⌝ }
 {
     let head = reply_head(kind, pkid, block, reason_string_on);
-    let written = reply_write::write(head, reason_string, user, user_lengths, reasons, bound(limited, limit), &mut *out);
+    let written = reply_write::write(
+        head,
+        reason_string,
+        user,
+        user_lengths,
+        reasons,
+        bound(limited, limit),
+        &mut *out,
+    );
     layout_answer::store_written(written, &mut *answer)
 }
 
@@ -69,7 +77,17 @@ pub extern "C" fn ecch_suback_size(
     ensures number { λ r. ⌜ r ≡ fitNumber (sizeOf (replyBy 9 pkid block «reason_string_on» (now («reason_string» .entry)) (now (user .entry)) (now («user_lengths» .entry)) (now (reasons .entry)))) ⌝ }
     ensures stored { λ r. ⌜ now (answer .exit) ≡ sets (now (answer .entry)) 0 (answerNumbers (sizeOf (replyBy 9 pkid block «reason_string_on» (now («reason_string» .entry)) (now (user .entry)) (now («user_lengths» .entry)) (now (reasons .entry))))) ⌝ }
 {
-    reply_size(ReplyKind::SubAck, pkid, block, reason_string_on, reason_string, user, user_lengths, reasons, &mut *answer)
+    reply_size(
+        ReplyKind::SubAck,
+        pkid,
+        block,
+        reason_string_on,
+        reason_string,
+        user,
+        user_lengths,
+        reasons,
+        &mut *answer,
+    )
 }
 
 #[no_mangle]
@@ -90,7 +108,20 @@ pub extern "C" fn ecch_suback_write(
     ensures output { λ r. ⌜ now (out .exit) ≡ outOf (limitGiven limited limit) (now (out .entry)) (replyBy 9 pkid block «reason_string_on» (now («reason_string» .entry)) (now (user .entry)) (now («user_lengths» .entry)) (now (reasons .entry))) ⌝ }
     ensures stored { λ r. ⌜ now (answer .exit) ≡ sets (now (answer .entry)) 0 (answerNumbers (answerOf (limitGiven limited limit) (length (now (out .entry))) (replyBy 9 pkid block «reason_string_on» (now («reason_string» .entry)) (now (user .entry)) (now («user_lengths» .entry)) (now (reasons .entry))))) ⌝ }
 {
-    reply_write(ReplyKind::SubAck, pkid, block, reason_string_on, reason_string, user, user_lengths, reasons, limited, limit, &mut *out, &mut *answer)
+    reply_write(
+        ReplyKind::SubAck,
+        pkid,
+        block,
+        reason_string_on,
+        reason_string,
+        user,
+        user_lengths,
+        reasons,
+        limited,
+        limit,
+        &mut *out,
+        &mut *answer,
+    )
 }
 
 #[no_mangle]
@@ -107,7 +138,17 @@ pub extern "C" fn ecch_unsuback_size(
     ensures number { λ r. ⌜ r ≡ fitNumber (sizeOf (replyBy 11 pkid block «reason_string_on» (now («reason_string» .entry)) (now (user .entry)) (now («user_lengths» .entry)) (now (reasons .entry)))) ⌝ }
     ensures stored { λ r. ⌜ now (answer .exit) ≡ sets (now (answer .entry)) 0 (answerNumbers (sizeOf (replyBy 11 pkid block «reason_string_on» (now («reason_string» .entry)) (now (user .entry)) (now («user_lengths» .entry)) (now (reasons .entry))))) ⌝ }
 {
-    reply_size(ReplyKind::UnsubAck, pkid, block, reason_string_on, reason_string, user, user_lengths, reasons, &mut *answer)
+    reply_size(
+        ReplyKind::UnsubAck,
+        pkid,
+        block,
+        reason_string_on,
+        reason_string,
+        user,
+        user_lengths,
+        reasons,
+        &mut *answer,
+    )
 }
 
 #[no_mangle]
@@ -128,5 +169,18 @@ pub extern "C" fn ecch_unsuback_write(
     ensures output { λ r. ⌜ now (out .exit) ≡ outOf (limitGiven limited limit) (now (out .entry)) (replyBy 11 pkid block «reason_string_on» (now («reason_string» .entry)) (now (user .entry)) (now («user_lengths» .entry)) (now (reasons .entry))) ⌝ }
     ensures stored { λ r. ⌜ now (answer .exit) ≡ sets (now (answer .entry)) 0 (answerNumbers (answerOf (limitGiven limited limit) (length (now (out .entry))) (replyBy 11 pkid block «reason_string_on» (now («reason_string» .entry)) (now (user .entry)) (now («user_lengths» .entry)) (now (reasons .entry))))) ⌝ }
 {
-    reply_write(ReplyKind::UnsubAck, pkid, block, reason_string_on, reason_string, user, user_lengths, reasons, limited, limit, &mut *out, &mut *answer)
+    reply_write(
+        ReplyKind::UnsubAck,
+        pkid,
+        block,
+        reason_string_on,
+        reason_string,
+        user,
+        user_lengths,
+        reasons,
+        limited,
+        limit,
+        &mut *out,
+        &mut *answer,
+    )
 }

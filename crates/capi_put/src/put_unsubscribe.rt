@@ -48,6 +48,14 @@ pub extern "C" fn ecch_unsubscribe_write(
     ensures stored { λ r. ⌜ now (answer .exit) ≡ sets (now (answer .entry)) 0 (answerNumbers (answerOf (limitGiven limited limit) (length (now (out .entry))) (unsubscribe (unsubscribeBy pkid block (now (user .entry)) (now («user_lengths» .entry)) (now (topics .entry)) (now («topic_lengths» .entry)))))) ⌝ }
 {
     let head = unsubscribe_head(pkid, block);
-    let written = unsubscribe_write::write(head, user, user_lengths, topics, topic_lengths, bound(limited, limit), &mut *out);
+    let written = unsubscribe_write::write(
+        head,
+        user,
+        user_lengths,
+        topics,
+        topic_lengths,
+        bound(limited, limit),
+        &mut *out,
+    );
     layout_answer::store_written(written, &mut *answer)
 }

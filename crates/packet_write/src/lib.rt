@@ -69,9 +69,7 @@ pub fn size(
             entry_lengths,
             entries,
         ),
-        PacketHead::Reply(m) => {
-            reply_write::size(m, reason_string, user, user_lengths, entries)
-        }
+        PacketHead::Reply(m) => { reply_write::size(m, reason_string, user, user_lengths, entries) }
         PacketHead::Unsubscribe(m) => {
             unsubscribe_write::size(m, user, user_lengths, entry_bytes, entry_lengths)
         }

@@ -48,8 +48,7 @@ module _ (s : List ℕ) where
   of-publish : {x : Placed} {v : Packet} → Items s x v → (m : record-of.Publish place.Span (λ A. place.Span)) → x ≡ publish m
       → (w : record-of.Publish (List ℕ) List) × (v ≡ publish w) × OnBoth (PublishItems s) (m .props) (w .props)
   of-publish (ofPublish {m = m′} {w = w} b) m e =
-      let i : m′ ≡ m = cc in
-      (
+      let i : m′ ≡ m = cc in (
         w,
         refl,
         subst (λ (n : record-of.Publish place.Span (λ A. place.Span)). OnBoth (PublishItems s) (n .props) (w .props)) i b,
@@ -64,8 +63,7 @@ module _ (s : List ℕ) where
       → (w : record-of.Ack (List ℕ) List) × (v ≡ ack k w) × OnBoth (PropsItems s ackPlace) (m .props) (w .props)
   of-ack (ofAck {k = k′} {m = m′} {w = w} b) k m e =
       let i : m′ ≡ m = cc in
-      let j : k′ ≡ k = cc in
-      (
+      let j : k′ ≡ k = cc in (
         w,
         ap (λ (n : ℕ). ack n w) j,
         subst (λ (n : record-of.Ack place.Span (λ A. place.Span)). OnBoth (PropsItems s ackPlace) (n .props) (w .props)) i b,
@@ -79,8 +77,7 @@ module _ (s : List ℕ) where
   of-subscribe : {x : Placed} {v : Packet} → Items s x v → (m : record-of.Subscribe place.Span (λ A. place.Span)) → x ≡ subscribe m
       → (w : record-of.Subscribe (List ℕ) List) × (v ≡ subscribe w) × OnBoth (PropsItems s subscribePlace) (m .props) (w .props) × Lists (filterAt asPlaces s (m .filters)) (sayFilter s) (w .filters)
   of-subscribe (ofSubscribe {m = m′} {w = w} b l) m e =
-      let i : m′ ≡ m = cc in
-      (
+      let i : m′ ≡ m = cc in (
         w,
         refl,
         subst (λ (n : record-of.Subscribe place.Span (λ A. place.Span)). OnBoth (PropsItems s subscribePlace) (n .props) (w .props)) i b,
@@ -96,8 +93,7 @@ module _ (s : List ℕ) where
       → (w : record-of.Reply (List ℕ) List) × (v ≡ reply k w) × OnBoth (PropsItems s ackPlace) (m .props) (w .props) × Lists (reasonAt s (m .reasons) (reasonsOf k)) (λ c. c) (w .reasons)
   of-reply (ofReply {k = k′} {m = m′} {w = w} b l) k m e =
       let i : m′ ≡ m = cc in
-      let j : k′ ≡ k = cc in
-      (
+      let j : k′ ≡ k = cc in (
         w,
         ap (λ (n : ℕ). reply n w) j,
         subst (λ (n : record-of.Reply place.Span (λ A. place.Span)). OnBoth (PropsItems s ackPlace) (n .props) (w .props)) i b,
@@ -112,8 +108,7 @@ module _ (s : List ℕ) where
   of-unsubscribe : {x : Placed} {v : Packet} → Items s x v → (m : record-of.Unsubscribe place.Span (λ A. place.Span)) → x ≡ unsubscribe m
       → (w : record-of.Unsubscribe (List ℕ) List) × (v ≡ unsubscribe w) × OnBoth (PropsItems s unsubscribePlace) (m .props) (w .props) × Lists (topicAt asPlaces s (m .topics)) (heldOf s) (w .topics)
   of-unsubscribe (ofUnsubscribe {m = m′} {w = w} b l) m e =
-      let i : m′ ≡ m = cc in
-      (
+      let i : m′ ≡ m = cc in (
         w,
         refl,
         subst (λ (n : record-of.Unsubscribe place.Span (λ A. place.Span)). OnBoth (PropsItems s unsubscribePlace) (n .props) (w .props)) i b,

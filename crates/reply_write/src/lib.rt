@@ -159,7 +159,7 @@ fn put(
     user: &[u8],
     user_lengths: &[usize],
     reasons: &[u8],
-) 
+)
     ensures { λ r. ⌜ (belongsOf (reply (toldReplyKind (m .kind)) (handed m (now («reason_string» .entry)) (now (user .entry)) (now («user_lengths» .entry)) (now (reasons .entry)))) ≡ true → restIs (reply (toldReplyKind (m .kind)) (handed m (now («reason_string» .entry)) (now (user .entry)) (now («user_lengths» .entry)) (now (reasons .entry)))) ≤ most → now (out .exit) ≡ sets (now (out .entry)) 0 (frameBytes (reply (toldReplyKind (m .kind)) (handed m (now («reason_string» .entry)) (now (user .entry)) (now («user_lengths» .entry)) (now (reasons .entry)))))) ⌝ }
 {
     let len = rest(m, reason_string, user, user_lengths, reasons);

@@ -32,13 +32,13 @@ returns : tie.Need-returns
 returns c =
     let a = c .before .before .before .before .before .args in
     let h = leb-true (a .p .start + a .p .len) (length (now (a .s))) (sym (c .before .before .before .within .ensures) ∙ c .before .before .if1 .taken) in
-    c .nth-topic .ensures ∙ topic-within (now (a .s)) (toldSpan (a .p)) (a .n)  h
+    c .nth-topic .ensures ∙ topic-within (now (a .s)) (toldSpan (a .p)) (a .n) h
 
 returns-2 : tie.Need-returns-2
 returns-2 c =
     let a = c .before .before .before .args in
     let h = leb-false (a .p .start + a .p .len) (length (now (a .s))) (sym (c .before .within .ensures) ∙ c .if1 .left) in
-    topic-outside (now (a .s)) (toldSpan (a .p)) (a .n)  h
+    topic-outside (now (a .s)) (toldSpan (a .p)) (a .n) h
 
 pub topic-spec : {M : Type 1} → statement M
 topic-spec =
