@@ -1,21 +1,28 @@
 -- The heads of a packet to write, as `given_heads` makes them: what one hands over with empty lists leaves no choice of it. Assumes nothing.
-use mathlib.Core.Path.{_≡_, ap}
+use mathlib.Core.Path.{_≡_, refl, ap}
+use Prim.Native.Nat.{ℕ}
 use mathlib.Core.List.{[]}
-use Rattle.writing.specs.Handed.{Handed, PublishHanded, SubscribeHanded, AckHanded, publish, ack, subscribe, ping}
-use Rattle.records.proofs.Told.{backBool, back-bool, backFit, backQoS, back-qos, backReason, back-reason, back-error}
+use Rattle.writing.specs.Handed.{Handed, PublishHanded, SubscribeHanded, AckHanded, ReplyHanded, UnsubscribeHanded, publish, ack, subscribe, reply, unsubscribe, ping}
+use Rattle.records.proofs.Told.{backBool, back-bool, backFit, backQoS, back-qos, backAckKind, back-ack-kind, backReplyKind, back-reply-kind, back-error}
 use Rattle.records.specs.declared.error.Error.{Error}
 use Rattle.records.specs.declared.span.MaybeU8.{MaybeU8}
 use Rattle.records.specs.declared.span.MaybeU16.{MaybeU16}
 use Rattle.records.specs.declared.span.MaybeU32.{MaybeU32}
 use Rattle.publish_plan.specs.declared.head.PublishHead.{PublishHead}
 use Rattle.publish_plan.specs.Handed as publishing
-use Rattle.puback_write.specs.declared.PubAckHead.{PubAckHead}
-use Rattle.puback_write.specs.Handed as answering
+use Rattle.ack_write.specs.declared.AckHead.{AckHead}
+use Rattle.ack_write.specs.Handed as answering
+use Rattle.reply_write.specs.declared.ReplyHead.{ReplyHead}
+use Rattle.reply_write.specs.Handed as replying
+use Rattle.unsubscribe_write.specs.declared.UnsubscribeHead.{UnsubscribeHead}
+use Rattle.unsubscribe_write.specs.Handed as unsubscribing
+use Rattle.records.specs.Told.{toldAckKind, toldReplyKind}
+use Rattle.records.specs.declared.ack_record.AckKind.{AckKind}
+use Rattle.records.specs.declared.reply_record.ReplyKind.{ReplyKind}
 use Rattle.subscribe_write.specs.declared.SubscribeHead.{SubscribeHead}
 use Rattle.subscribe_write.specs.Handed as subscribing
 use Rattle.given_heads.specs.declared.publish_by.GotPublishHead.{GotPublishHead}
-use Rattle.given_heads.specs.declared.puback_by.GotPubAckHead.{GotPubAckHead}
-use Rattle.given_heads.specs.Head.{publishHanded, ackHanded}
+use Rattle.given_heads.specs.Head.{publishHanded}
 use Rattle.one_result.specs.OneResult.{OneResult}
 use Rattle.one_result.proofs.Laws.{one-by}
 use Rattle.one_result.proofs.Writers.{backNumber, back-number-u8, back-number-u16, back-number-u32}
@@ -44,6 +51,8 @@ abbrev backPublishHead : Handed → GotPublishHead
 backPublishHead (publish h) = GotPublishHead.Value (backPublish h)
 backPublishHead (ack k h) = GotPublishHead.Refused Error.NoItem
 backPublishHead (subscribe h) = GotPublishHead.Refused Error.NoItem
+backPublishHead (reply k h) = GotPublishHead.Refused Error.NoItem
+backPublishHead (unsubscribe h) = GotPublishHead.Refused Error.NoItem
 backPublishHead (ping k) = GotPublishHead.Refused Error.NoItem
 
 back-publish-head : (r : GotPublishHead) → backFit backPublishHead GotPublishHead.Refused (publishHanded r [] [] [] [] [] [] [] []) ≡ r
@@ -53,26 +62,44 @@ back-publish-head (GotPublishHead.Refused e) = ap GotPublishHead.Refused (back-e
 pub publish-head-same : OneResult (λ (r : GotPublishHead). publishHanded r [] [] [] [] [] [] [] [])
 publish-head-same = one-by (λ (r : GotPublishHead). publishHanded r [] [] [] [] [] [] [] []) (backFit backPublishHead GotPublishHead.Refused) back-publish-head
 
--- ---- a PubAck
+-- ---- a publish acknowledgement: what it hands over, and the number of its kind
 
-abbrev backPubAck : AckHanded → PubAckHead
-backPubAck h = record { pkid = h .ident; reason = backReason (h .reason); block = h .block; «reason_string» = h .text .on }
+abbrev backAckHead : ℕ × AckHanded → AckHead
+backAckHead (k, h) = record { kind = backAckKind k; pkid = h .ident; reason = h .reason; block = h .block; «reason_string» = h .text .on }
 
-back-puback : (m : PubAckHead) → backPubAck (answering.handed m [] [] []) ≡ m
-back-puback m = simp back-reason
+abbrev ackTold : AckHead → ℕ × AckHanded
+ackTold m = (toldAckKind (m .kind), answering.handed m [] [] [])
 
-abbrev backPubAckHead : Handed → GotPubAckHead
-backPubAckHead (publish h) = GotPubAckHead.Refused Error.NoItem
-backPubAckHead (ack k h) = GotPubAckHead.Value (backPubAck h)
-backPubAckHead (subscribe h) = GotPubAckHead.Refused Error.NoItem
-backPubAckHead (ping k) = GotPubAckHead.Refused Error.NoItem
+back-ack : (m : AckHead) → backAckHead (ackTold m) ≡ m
+back-ack m = simp back-ack-kind
 
-back-puback-head : (r : GotPubAckHead) → backFit backPubAckHead GotPubAckHead.Refused (ackHanded r [] [] []) ≡ r
-back-puback-head (GotPubAckHead.Value m) = ap GotPubAckHead.Value (back-puback m)
-back-puback-head (GotPubAckHead.Refused e) = ap GotPubAckHead.Refused (back-error e)
+pub ack-head-same : OneResult ackTold
+ack-head-same = one-by ackTold backAckHead back-ack
 
-pub puback-head-same : OneResult (λ (r : GotPubAckHead). ackHanded r [] [] [])
-puback-head-same = one-by (λ (r : GotPubAckHead). ackHanded r [] [] []) (backFit backPubAckHead GotPubAckHead.Refused) back-puback-head
+-- ---- a SubAck or UnsubAck, likewise
+
+abbrev backReplyHead : ℕ × ReplyHanded → ReplyHead
+backReplyHead (k, h) = record { kind = backReplyKind k; pkid = h .ident; block = h .block; «reason_string» = h .text .on }
+
+abbrev replyTold : ReplyHead → ℕ × ReplyHanded
+replyTold m = (toldReplyKind (m .kind), replying.handed m [] [] [] [])
+
+back-reply : (m : ReplyHead) → backReplyHead (replyTold m) ≡ m
+back-reply m = simp back-reply-kind
+
+pub reply-head-same : OneResult replyTold
+reply-head-same = one-by replyTold backReplyHead back-reply
+
+-- ---- an Unsubscribe
+
+abbrev backUnsubscribe : UnsubscribeHanded → UnsubscribeHead
+backUnsubscribe h = record { pkid = h .ident; block = h .block }
+
+back-unsubscribe : (m : UnsubscribeHead) → backUnsubscribe (unsubscribing.handed m [] [] [] []) ≡ m
+back-unsubscribe m = refl
+
+pub unsubscribe-head-same : OneResult (λ (m : UnsubscribeHead). unsubscribing.handed m [] [] [] [])
+unsubscribe-head-same = one-by (λ (m : UnsubscribeHead). unsubscribing.handed m [] [] [] []) backUnsubscribe back-unsubscribe
 
 -- ---- a Subscribe
 

@@ -7,14 +7,14 @@ use Prim.Native.Nat.{ℕ, _-_}
 use native.Mathlib.Omega.{arith}
 use lib.Dec.{eqb}
 use Rattle.grammar.specs.Choice.{lookup}
-use Rattle.grammar.specs.Tables.{Form, u8, u16, u32, number, text, bytes, pair, Place, Layout, aPublish, anAck, aSubscribe, aPing}
+use Rattle.grammar.specs.Tables.{Form, u8, u16, u32, number, text, bytes, pair, Place, Layout, aPublish, anAck, aSubscribe, aReply, anUnsubscribe, aPing}
 use Rattle.grammar.specs.Record.{Val, num, str, duo, PropOf}
 use Rattle.reading.specs.Refusal.{nr, cut}
 use Rattle.reading.specs.Reader.{Fit, got, bad}
 use Rattle.reading.specs.Place as place
 use Rattle.reading.proofs.Reading.{bad-got, got-inj}
 use Rattle.records.specs.Told.{toldError, backSpan}
-use Rattle.records.proofs.Told.{back-error, error-injective, backFit, backQoS, back-qos, back-span, numberIn}
+use Rattle.records.proofs.Told.{back-error, error-injective, backFit, backQoS, back-qos, backAckKind, back-ack-kind, backReplyKind, back-reply-kind, back-span, numberIn}
 use Rattle.records.specs.declared.span.Span.{Span}
 use Rattle.numbers.specs.Told.{toldGotU8, toldGotU16, toldGotU32}
 use Rattle.var_length.specs.Length.{toldLength}
@@ -152,15 +152,19 @@ backKind : ℕ × Bool × Option Layout → Kind
 backKind (k, true, o) = Kind.Reserved k
 backKind (k, false, none) = Kind.NotCarried k
 backKind (k, false, some aPublish) = Kind.Publish
-backKind (k, false, some (anAck rs)) = Kind.PubAck
+backKind (k, false, some (anAck rs)) = Kind.Ack (backAckKind k)
 backKind (k, false, some aSubscribe) = Kind.Subscribe
+backKind (k, false, some (aReply rs)) = Kind.Reply (backReplyKind k)
+backKind (k, false, some anUnsubscribe) = Kind.Unsubscribe
 backKind (k, false, some aPing) = cond (eqb k 12) Kind.PingReq Kind.PingResp
 
 back-kind : (k : Kind) → backKind (toldKind k) ≡ k
 unfolding backKind
 back-kind Kind.Publish = refl
-back-kind Kind.PubAck = refl
+back-kind (Kind.Ack k) = ap Kind.Ack (back-ack-kind k)
 back-kind Kind.Subscribe = refl
+back-kind (Kind.Reply k) = ap Kind.Reply (back-reply-kind k)
+back-kind Kind.Unsubscribe = refl
 back-kind Kind.PingReq = refl
 back-kind Kind.PingResp = refl
 back-kind (Kind.Reserved k) = refl
