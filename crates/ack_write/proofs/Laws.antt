@@ -7,29 +7,28 @@ use native.Mathlib.Omega.{arith}
 use lib.Dec.{eqb}
 use lib.ListN.{length}
 use lib.Seq.{sets}
-use Rattle.grammar.specs.Tables.{text, pair, ackPlace, reasonsOf}
+use Rattle.grammar.specs.Tables.{ackPlace, reasonsOf}
 use Rattle.reading.specs.Reader.{Fit, got, _>>_}
 use Rattle.writing.specs.Lists.{flat}
-use Rattle.writing.specs.Handed.{AckHanded, ack, lent, pairs, ackGiven, rowBelongs, belongs}
-use Rattle.writing.specs.Size.{most, withLength, givenSize, propsSize, isPlain, restIs, cap}
-use Rattle.writing.specs.Spell.{wide, short, rowBytes, propsBytes}
-use Rattle.writing.specs.Order.{judge, word, code, fieldTests, givenFields}
+use Rattle.writing.specs.Handed.{AckHanded, ack, ackGiven, blockBelongs, belongs}
+use Rattle.writing.specs.Size.{most, withLength, propsSize, isPlain, restIs, cap}
+use Rattle.writing.specs.Spell.{wide, short, propsBytes}
+use Rattle.writing.specs.Order.{judge, code, fieldTests, propsFields, fieldsOf}
 use Rattle.writing.specs.Write.{firstOf, firstByte, frameBytes}
-use Rattle.writing.proofs.ForCode.{judgeAll, judge-if, ack-belongs, ack-tests, ack-sum, ack-frame, cap-small, cap-length}
-use Rattle.writing.proofs.Pins.{ack-props}
+use Rattle.writing.proofs.ForCode.{ack-frame, cap-small, cap-length}
+use Rattle.writing.proofs.Judge.{fields-more}
 use Rattle.writing.proofs.Says.{length-wide}
-use Rattle.row_sizes.proofs.Laws.{cap-left, cap-last}
+use Rattle.row_sizes.proofs.Laws.{cap-left}
 use Rattle.row_puts.specs.Put.{Put}
+use Rattle.row_puts.specs.Behind.{Behind}
 use Rattle.row_puts.proofs.Laws.{store-next, put-next, next-last}
 use Rattle.settle.specs.Found.{earlyOf, lateOf}
 use Rattle.settle.proofs.Laws.{early-fields}
 
 module _ (k : ℕ) (h : AckHanded) where
-  pub belong-all : {x y r : Bool} → x ≡ rowBelongs (h .block) (lent (h .text)) → y ≡ rowBelongs (h .block) (pairs (h .user)) → r ≡ (x && y) → r ≡ belongs (ack k h)
-  belong-all {y = y} e f g = sym (ack-belongs k h ∙ rw (← e, ← f, and-true y, ← g))
-
-  pub ack-length : (a b r : ℕ) → a ≡ cap (givenSize text (lent (h .text))) → b ≡ cap (givenSize pair (pairs (h .user))) → r ≡ cap (a + b) → r ≡ cap (propsSize ackPlace (ackGiven (h .text) (h .user)))
-  ack-length a b r e f g = g ∙ cap-last a b (givenSize text (lent (h .text))) (givenSize pair (pairs (h .user))) e f ∙ ap cap (sym (ack-sum (h .text) (h .user)))
+  pub belong-all : {r : Bool} → r ≡ blockBelongs ackPlace (h .block) (ackGiven (h .text) (h .user)) → r ≡ belongs (ack k h)
+  unfolding belongs
+  belong-all e = e
 
   -- ---- R
 
@@ -47,9 +46,13 @@ module _ (k : ℕ) (h : AckHanded) where
 
   -- ---- 20 and the fields
 
-  pub early-all : {b : Bool} {w x y z r : Fit (Unit {0})} → b ≡ belongs (ack k h) → b ≡ true → w ≡ judge (fieldTests (code (reasonsOf k) (h .reason))) → x ≡ judge (flat fieldTests (givenFields text (lent (h .text)))) → y ≡ judgeAll (h .user)
-      → z ≡ (x >> y) → r ≡ (w >> z) → r ≡ earlyOf (ack k h)
-  early-all {b} e f c i j l m = m ∙ rw (c, l, i, j, judge-if (h .text .on) (word (h .text .bytes))) (sym (ack-tests k h)) ∙ early-fields (ack k h) b e f
+  tests-both : judge (flat fieldTests (fieldsOf (ack k h))) ≡ (judge (fieldTests (code (reasonsOf k) (h .reason))) >> judge (flat fieldTests (propsFields ackPlace (ackGiven (h .text) (h .user)))))
+  unfolding fieldsOf
+  tests-both = fields-more (code (reasonsOf k) (h .reason)) (propsFields ackPlace (ackGiven (h .text) (h .user)))
+
+  pub early-all : {b : Bool} {x y r : Fit (Unit {0})} → b ≡ belongs (ack k h) → b ≡ true → x ≡ judge (fieldTests (code (reasonsOf k) (h .reason)))
+      → y ≡ judge (flat fieldTests (propsFields ackPlace (ackGiven (h .text) (h .user)))) → r ≡ (x >> y) → r ≡ earlyOf (ack k h)
+  early-all {b} e f i j l = l ∙ rw (i, j) (sym tests-both) ∙ early-fields (ack k h) b e f
 
   pub ack-late : got tt ≡ lateOf (ack k h)
   unfolding judge
@@ -85,19 +88,12 @@ module _ (k : ℕ) (h : AckHanded) where
         let f : frameBytes (ack k h) ≡ (firstOf k ∷ short len) ++ (wide 2 (h .ident) ++ behind) = frame ∙ rw t in
         next-last (put-next p m) (wide 2 (h .ident) ++ behind) (next-last (store-next (wide 2 (h .ident)) q (sym (length-wide 2 (h .ident))) o) behind r) ∙ ap (sets before 0) (sym f)
 
-  pub put-behind : (before out₁ out₂ out₃ out₄ : List ℕ) (at len first n second u third j : ℕ) → len ≡ cap (propsSize ackPlace (ackGiven (h .text) (h .user)))
-      → out₁ ≡ sets before at (h .reason ∷ []) → first ≡ min (at + 1) (length out₁)
-      → (out₂ ≡ sets out₁ first (short len)) × (n ≡ length (short len)) → second ≡ min (first + n) (length out₂)
-      → Put out₂ second (rowBytes (31, text) (lent (h .text))) out₃ u → third ≡ min (second + u) (length out₃)
-      → Put out₃ third (rowBytes (38, pair) (pairs (h .user))) out₄ j
-      → propsSize ackPlace (ackGiven (h .text) (h .user)) ≤ most → out₄ ≡ sets before at behind
-  put-behind before out₁ out₂ out₃ out₄ at len first n second v third j l q₁ m₁ (q₂, c₂) m₂ p₃ m₃ p₄ s =
-      let i : len ≡ propsSize ackPlace (ackGiven (h .text) (h .user)) = l ∙ cap-small (propsSize ackPlace (ackGiven (h .text) (h .user))) s in
-      let t : List ℕ = rowBytes (31, text) (lent (h .text)) in
-      let u : List ℕ = rowBytes (38, pair) (pairs (h .user)) in
-      rw (← i, ack-props (h .text) (h .user), append-nil u)
-      (next-last (store-next (h .reason ∷ []) {l = before} {n = 1} q₁ refl m₁) (short len ++ (t ++ u))
-      (next-last (store-next (short len) q₂ c₂ m₂) (t ++ u) (next-last (put-next p₃ m₃) u (p₄ .stores))))
+  pub put-behind : (before out₁ out₂ : List ℕ) (at next last : ℕ) → out₁ ≡ sets before at (h .reason ∷ []) → next ≡ min (at + 1) (length out₁)
+      → (propsSize ackPlace (ackGiven (h .text) (h .user)) ≤ most
+      → Behind out₁ next (short (propsSize ackPlace (ackGiven (h .text) (h .user))) ++ propsBytes ackPlace (ackGiven (h .text) (h .user))) out₂ last)
+      → propsSize ackPlace (ackGiven (h .text) (h .user)) ≤ most → out₂ ≡ sets before at behind
+  put-behind before out₁ out₂ at next last q₁ m₁ p₂ s =
+      next-last (store-next (h .reason ∷ []) {l = before} {n = 1} q₁ refl m₁) (short (propsSize ackPlace (ackGiven (h .text) (h .user))) ++ propsBytes ackPlace (ackGiven (h .text) (h .user))) (p₂ s .stores)
 
 -- ---- whether it is a plain success
 

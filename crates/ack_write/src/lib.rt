@@ -1,13 +1,11 @@
 // The publish acknowledgements, written, after `write` and `size` of puback.rs to pubcomp.rs: first every refusal and the size, touching nothing, then the bytes. A plain
 // success is four bytes.
-use length_puts::put_length;
 use number_puts::fixed;
 use records::ack_record::AckKind;
 use records::answer::Limit;
 use records::answer::Sized;
 use records::answer::Written;
 use records::error::Error;
-use row_belongs;
 use row_tests::Tested;
 use rows::run;
 use tables::reason::is_ack_reason;
@@ -43,20 +41,7 @@ pub struct AckHead {
 fn belongs(m: AckHead, reason_string: &[u8], user: &[u8], user_lengths: &[usize]) -> bool
     ensures { λ r. ⌜ r ≡ belongsOf (ack (toldAckKind (m .kind)) (handed m (now («reason_string» .entry)) (now (user .entry)) (now («user_lengths» .entry)))) ⌝ }
 {
-    row_belongs::both(
-        row_belongs::lent_belongs(m.block, m.reason_string, reason_string),
-        row_belongs::pairs_belong(m.block, user, user_lengths),
-    )
-}
-
-// L, cut off where it is too large.
-fn block_length(m: AckHead, reason_string: &[u8], user: &[u8], user_lengths: &[usize]) -> usize
-    ensures { λ r. ⌜ r ≡ cap (propsSize ackPlace (givenFor m (now («reason_string» .entry)) (now (user .entry)) (now («user_lengths» .entry)))) ⌝ }
-{
-    row_sizes::add(
-        row_sizes::lent_size(m.reason_string, reason_string),
-        row_sizes::pairs_size(user, user_lengths),
-    )
+    ack_rows::rows_belong(m.block, m.reason_string, reason_string, user, user_lengths)
 }
 
 fn is_plain(m: AckHead) -> bool
@@ -75,10 +60,8 @@ fn rest(m: AckHead, reason_string: &[u8], user: &[u8], user_lengths: &[usize]) -
     if is_plain(m) {
         return 2;
     }
-    row_sizes::add(
-        row_sizes::with_length(block_length(m, reason_string, user, user_lengths)),
-        3,
-    )
+    let len = ack_rows::rows_length(m.reason_string, reason_string, user, user_lengths);
+    row_sizes::add(row_sizes::with_length(len), 3)
 }
 
 // How many bytes the frame is: refused with 20, then 17 for R.
@@ -123,10 +106,7 @@ fn early(m: AckHead, reason_string: &[u8], user: &[u8], user_lengths: &[usize]) 
     let kind = m.kind;
     row_tests::then(
         test_reason(kind, m.reason),
-        row_tests::then(
-            row_tests::test_text(m.reason_string, reason_string),
-            list_tests::test_words(user, user_lengths),
-        ),
+        ack_rows::test_rows(m.reason_string, reason_string, user, user_lengths),
     )
 }
 
@@ -148,14 +128,16 @@ fn put_block(
 )
     ensures { λ r. ⌜ (propsSize ackPlace (givenFor m (now («reason_string» .entry)) (now (user .entry)) (now («user_lengths» .entry))) ≤ most → now (out .exit) ≡ sets (now (out .entry)) at (m .reason ∷ (short (propsSize ackPlace (givenFor m (now («reason_string» .entry)) (now (user .entry)) (now («user_lengths» .entry)))) ++ propsBytes ackPlace (givenFor m (now («reason_string» .entry)) (now (user .entry)) (now («user_lengths» .entry)))))) ⌝ }
 {
-    let len = block_length(m, reason_string, user, user_lengths);
     put_reason(&mut *out, at, m.reason);
-    let first = run::after(out.len(), at, 1);
-    let n = put_length(&mut *out, first, len);
-    let second = run::after(out.len(), first, n);
-    let k = row_puts::put_lent(&mut *out, second, 31, m.reason_string, reason_string);
-    let third = run::after(out.len(), second, k);
-    list_puts::put_pairs(&mut *out, third, user, user_lengths);
+    let next = run::after(out.len(), at, 1);
+    ack_rows::put_rows(
+        &mut *out,
+        next,
+        m.reason_string,
+        reason_string,
+        user,
+        user_lengths,
+    );
 }
 
 // The frame.

@@ -15,12 +15,12 @@ ghost use Rattle.given.specs.Kind.{blocks, toldRow, userOf, reasonGiven,
 ghost use Rattle.entry_runs.specs.Told.{toldReasonItem};
 
 // The row of a kind's block, or that it has none.
-pub enum Row {
+enum Row {
     Of(PropertyPlace),
     NoRow,
 }
 
-pub fn row_of(kind: u8) -> Row
+fn row_of(kind: u8) -> Row
     ensures { λ r. ⌜ toldRow r ≡ lookup blocks kind ⌝ }
 {
     match kind {
