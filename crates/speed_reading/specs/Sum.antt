@@ -3,7 +3,7 @@ use mathlib.Core.Option.{none}
 use mathlib.Core.List.{List, [], _∷_}
 use Prim.Native.Nat.{ℕ}
 use lib.ListN.{drop}
-use Rattle.grammar.specs.Record.{publish, ack, subscribe, ping}
+use Rattle.grammar.specs.Record.{publish, ack, subscribe, reply, unsubscribe, ping}
 use Rattle.reading.specs.Refusal.{Answer, accepted, refused}
 use Rattle.reading.specs.Place.{Placed, readPlacedOf}
 use Rattle.positions.specs.Count.{wrapped}
@@ -13,6 +13,8 @@ abbrev pub weightOf : Placed → ℕ
 weightOf (publish m) = wrapped (m .topic .len) (m .payload .len)
 weightOf (ack k m) = 0
 weightOf (subscribe m) = 0
+weightOf (reply k m) = 0
+weightOf (unsubscribe m) = 0
 weightOf (ping k) = 0
 
 -- what is added for a packet of n bytes

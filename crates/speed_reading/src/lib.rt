@@ -14,8 +14,10 @@ fn weight(p: Packet) -> u64
 {
     match p {
         Packet::Publish(m) => num::wrapping_add_u64(m.topic.len as u64, m.payload.len as u64),
-        Packet::PubAck(_) => 0,
+        Packet::Ack(_, _) => 0,
         Packet::Subscribe(_) => 0,
+        Packet::Reply(_, _) => 0,
+        Packet::Unsubscribe(_) => 0,
         Packet::PingReq => 0,
         Packet::PingResp => 0,
     }
