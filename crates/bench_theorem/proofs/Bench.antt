@@ -8,7 +8,7 @@ use Rattle.grammar.specs.Tables.{publishPlace, subscribePlace, ackPlace, unsubs
 use Rattle.grammar.specs.Record.{Val, num, str, duo, lastOf, allOf, PublishProps, publishProps, propsOf, Props, publish, ack, subscribe, reply, unsubscribe, ping}
 use Rattle.grammar.specs.Sentence.{Packet}
 use Rattle.reading.specs.Refusal.{nr, Answer, accepted, refused, within, over}
-use Rattle.reading.specs.Reader.{Fit, got, bad, noneOf, neverOf, mapOf, onlyOf, thenOf, sizedOf, isFit, mapFit, handFit, onlyFit, thenFit, exactFit, runFit, chainFit}
+use Rattle.reading.specs.Reader.{Fit, got, bad, noneOf, neverOf, mapOf, onlyOf, onlyByOf, thenOf, sizedOf, isFit, mapFit, handFit, onlyFit, thenFit, exactFit, runFit, chainFit}
 use Rattle.reading.specs.Read.{bigOf, byteOf, groupOf, numOf, identOf, followOf, restOf, charOf, isText, frameOf, bodyAnswer, stringFit, bytesOf, textOf, valueOf, valueAt, propertyOf, propertiesFit, blockOf, ackBlockFit, ackRestFit, reasonsFit, filterOf, filtersFit, topicsFit, messageFit, fieldsFit, layoutFit, bodyFit, wholeAnswer, frameAnswer, readAs, readOf}
 use Rattle.reading.specs.Place.{Span, asPlaces, Placed, readPlacedOf, again, valuesAt, userAt, subscriptionAt, filterAt, reasonAt, topicAt}
 
@@ -48,8 +48,8 @@ bench =
     ∷ case none (0x30 ∷ 0x00 ∷ []) (refused 5 [] 2)
     ∷ case none (0xC0 ∷ 0x00 ∷ []) (accepted (ping 12) 2)
     ∷ case none ab (accepted (message (0x61 ∷ 0x2F ∷ 0x62 ∷ []) none (0x68 ∷ 0x69 ∷ [])) 10)
-    ∷ case (some 7) ab (refused 3 (8 ∷ 7 ∷ []) 0)
-    ∷ case (some 8) ab (accepted (message (0x61 ∷ 0x2F ∷ 0x62 ∷ []) none (0x68 ∷ 0x69 ∷ [])) 10)
+    ∷ case (some 9) ab (refused 3 (10 ∷ 9 ∷ []) 0)
+    ∷ case (some 10) ab (accepted (message (0x61 ∷ 0x2F ∷ 0x62 ∷ []) none (0x68 ∷ 0x69 ∷ [])) 10)
     ∷ case none (0x32 ∷ 0x06 ∷ 0x00 ∷ 0x01 ∷ 0x61 ∷ 0x00 ∷ 0x00 ∷ 0x00 ∷ []) (refused 12 [] 8)
     ∷ case none three (accepted (message (0x61 ∷ []) (some (record { format = none; expiry = none; alias = none; response = none; correlation = none; user = []; subscriptions = num 1 ∷ num 2 ∷ num 3 ∷ []; content = none })) (0x07 ∷ [])) 13)
     ∷ case none (0x30 ∷ 0x06 ∷ 0x00 ∷ 0x01 ∷ 0x61 ∷ 0x01 ∷ 0x01 ∷ 0x00 ∷ []) (refused 7 [] 8)
@@ -67,8 +67,9 @@ more =
     -- framing: n, the limit before completeness and kind, 4 before 5 before 6, longer spellings
     case none (0x30 ∷ 0x05 ∷ 0x00 ∷ []) (refused 1 (4 ∷ []) 0)
     ∷ case none (0xF0 ∷ 0x05 ∷ []) (refused 1 (5 ∷ []) 0)
-    ∷ case (some 4) (0xF0 ∷ 0x05 ∷ []) (refused 3 (5 ∷ 4 ∷ []) 0)
-    ∷ case (some 0) (0xC0 ∷ 0x00 ∷ []) (accepted (ping 12) 2)
+    ∷ case (some 6) (0xF0 ∷ 0x05 ∷ []) (refused 3 (7 ∷ 6 ∷ []) 0)
+    ∷ case (some 1) (0xC0 ∷ 0x00 ∷ []) (refused 3 (2 ∷ 1 ∷ []) 0)
+    ∷ case (some 2) (0xC0 ∷ 0x00 ∷ []) (accepted (ping 12) 2)
     ∷ case none (0x00 ∷ 0x00 ∷ []) (refused 4 (0 ∷ []) 2)
     ∷ case none (0xE0 ∷ 0x00 ∷ []) (refused 5 [] 2)
     ∷ case none (0x30 ∷ 0x80 ∷ 0x00 ∷ []) (refused 5 [] 3)
@@ -214,5 +215,5 @@ Right =
     × (topicAt asPlaces (0x00 ∷ 0x01 ∷ 0x61 ∷ []) (span 0 3) 0 ≡ got (span 2 1))
 
 pub right : Right
-unfolding rows publishPlace subscribePlace ackPlace unsubscribePlace reasons releaseReasons subAckReasons unsubAckReasons kinds lastOf allOf publishProps propsOf noneOf neverOf mapOf onlyOf thenOf sizedOf isFit mapFit handFit onlyFit thenFit exactFit runFit chainFit byteOf followOf restOf charOf isText bigOf groupOf numOf stringFit bytesOf textOf valueOf valueAt propertyOf propertiesFit blockOf ackBlockFit ackRestFit identOf reasonsFit filterOf filtersFit topicsFit messageFit fieldsFit layoutFit bodyFit within over frameOf bodyAnswer wholeAnswer frameAnswer readAs again valuesAt userAt subscriptionAt filterAt reasonAt topicAt
+unfolding rows publishPlace subscribePlace ackPlace unsubscribePlace reasons releaseReasons subAckReasons unsubAckReasons kinds lastOf allOf publishProps propsOf noneOf neverOf mapOf onlyOf onlyByOf thenOf sizedOf isFit mapFit handFit onlyFit thenFit exactFit runFit chainFit byteOf followOf restOf charOf isText bigOf groupOf numOf stringFit bytesOf textOf valueOf valueAt propertyOf propertiesFit blockOf ackBlockFit ackRestFit identOf reasonsFit filterOf filtersFit topicsFit messageFit fieldsFit layoutFit bodyFit within over frameOf bodyAnswer wholeAnswer frameAnswer readAs again valuesAt userAt subscriptionAt filterAt reasonAt topicAt
 right = (refl, refl, refl, refl, refl, refl, refl)

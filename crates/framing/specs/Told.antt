@@ -2,7 +2,7 @@
 use mathlib.Core.Bool.{Bool, true, false}
 use mathlib.Core.Option.{Option, none, some}
 use mathlib.Core.List.{List, [], _∷_}
-use Prim.Native.Nat.{ℕ, _+_}
+use Prim.Native.Nat.{ℕ, _+_, _<_}
 use lib.Dec.{leb}
 use lib.ListN.{length}
 use Rattle.grammar.specs.Choice.{isIn, lookup}
@@ -53,9 +53,14 @@ abbrev pub toldHeader : Checked → Fit ((ℕ × ℕ) × ℕ)
 toldHeader (Header h) = got (headerIn h)
 toldHeader (Refused e) = bad (toldError e)
 
--- 01, row 3: a header under the limit
-abbrev pub limitedTo : Option ℕ → (ℕ × ℕ) × ℕ → Fit ((ℕ × ℕ) × ℕ)
-limitedTo limit z = guard (within limit (z .0 .1)) (over limit (z .0 .1)) >> got z
+-- 02, P2: "Test F instead": a header whose frame has F bytes, under the limit
+abbrev pub limitedTo : Option ℕ → ℕ → (ℕ × ℕ) × ℕ → Fit ((ℕ × ℕ) × ℕ)
+limitedTo limit F z = guard (within limit F) (over limit F) >> got z
+
+-- 01, grammar: "Largest: 268,435,455": so R is below 2 ^ 32, and F is a usize
+abbrev pub Small : Checked → Type 0
+Small (Header h) = h .«remaining_len» < 4294967296
+Small (Refused e) = Unit {0}
 
 -- 01, row 1: a header with n bytes held behind it
 abbrev pub wholeIn : ℕ → (ℕ × ℕ) × ℕ → Fit ((ℕ × ℕ) × ℕ)

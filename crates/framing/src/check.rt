@@ -8,7 +8,7 @@ ghost use mathlib.Core.Path.{_≡_};
 ghost use Rattle.reading.specs.Reader.{_>>_ as first};
 ghost use Rattle.positions.specs.Position.{fromAt};
 ghost use Rattle.records.specs.Told.{limitOf};
-ghost use Rattle.framing.specs.Told.{headerIn, headerOf, toldHeader, limitedTo, wholeIn, frameAt, toldChecked};
+ghost use Rattle.framing.specs.Told.{headerIn, headerOf, toldHeader, Small, limitedTo, wholeIn, frameAt, toldChecked};
 
 pub enum Checked {
     Header(FixedHeader),
@@ -17,7 +17,7 @@ pub enum Checked {
 
 // The first byte and R, whether or not R bytes follow.
 pub fn parse_fixed_header(stream: &[u8]) -> Checked
-    ensures { λ r. ⌜ toldHeader r ≡ fromAt headerOf (now (stream .entry)) 0 ⌝ }
+    ensures { λ r. ⌜ (toldHeader r ≡ fromAt headerOf (now (stream .entry)) 0) × Small r ⌝ }
 {
     if stream.len() < 1 {
         return Checked::Refused(Error::InsufficientBytes(2));
@@ -37,14 +37,13 @@ pub fn parse_fixed_header(stream: &[u8]) -> Checked
     }
 }
 
-// 3: the header, if the limit lets R pass.
-fn limited(h: FixedHeader, limit: Limit) -> Checked
-    ensures { λ r. ⌜ toldHeader r ≡ limitedTo (limitOf limit) (headerIn h) ⌝ }
+// 3: the header of a frame of F bytes, if the limit lets F pass.
+fn limited(h: FixedHeader, size: usize, limit: Limit) -> Checked
+    ensures { λ r. ⌜ toldHeader r ≡ limitedTo (limitOf limit) size (headerIn h) ⌝ }
 {
-    let rest = h.remaining_len;
     if let Limit::AtMost(most) = limit {
-        if most < rest {
-            return Checked::Refused(Error::PayloadSizeLimitExceeded(rest, most));
+        if most < size {
+            return Checked::Refused(Error::PayloadSizeLimitExceeded(size, most));
         }
     }
     Checked::Header(h)
@@ -72,7 +71,7 @@ fn then(a: Checked, b: Checked) -> Checked
     }
 }
 
-// The header, if the limit lets R pass and R bytes follow.
+// The header, if the limit lets F pass and R bytes follow.
 pub fn check(stream: &[u8], limit: Limit) -> Checked
     ensures { λ r. ⌜ toldChecked (now (stream .entry)) r ≡ frameAt (limitOf limit) (now (stream .entry)) ⌝ }
 {
@@ -80,7 +79,8 @@ pub fn check(stream: &[u8], limit: Limit) -> Checked
         Checked::Refused(e) => Checked::Refused(e),
         Checked::Header(h) => {
             let held = stream.len() - h.fixed_header_len;
-            let under = limited(h, limit);
+            let size = h.fixed_header_len + h.remaining_len;
+            let under = limited(h, size, limit);
             let full = whole(h, held);
             then(under, full)
         }

@@ -3,8 +3,9 @@ use mathlib.Core.Path.{_≡_}
 use mathlib.Core.Bool.{Bool, true, not}
 use mathlib.Core.Option.{Option, none, some}
 use mathlib.Core.List.{List, [], _∷_}
-use Prim.Native.Nat.{ℕ, zero, suc}
-use lib.Dec.{eqb, leb}
+use Prim.Native.Nat.{ℕ, zero, suc, _+_, _≤_}
+use lib.ListN.{length}
+use lib.Dec.{eqb}
 use Rattle.grammar.specs.Choice.{isIn, lookup, isEmpty}
 use Rattle.grammar.specs.Number.{Byte, Big, Spells}
 use Rattle.grammar.specs.Text.{Utf8}
@@ -145,6 +146,10 @@ pub data Body (x : ℕ) : Packet → List ℕ → Type 0 where
 abbrev pub Frame : Gram ℕ → ℕ × List ℕ → List ℕ → Type 0
 Frame N = Then Byte (λ _. Sized N (Is Any))
 
+-- 01, Taken: "F is the whole frame": its first byte, the n bytes that spell R, and R bytes
+abbrev pub frameLength : ℕ → ℕ → ℕ
+frameLength R n = 1 + n + R
+
 -- 01, grammar: a frame whose R bytes are the fields of its kind
 pub data Framed (N : Gram ℕ) : Packet → List ℕ → Type 0 where
   framed : {x : ℕ} {v : Packet} {b c : List ℕ} → Frame N (x, b) c → Body x v b → Framed N v c
@@ -153,6 +158,6 @@ pub data Framed (N : Gram ℕ) : Packet → List ℕ → Type 0 where
 abbrev pub Sentence : Packet → List ℕ → Type 0
 Sentence = Framed Spells
 
--- demand 3, "a limit": the sentences whose R is at most m
+-- demand 3, "a limit", and 02, P2: "Demand 3 sets F against the limit": the sentences of at most m bytes
 abbrev pub ShortSentence : ℕ → Packet → List ℕ → Type 0
-ShortSentence m = Framed (Only (λ l. leb l m) Spells)
+ShortSentence m v b = Sentence v b × (length b ≤ m)

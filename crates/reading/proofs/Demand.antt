@@ -3,18 +3,20 @@ use mathlib.Core.Path.{_≡_, refl, ap, _∙_}
 use mathlib.Core.Option.{Option, none, some}
 use mathlib.Core.Logic.{_↔_}
 use mathlib.Core.List.{List, [], _∷_, _++_}
-use Prim.Native.Nat.{ℕ, _-_}
-use lib.Dec.{leb}
+use Prim.Native.Nat.{ℕ, _+_, _-_, _≤_}
+use lib.Dec.{leb, leb→le}
+use borrow.Author.Tests.{le-leb}
 use native.Mathlib.Omega.{arith}
 use lib.ListN.{length, length-append}
-use Rattle.grammar.specs.Gram.{Gram, Only, only}
-use Rattle.grammar.specs.Number.{Spells}
+use Rattle.grammar.specs.Gram.{Gram, OnlyBy, onlyBy, both, sized}
+use Rattle.grammar.specs.Number.{byte, Spells}
 use Rattle.grammar.specs.Sentence.{Any, Packet, Frame, Framed, framed, Sentence, ShortSentence}
-use Rattle.reading.specs.Refusal.{nr, accepted, refused, cut, lacking, within, over}
+use Rattle.reading.specs.Refusal.{nr, accepted, refused, cut, lacking, within, passes, exceeds}
 use Rattle.reading.specs.Reader.{Fit, got, bad}
 use Rattle.reading.specs.Read.{anyBytes, Shape, asBytes, lengthOf, frameOf, bodyAnswer, bodyFit, wholeAnswer, frameAnswer, readAs, readOf}
 use Rattle.reading.specs.Demand.{Begins}
-use Rattle.reading.proofs.Reading.{Cut, Reads, reads-only, reads-then, reads-sized, fills-is, reads-iff}
+use Rattle.reading.proofs.Lists.{T-of}
+use Rattle.reading.proofs.Reading.{Cut, Reads, reads-by, reads-then, reads-sized, fills-is, reads-iff}
 use Rattle.reading.proofs.Fields.{reads-byte, reads-num, any-fine}
 use Rattle.reading.proofs.Packets.{fills-body}
 
@@ -23,8 +25,8 @@ no-accept e = let z : _≡_ {A = ℕ} 0 1 = cc in omega arith
 
 -- ---- under any limit, where N spells the lengths that it lets pass
 
-pub reads-length : (limit : Option ℕ) → Reads (lengthOf limit) (Only (within limit) Spells)
-reads-length limit = reads-only (within limit) (over limit) (reads-num (nr 1 (1 ∷ [])) 4)
+pub reads-length : (limit : Option ℕ) → Reads (lengthOf limit) (OnlyBy (passes limit) Spells)
+reads-length limit = reads-by (passes limit) (exceeds limit) (reads-num (nr 1 (1 ∷ [])) 4)
 
 module _ (limit : Option ℕ) {N : Gram ℕ} (L : Reads (lengthOf limit) N) where
   pub reads-frame : (end : ℕ) → Reads (frameOf limit end) (Frame N)
@@ -67,21 +69,39 @@ module _ (limit : Option ℕ) {N : Gram ℕ} (L : Reads (lengthOf limit) N) wher
   reads-framed : (s : List ℕ) (v : Packet) (n : ℕ) → (readOf limit s ≡ accepted v n) ↔ Begins (Framed N) s v n
   reads-framed s v n = (begins s v n, λ t. let (b, r, e, g, l) = t in rw (e, ← l) (whole v b r g))
 
-pub all-within : (n : ℕ) (b : List ℕ) → Only (within none) Spells n b ↔ Spells n b
+pub all-within : (n : ℕ) (b : List ℕ) → OnlyBy (passes none) Spells n b ↔ Spells n b
 unfolding within
-all-within n b = (drop-test, only refl)
+all-within n b = (drop-test, onlyBy refl)
   where
-    drop-test : Only (within none) Spells n b → Spells n b
-    drop-test (only h g) = g
+    drop-test : OnlyBy (passes none) Spells n b → Spells n b
+    drop-test (onlyBy h g) = g
 
 pub free : Reads (lengthOf none) Spells
 free = reads-iff all-within (reads-length none)
 
-pub bound : (m : ℕ) → Reads (lengthOf (some m)) (Only (λ l. leb l m) Spells)
+-- the sentences that the limit m lets pass are those of at most m bytes
+pub short-frame : (m : ℕ) (z : ℕ × List ℕ) (c : List ℕ) → Frame (OnlyBy (passes (some m)) Spells) z c ↔ (Frame Spells z c × (length c ≤ m))
 unfolding within
-bound m = reads-length (some m)
+short-frame m z c = (there, back)
+  where
+    there : {z : ℕ × List ℕ} {c : List ℕ} → Frame (OnlyBy (passes (some m)) Spells) z c → Frame Spells z c × (length c ≤ m)
+    there (both byte (sized {b = b} {c = d} (onlyBy h g) i)) =
+        let l : 1 + length d + length b ≤ m = leb→le (1 + length d + length b) m (T-of (leb (1 + length d + length b) m) h) in
+        (both byte (sized g i), omega (arith, length-append d b))
 
-pub whole-answer : (h : Shape) (limit : Option ℕ) (z : ℕ × List ℕ) (c r : List ℕ) → Frame (Only (within limit) Spells) z c → readAs h limit (c ++ r) ≡ wholeAnswer h (length c) z
+    back : {z : ℕ × List ℕ} {c : List ℕ} → Frame Spells z c × (length c ≤ m) → Frame (OnlyBy (passes (some m)) Spells) z c
+    back (both byte (sized {b = b} {c = d} g i), l) = both byte (sized (onlyBy (le-leb (1 + length d + length b) m (omega (arith, length-append d b))) g) i)
+
+short-sentence : (m : ℕ) (v : Packet) (c : List ℕ) → Framed (OnlyBy (passes (some m)) Spells) v c ↔ ShortSentence m v c
+short-sentence m v c = (there, back)
+  where
+    there : {v : Packet} {c : List ℕ} → Framed (OnlyBy (passes (some m)) Spells) v c → ShortSentence m v c
+    there (framed {x = x} {b = b} {c = d} f g) = let (f′, l) = short-frame m (x, b) d .0 f in (framed f′ g, l)
+
+    back : {v : Packet} {c : List ℕ} → ShortSentence m v c → Framed (OnlyBy (passes (some m)) Spells) v c
+    back (framed {x = x} {b = b} {c = d} f g, l) = framed (short-frame m (x, b) d .1 (f, l)) g
+
+pub whole-answer : (h : Shape) (limit : Option ℕ) (z : ℕ × List ℕ) (c r : List ℕ) → Frame (OnlyBy (passes limit) Spells) z c → readAs h limit (c ++ r) ≡ wholeAnswer h (length c) z
 whole-answer h limit = answers-frame limit (reads-length limit) h
 
 -- ---- the demand
@@ -90,6 +110,8 @@ whole-answer h limit = answers-frame limit (reads-length limit) h
 pub reads-sentence : (s : List ℕ) (v : Packet) (n : ℕ) → (readOf none s ≡ accepted v n) ↔ Begins Sentence s v n
 reads-sentence = reads-framed none free
 
--- with a limit, exactly when that sentence has at most so many bytes after its length
+-- with a limit, exactly when that sentence has at most so many bytes
 pub reads-short : (m : ℕ) (s : List ℕ) (v : Packet) (n : ℕ) → (readOf (some m) s ≡ accepted v n) ↔ Begins (ShortSentence m) s v n
-reads-short m = reads-framed (some m) (bound m)
+reads-short m s v n =
+    let i = reads-framed (some m) (reads-length (some m)) s v n in
+    (λ e. let (b, r, j, g, l) = i .0 e in (b, r, j, short-sentence m v b .0 g, l), λ (b, r, j, g, l). i .1 (b, r, j, short-sentence m v b .1 g, l))

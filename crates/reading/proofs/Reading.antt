@@ -11,9 +11,9 @@ use lib.Seq.{take-append-seam, drop-append-seam, length-take-le}
 use lib.Dec.{leb, leb→le}
 use borrow.Author.Tests.{le-leb}
 use Rattle.grammar.specs.Choice.{isEmpty}
-use Rattle.grammar.specs.Gram.{Gram, Nothing, nothing, Map, mapped, Only, only, Then, both, Sized, sized, Chain, done, more, forget, Many, Is, is, Never, Solid}
+use Rattle.grammar.specs.Gram.{Gram, Nothing, nothing, Map, mapped, Only, only, OnlyBy, onlyBy, Then, both, Sized, sized, Chain, done, more, forget, Many, Is, is, Never, Solid}
 use Rattle.reading.specs.Refusal.{Refusal}
-use Rattle.reading.specs.Reader.{Fit, got, bad, Reader, Filler, _>>=_, _>>_, guard, noneOf, neverOf, mapOf, onlyOf, thenOf, sizedOf, isFit, mapFit, handFit, onlyFit, thenFit, exactFit, runFit, chainFit, manyFit}
+use Rattle.reading.specs.Reader.{Fit, got, bad, Reader, Filler, _>>=_, _>>_, guard, noneOf, neverOf, mapOf, onlyOf, onlyByOf, thenOf, sizedOf, isFit, mapFit, handFit, onlyFit, thenFit, exactFit, runFit, chainFit, manyFit}
 use Rattle.reading.proofs.Lists.{T-of, nil-of, left-nil}
 
 -- ---- taking an accepted answer apart
@@ -94,6 +94,25 @@ module _ {A : Type 0} {p : Reader A} {G : Gram A} (t : A → Bool) (k : A → Re
 
   pub reads-only : Reads (onlyOf t k p) (Only t G)
   reads-only = record { whole = only-whole; split = only-split }
+
+-- what is left of b before r, when r is left, counts b
+pub count-front : (s b r : List ℕ) → s ≡ b ++ r → length s - length r ≡ length b
+count-front s b r e = omega (arith, ap length e, length-append b r)
+
+module _ {A : Type 0} {p : Reader A} {G : Gram A} (t : A → ℕ → Bool) (k : A → ℕ → Refusal) (R : Reads p G) where
+  by-whole : (a : A) (b r : List ℕ) → OnlyBy t G a b → onlyByOf t k p (b ++ r) ≡ got (a, r)
+  unfolding onlyByOf
+  by-whole a b r (onlyBy h g) = rw (R .whole a b r g, count-front (b ++ r) b r refl, h)
+
+  by-split : (s : List ℕ) (z : A × List ℕ) → onlyByOf t k p s ≡ got z → Cut (OnlyBy t G) s z
+  unfolding onlyByOf
+  by-split s = from-bind (p s) (λ y. guard (t (y .0) (length s - length (y .1))) (k (y .0) (length s - length (y .1))) >> got (y .0, y .1)) λ y e.
+      from-guard (t (y .0) (length s - length (y .1))) (k (y .0) (length s - length (y .1))) (got (y .0, y .1)) λ h.
+      let (b, e₁, g) = R .split s y e in
+      from-got (Cut (OnlyBy t G) s) (y .0, y .1) (b, e₁, onlyBy (rw (count-front s b (y .1) e₁) at h) g)
+
+  pub reads-by : Reads (onlyByOf t k p) (OnlyBy t G)
+  reads-by = record { whole = by-whole; split = by-split }
 
 module _ {A B : Type 0} {p : Reader A} {q : A → Reader B} {G : Gram A} {H : A → Gram B} (R : Reads p G) (S : (a : A) → Reads (q a) (H a)) where
   then-whole : (a : A × B) (b r : List ℕ) → Then G H a b → thenOf p q (b ++ r) ≡ got (a, r)

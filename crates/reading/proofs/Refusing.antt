@@ -12,11 +12,11 @@ use borrow.Author.Tests.{le-leb, lt-leb, leb-false, ltb-false, le-ltb}
 use Rattle.grammar.specs.Choice.{isEmpty}
 use Rattle.grammar.specs.Gram.{Gram, forget, Solid}
 use Rattle.reading.specs.Refusal.{Refusal, nr}
-use Rattle.reading.specs.Fault.{Fault, Sound, OnlyFault, under, fails, ThenFault, first, second, SizedFault, sizes, crosses, fills, ManyFault, now, later, ExactFault, before, follows, IsFault, isnt, ByteFault, noByte, BigFault, fewer, Tops, noTops, aTop, NumFault, endless, long}
-use Rattle.reading.specs.Reader.{Fit, got, bad, Reader, Filler, _>>=_, _>>_, guard, noneOf, mapOf, onlyOf, thenOf, sizedOf, isFit, mapFit, handFit, thenFit, exactFit, runFit, chainFit, manyFit}
+use Rattle.reading.specs.Fault.{Fault, Sound, OnlyFault, under, fails, OnlyByFault, underBy, failsBy, ThenFault, first, second, SizedFault, sizes, crosses, fills, ManyFault, now, later, ExactFault, before, follows, IsFault, isnt, ByteFault, noByte, BigFault, fewer, Tops, noTops, aTop, NumFault, endless, long}
+use Rattle.reading.specs.Reader.{Fit, got, bad, Reader, Filler, _>>=_, _>>_, guard, noneOf, mapOf, onlyOf, onlyByOf, thenOf, sizedOf, isFit, mapFit, handFit, thenFit, exactFit, runFit, chainFit, manyFit}
 use Rattle.reading.specs.Read.{bigOf, byteOf, groupOf, numOf}
 use Rattle.reading.proofs.Lists.{T-of}
-use Rattle.reading.proofs.Reading.{bad-got, Reads, less}
+use Rattle.reading.proofs.Reading.{bad-got, Reads, less, count-front}
 
 -- ---- taking a refusal apart
 
@@ -166,6 +166,23 @@ module _ {A : Type 0} {p : Reader A} {F : Fault} (P : RefusesBy p F) where
 
       pub refuses-only : RefusesBy (onlyOf t c p) (OnlyFault t c G F)
       refuses-only = record { fault = only-fault; refuse = only-refuse }
+
+    module _ (t : A → ℕ → Bool) (c : A → ℕ → Refusal) where
+      by-fault : (s : List ℕ) (k : Refusal) → onlyByOf t c p s ≡ bad k → OnlyByFault t c G F s k
+      unfolding onlyByOf
+      by-fault s k = of-bind (p s) _ k (λ e. underBy (P .fault s k e)) λ x e. of-guard (t (x .0) (length s - length (x .1))) (c (x .0) (length s - length (x .1))) _ k
+          (λ h i.
+          let (b, e₁, g) = R .split s x e in
+          let n : length s - length (x .1) ≡ length b = count-front s b (x .1) e₁ in
+          rw (e₁, ← i, n) (failsBy (x .1) g (rw n at h))) (λ h e′. got-bad e′)
+
+      by-refuse : (s : List ℕ) (k : Refusal) → OnlyByFault t c G F s k → onlyByOf t c p s ≡ bad k
+      unfolding onlyByOf
+      by-refuse s k (underBy h) = rw (P .refuse s k h)
+      by-refuse _ _ (failsBy {a = a} {b = b} r g h) = rw (R .whole a b r g, count-front (b ++ r) b r refl, h)
+
+      pub refuses-by : RefusesBy (onlyByOf t c p) (OnlyByFault t c G F)
+      refuses-by = record { fault = by-fault; refuse = by-refuse }
 
     module _ (c : Refusal) where
       after : (b r : List ℕ) (k : Refusal) (a : A) → G a b → isEmpty r ≡ false → c ≡ k → ExactFault G F c (b ++ r) k

@@ -11,11 +11,11 @@ use lib.Dec.{eqb}
 use lib.ListN.{length, length-append}
 use borrow.Author.Tests.{lt-leb, leb-false}
 use Rattle.grammar.specs.Choice.{isIn}
-use Rattle.grammar.specs.Gram.{Only, only, both}
+use Rattle.grammar.specs.Gram.{OnlyBy, onlyBy, both}
 use Rattle.grammar.specs.Number.{Byte, byte, Spells}
 use Rattle.grammar.specs.Sentence.{Packet}
-use Rattle.reading.specs.Refusal.{Refusal, nr, Answer, accepted, refused, refusedAs, lacking, within, over}
-use Rattle.reading.specs.Fault.{Sound, OnlyFault, under, fails, first, second, SizedFault, sizes, crosses, fills, ByteFault, noByte, noTops, NumFault, endless, long, BodyFault, kind, noBytes, foreign, content, FrameFault, Passing, Verdict, says, breaks, noFrame}
+use Rattle.reading.specs.Refusal.{Refusal, nr, Answer, accepted, refused, refusedAs, lacking, within, over, passes, exceeds}
+use Rattle.reading.specs.Fault.{Sound, OnlyByFault, underBy, failsBy, first, second, SizedFault, sizes, crosses, fills, ByteFault, noByte, noTops, NumFault, endless, long, BodyFault, kind, noBytes, foreign, content, FrameFault, Passing, Verdict, says, breaks, noFrame}
 use Rattle.reading.specs.Read.{readOf}
 use Rattle.reading.specs.Rows.{Incomplete, underTwo, noEnd, partly, Overlong, overlong, Above, above, Holds, holds, Framing, insufficient, malformed, exceeded, invalid, required, notCarried, rowNumber, FramingGiven, Breaks}
 use Rattle.reading.specs.Demand.{ofFields, Taken, nothing-yet, own-length, whole-frame}
@@ -39,27 +39,27 @@ module _ (limit : Option ℕ) where
   num-row x s _ (endless t h) = lacks-bytes (x ∷ s) 1 (noEnd t h)
   num-row x _ _ (long r t h) = (malformed, refl, (overlong r t h, refl, refl))
 
-over-row : (limit : Option ℕ) (x l : ℕ) (b r : List ℕ) → Spells l b → within limit l ≡ false → Shown limit (x ∷ (b ++ r)) (over limit l) 0
+over-row : (limit : Option ℕ) (x l : ℕ) (b r : List ℕ) → Spells l b → passes limit l (length b) ≡ false → Shown limit (x ∷ (b ++ r)) (exceeds limit l (length b)) 0
 unfolding within over
 over-row none x l b r g h = absurd (false≢true (sym h))
-over-row (some m) x l b r g h = (exceeded, refl, (l, m, refl, above r g (leb-false l m h), refl, refl))
+over-row (some m) x l b r g h = (exceeded, refl, (1 + length b + l, m, refl, above r g (leb-false (1 + length b + l) m h), refl, refl))
 
 module _ (limit : Option ℕ) where
-  limit-row : (x : ℕ) (s : List ℕ) (k : Refusal) → OnlyFault (within limit) (over limit) Spells (NumFault (nr 1 (1 ∷ [])) 4) s k → Shown limit (x ∷ s) k 0
-  limit-row x s k (under f) = num-row limit x s k f
-  limit-row x _ _ (fails {a = l} {b = b} r g h) = over-row limit x l b r g h
+  limit-row : (x : ℕ) (s : List ℕ) (k : Refusal) → OnlyByFault (passes limit) (exceeds limit) Spells (NumFault (nr 1 (1 ∷ [])) 4) s k → Shown limit (x ∷ s) k 0
+  limit-row x s k (underBy f) = num-row limit x s k f
+  limit-row x _ _ (failsBy {a = l} {b = b} r g h) = over-row limit x l b r g h
 
-  part-row : (x l : ℕ) (b r : List ℕ) → Only (within limit) Spells l b → length r < l → Shown limit (x ∷ (b ++ r)) (lacking l r) 0
-  part-row x l b r (only w g) h =
+  part-row : (x l : ℕ) (b r : List ℕ) → OnlyBy (passes limit) Spells l b → length r < l → Shown limit (x ∷ (b ++ r)) (lacking l r) 0
+  part-row x l b r (onlyBy w g) h =
       let n : 1 + length b + l - length (x ∷ (b ++ r)) ≡ l - length r = omega (arith, length-append b r) in
       subst (λ (i : ℕ). Some limit (x ∷ (b ++ r)) 1 (i ∷ []) 0) n (lacks-bytes limit (x ∷ (b ++ r)) _ (partly r g w h))
 
-  size-row : (x : ℕ) (s : List ℕ) (k : Refusal) → SizedFault (Only (within limit) Spells) (OnlyFault (within limit) (over limit) Spells (NumFault (nr 1 (1 ∷ [])) 4)) lacking Sound s k → Shown limit (x ∷ s) k 0
+  size-row : (x : ℕ) (s : List ℕ) (k : Refusal) → SizedFault (OnlyBy (passes limit) Spells) (OnlyByFault (passes limit) (exceeds limit) Spells (NumFault (nr 1 (1 ∷ [])) 4)) lacking Sound s k → Shown limit (x ∷ s) k 0
   size-row x s k (sizes f) = limit-row x s k f
   size-row x _ _ (crosses {l = l} {b = b} r g h) = part-row x l b r g h
   size-row x _ k (fills r g h) = elim h [ ]
 
-  head-row : (x : ℕ) (b s : List ℕ) (k : Refusal) → Byte x b → SizedFault (Only (within limit) Spells) (OnlyFault (within limit) (over limit) Spells (NumFault (nr 1 (1 ∷ [])) 4)) lacking Sound s k → Shown limit (b ++ s) k 0
+  head-row : (x : ℕ) (b s : List ℕ) (k : Refusal) → Byte x b → SizedFault (OnlyBy (passes limit) Spells) (OnlyByFault (passes limit) (exceeds limit) Spells (NumFault (nr 1 (1 ∷ [])) 4)) lacking Sound s k → Shown limit (b ++ s) k 0
   head-row x _ s k byte f = size-row x s k f
 
   byte-row : (s : List ℕ) (k : Refusal) → ByteFault (nr 1 (2 ∷ [])) s k → Shown limit s k 0
@@ -105,23 +105,23 @@ module _ (limit : Option ℕ) where
 
   short-verdict : (s : List ℕ) → length s < 2 → Verdict limit s (refused 1 ((2 - length s) ∷ []) 0)
   short-verdict [] h = noFrame (first noByte)
-  short-verdict (x ∷ []) h = noFrame (second byte (sizes (under (endless noTops (omega arith)))))
+  short-verdict (x ∷ []) h = noFrame (second byte (sizes (underBy (endless noTops (omega arith)))))
   short-verdict (x ∷ y ∷ s) h = absurd (omega arith)
 
   incomplete-verdict : (s : List ℕ) (n : ℕ) → Incomplete limit s n → Verdict limit s (refused 1 (n ∷ []) 0)
   incomplete-verdict s _ (underTwo h) = short-verdict s h
-  incomplete-verdict _ _ (noEnd t h) = noFrame (second byte (sizes (under (endless t h))))
+  incomplete-verdict _ _ (noEnd t h) = noFrame (second byte (sizes (underBy (endless t h))))
   incomplete-verdict _ _ (partly {x = x} {R = l} {b = b} r g w h) =
       let n : l - length r ≡ 1 + length b + l - length (x ∷ (b ++ r)) = omega (arith, length-append b r) in
-      subst (λ (i : ℕ). Verdict limit (x ∷ (b ++ r)) (refused 1 (i ∷ []) 0)) n (noFrame (second byte (crosses r (only w g) h)))
+      subst (λ (i : ℕ). Verdict limit (x ∷ (b ++ r)) (refused 1 (i ∷ []) 0)) n (noFrame (second byte (crosses r (onlyBy w g) h)))
 
   overlong-verdict : (s : List ℕ) → Overlong s → Verdict limit s (refused 2 [] 0)
-  overlong-verdict _ (overlong r t h) = noFrame (second byte (sizes (under (long r t h))))
+  overlong-verdict _ (overlong r t h) = noFrame (second byte (sizes (underBy (long r t h))))
 
-  above-verdict : (s : List ℕ) (l m : ℕ) → limit ≡ some m → Above s l m → Verdict limit s (refused 3 (l ∷ m ∷ []) 0)
-  above-verdict _ l m e (above {x = x} {b = b} r g h) =
-      let (w, o) = above-limit limit l m e h in
-      subst (λ (k : Refusal). Verdict limit (x ∷ (b ++ r)) (refusedAs k 0)) o (fault-verdict (x ∷ (b ++ r)) (over limit l) (second byte (sizes (fails r g w))))
+  above-verdict : (s : List ℕ) (n m : ℕ) → limit ≡ some m → Above s n m → Verdict limit s (refused 3 (n ∷ m ∷ []) 0)
+  above-verdict _ _ m e (above {x = x} {R = l} {b = b} r g h) =
+      let (w, o) = above-limit limit (1 + length b + l) m e h in
+      subst (λ (k : Refusal). Verdict limit (x ∷ (b ++ r)) (refusedAs k 0)) o (fault-verdict (x ∷ (b ++ r)) (exceeds limit l (length b)) (second byte (sizes (failsBy r g w))))
 
   given-verdict : (r : Framing) (s vs : List ℕ) (t : ℕ) → FramingGiven limit r s vs t → Verdict limit s (refused (rowNumber r) vs t)
   given-verdict insufficient s vs t (n, i, e, e′) = rw (e, e′) (incomplete-verdict s n i)
@@ -195,7 +195,7 @@ module _ (limit : Option ℕ) (s vs : List ℕ) where
   pub row-2 : (readOf limit s ≡ refused 2 vs 0) ↔ FramingGiven limit malformed s vs 0
   row-2 = framing-row malformed 0 (λ (x, l, b, f, e, h, g). holds-some limit s x b 0 f refl)
 
-  -- 01, row 3: given exactly when R is above the limit
+  -- 01, row 3: given exactly when F is above the limit
   pub row-3 : (t : ℕ) → (readOf limit s ≡ refused 3 vs t) ↔ FramingGiven limit exceeded s vs t
   row-3 t = framing-row exceeded t (not-field 3 t refl)
 

@@ -49,7 +49,7 @@ after-frame = frame-suffix
 pub limited : (h : Shape) (m : ℕ) (s : List ℕ) → Limited h m s
 limited = limit-alone
 
--- so under a limit a read succeeds exactly when the stream begins with a sentence whose R is at most the limit
+-- so under a limit a read succeeds exactly when the stream begins with a sentence of at most so many bytes
 pub succeeds-within : (m : ℕ) (s : List ℕ) (v : Packet) (n : ℕ) → (readOf (some m) s ≡ accepted v n) ↔ Begins (ShortSentence m) s v n
 succeeds-within = reads-short
 

@@ -17,10 +17,10 @@ use Rattle.reading.specs.Rows.{Overlong, Above, Holds}
 abbrev pub Begins : Gram Packet → List ℕ → Packet → ℕ → Type 0
 Begins G s v n = (b : List ℕ) × (r : List ℕ) × (s ≡ b ++ r) × G v b × (length b ≡ n)
 
--- demand 3, "A limit adds the size refusal alone": either the header is whole and R is above the limit m, and the answer is 3 with R and m,
+-- demand 3, "A limit adds the size refusal alone": either the header is whole and F is above the limit m, and the answer is 3 with F and m,
 -- nothing taken; or it is the answer with no limit
 abbrev pub Limited : Shape → ℕ → List ℕ → Type 0
-Limited h m s = ((R : ℕ) × Above s R m × (readAs h (some m) s ≡ refused 3 (R ∷ m ∷ []) 0)) ⊎ (((R : ℕ) → Above s R m → ⊥) × (readAs h (some m) s ≡ readAs h none s))
+Limited h m s = ((F : ℕ) × Above s F m × (readAs h (some m) s ≡ refused 3 (F ∷ m ∷ []) 0)) ⊎ (((F : ℕ) → Above s F m → ⊥) × (readAs h (some m) s ≡ readAs h none s))
 
 -- 01, rows 7 to 15, and 2: the numbers that the fields of a frame are refused with
 abbrev pub ofFields : List ℕ

@@ -7,13 +7,13 @@ use mathlib.Core.List.{List, [], _∷_, _++_}
 use Prim.Native.Nat.{ℕ, zero, suc, _≤_, _<_}
 use lib.ListN.{length}
 use Rattle.grammar.specs.Choice.{isIn, lookup, isEmpty}
-use Rattle.grammar.specs.Gram.{Gram, Only}
+use Rattle.grammar.specs.Gram.{Gram, Only, OnlyBy}
 use Rattle.grammar.specs.Number.{Byte, Big, Spells}
 use Rattle.grammar.specs.Text.{Utf8}
 use Rattle.grammar.specs.Tables.{Form, u8, u16, u32, number, text, bytes, pair, Place, publishPlace, subscribePlace, ackPlace, unsubscribePlace, Layout, aPublish, anAck, aSubscribe, aReply, anUnsubscribe, aPing, kinds, reserved, isPing}
 use Rattle.grammar.specs.Record.{kindOf, flagQos}
 use Rattle.grammar.specs.Sentence.{Bytes, Text, Property, Block, publishOf, propsIf, notThree, notZero, Ident, qosFine, ruleFine, FilterOf, ReasonOf, Packet, Body, Frame}
-use Rattle.reading.specs.Refusal.{Refusal, nr, Answer, accepted, refused, lacking, within, over}
+use Rattle.reading.specs.Refusal.{Refusal, nr, Answer, accepted, refused, lacking, passes, exceeds}
 
 -- bytes, and the refusal with which they break
 abbrev pub Fault : Type 1
@@ -28,6 +28,11 @@ pub data Sound : List ℕ → Refusal → Type 0 where
 pub data OnlyFault {A : Type 0} (t : A → Bool) (c : A → Refusal) (G : Gram A) (F : Fault) : List ℕ → Refusal → Type 0 where
   under : {s : List ℕ} {k : Refusal} → F s k → OnlyFault t c G F s k
   fails : {a : A} {b : List ℕ} (r : List ℕ) → G a b → t a ≡ false → OnlyFault t c G F (b ++ r) (c a)
+
+-- a good front a whose value and count of bytes fail the test
+pub data OnlyByFault {A : Type 0} (t : A → ℕ → Bool) (c : A → ℕ → Refusal) (G : Gram A) (F : Fault) : List ℕ → Refusal → Type 0 where
+  underBy : {s : List ℕ} {k : Refusal} → F s k → OnlyByFault t c G F s k
+  failsBy : {a : A} {b : List ℕ} (r : List ℕ) → G a b → t a (length b) ≡ false → OnlyByFault t c G F (b ++ r) (c a (length b))
 
 -- the first breaks, or is good and the second breaks
 pub data ThenFault {A : Type 0} (G : Gram A) (F H : Fault) : List ℕ → Refusal → Type 0 where
@@ -164,17 +169,17 @@ pub data BodyFault (x : ℕ) : List ℕ → Refusal → Type 0 where
 
 -- ---- framing: 01, rows 1 to 3, reading order "1 while the header is incomplete, or 2; then 3; then 1"
 
--- a first byte, the length within the limit, and as many bytes
+-- a first byte, the length of a frame within the limit, and as many bytes
 abbrev pub FrameFault : Option ℕ → Fault
 FrameFault limit =
     ThenFault Byte (ByteFault (nr 1 (2 ∷ [])))
-    (SizedFault (Only (within limit) Spells) (OnlyFault (within limit) (over limit) Spells (NumFault (nr 1 (1 ∷ [])) 4)) lacking Sound)
+    (SizedFault (OnlyBy (passes limit) Spells) (OnlyByFault (passes limit) (exceeds limit) Spells (NumFault (nr 1 (1 ∷ [])) 4)) lacking Sound)
 
 -- ---- the one answer to a stream
 
 -- a frame that the limit lets pass: the first byte, and the bytes that its length counts
 abbrev pub Passing : Option ℕ → ℕ × List ℕ → List ℕ → Type 0
-Passing limit = Frame (Only (within limit) Spells)
+Passing limit = Frame (OnlyBy (passes limit) Spells)
 
 -- 01, Taken: the whole frame, or 0 where there is none to take
 pub data Verdict (limit : Option ℕ) : List ℕ → Answer Packet → Type 0 where

@@ -12,8 +12,8 @@ use Rattle.grammar.specs.Text.{Range, inRange, rows, rowAt, cons}
 use Rattle.grammar.specs.Tables.{Form, u8, u16, u32, number, text, bytes, pair, Place, publishPlace, subscribePlace, ackPlace, unsubscribePlace, Layout, aPublish, anAck, aSubscribe, aReply, anUnsubscribe, aPing, kinds, reserved, isPing}
 use Rattle.grammar.specs.Record.{Val, num, str, PropOf, unlessEmpty, PublishProps, publishProps, Props, propsOf, Filter, PacketOf, kindOf, flagQos, mkPublish, mkAck, mkFilter, mkSubscribe, mkReply, mkUnsubscribe, mkPing}
 use Rattle.grammar.specs.Sentence.{duoOf, notThree, notZero, qosFine, ruleFine, someOf, Packet}
-use Rattle.reading.specs.Refusal.{Refusal, nr, Answer, accepted, refusedAs, cut, crossed, lacking, within, over}
-use Rattle.reading.specs.Reader.{Fit, got, bad, Reader, Filler, _>>=_, _>>_, guard, noneOf, neverOf, mapOf, onlyOf, thenOf, sizedOf, isFit, mapFit, handFit, onlyFit, thenFit, exactFit, manyFit, isGot}
+use Rattle.reading.specs.Refusal.{Refusal, nr, Answer, accepted, refusedAs, cut, crossed, lacking, passes, exceeds}
+use Rattle.reading.specs.Reader.{Fit, got, bad, Reader, Filler, _>>=_, _>>_, guard, noneOf, neverOf, mapOf, onlyOf, onlyByOf, thenOf, sizedOf, isFit, mapFit, handFit, onlyFit, thenFit, exactFit, manyFit, isGot}
 
 -- ---- numbers; c is given where the bytes end before the number does
 
@@ -84,9 +84,9 @@ pub record Shape : Type 1 where
 abbrev pub asBytes : Shape
 asBytes = record { Str = List ℕ; Run = List; string = λ b end. b; run = λ A vs b end. vs }
 
--- 01, reading order, in the header: 1 or 2 of the number R, "then 3"
+-- 01, reading order, in the header: 1 or 2 of the number R, "then 3", which tests F (02, P2)
 abbrev pub lengthOf : Option ℕ → Reader ℕ
-lengthOf limit = onlyOf (within limit) (over limit) (numOf (nr 1 (1 ∷ [])) 4)
+lengthOf limit = onlyByOf (passes limit) (exceeds limit) (numOf (nr 1 (1 ∷ [])) 4)
 
 -- 01: "A frame is one byte .., a variable length number R, then R bytes"; reading order: "1 while the header is incomplete, or 2; then 3; then 1"
 unfoldable pub frameOf : Option ℕ → ℕ → Reader (ℕ × List ℕ)

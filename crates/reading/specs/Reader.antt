@@ -60,6 +60,13 @@ onlyOf t k p s = do
   guard (t a) (k a)
   got (a, r)
 
+-- p, and k unless its value and the count of the bytes that spell it pass the test
+unfoldable pub onlyByOf : {A : Type 0} → (A → ℕ → Bool) → (A → ℕ → Refusal) → Reader A → Reader A
+onlyByOf t k p s = do
+  (a, r) ← p s
+  guard (t a (length s - length r)) (k a (length s - length r))
+  got (a, r)
+
 -- p, then q
 unfoldable pub thenOf : {A B : Type 0} → Reader A → (A → Reader B) → Reader (A × B)
 thenOf p q s = do

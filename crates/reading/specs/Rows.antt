@@ -11,7 +11,7 @@ use Rattle.grammar.specs.Choice.{isIn, lookup, isEmpty, all}
 use Rattle.grammar.specs.Number.{Spells}
 use Rattle.grammar.specs.Tables.{Layout, kinds, reserved, isPing}
 use Rattle.grammar.specs.Record.{kindOf}
-use Rattle.reading.specs.Refusal.{Refusal, within}
+use Rattle.reading.specs.Refusal.{Refusal, passes}
 use Rattle.reading.specs.Fault.{Tops, FieldsFault, Passing}
 
 -- ---- rows 1 to 3: no frame is taken
@@ -23,15 +23,15 @@ pub data Incomplete (limit : Option ℕ) : List ℕ → ℕ → Type 0 where
   -- "1 while the length number lacks its end"
   noEnd : {x : ℕ} {b : List ℕ} → Tops b → length b < 4 → Incomplete limit (x ∷ b) 1
   -- "else F less the bytes held": F is the first byte, the bytes of the length number, and the R that it counts
-  partly : {x R : ℕ} {b : List ℕ} (r : List ℕ) → Spells R b → within limit R ≡ true → length r < R → Incomplete limit (x ∷ (b ++ r)) (1 + length b + R - length (x ∷ (b ++ r)))
+  partly : {x R : ℕ} {b : List ℕ} (r : List ℕ) → Spells R b → passes limit R (length b) ≡ true → length r < R → Incomplete limit (x ∷ (b ++ r)) (1 + length b + R - length (x ∷ (b ++ r)))
 
 -- 01, row 2: "fourth byte of a variable length number has its top bit set", of the frame's own
 pub data Overlong : List ℕ → Type 0 where
   overlong : {x : ℕ} {b : List ℕ} (r : List ℕ) → Tops b → length b ≡ 4 → Overlong (x ∷ (b ++ r))
 
--- 01, row 3: "R above the limit"
+-- 02, P2: "Test F": F, which is the first byte, the bytes of the length number, and the R that it counts, is above the limit m
 pub data Above : List ℕ → ℕ → ℕ → Type 0 where
-  above : {x R m : ℕ} {b : List ℕ} (r : List ℕ) → Spells R b → m < R → Above (x ∷ (b ++ r)) R m
+  above : {x R m : ℕ} {b : List ℕ} (r : List ℕ) → Spells R b → m < 1 + length b + R → Above (x ∷ (b ++ r)) (1 + length b + R) m
 
 -- ---- from row 4 on: the frame is taken
 
@@ -58,8 +58,8 @@ abbrev pub FramingGiven : Option ℕ → Framing → List ℕ → List ℕ → �
 FramingGiven limit insufficient s vs t = (n : ℕ) × Incomplete limit s n × (vs ≡ n ∷ []) × (t ≡ 0)
 -- 2: MalformedRemainingLength, of the frame's own length
 FramingGiven limit malformed s vs t = Overlong s × (vs ≡ []) × (t ≡ 0)
--- 3: PayloadSizeLimitExceeded(R, limit)
-FramingGiven limit exceeded s vs t = (R : ℕ) × (m : ℕ) × (limit ≡ some m) × Above s R m × (vs ≡ R ∷ m ∷ []) × (t ≡ 0)
+-- 3: PayloadSizeLimitExceeded(F, limit)
+FramingGiven limit exceeded s vs t = (F : ℕ) × (m : ℕ) × (limit ≡ some m) × Above s F m × (vs ≡ F ∷ m ∷ []) × (t ≡ 0)
 -- 4: InvalidPacketType(k), "k is 0 or 15"
 FramingGiven limit invalid s vs t = (x : ℕ) × (b : List ℕ) × Holds limit s x b t × (isIn (kindOf x) reserved ≡ true) × (vs ≡ kindOf x ∷ [])
 -- 5: PayloadRequired, "R = 0, kind not a ping"

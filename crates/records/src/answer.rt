@@ -4,7 +4,7 @@ use crate::packet_record::Packet;
 use crate::span::Span;
 use crate::subscribe_record::Filter;
 
-// The largest R that is read, or the largest size that is written; AtMost(0) is a limit.
+// The largest frame that is read, or the largest size that is written; AtMost(0) is a limit.
 pub enum Limit {
     Unlimited,
     AtMost(usize),

@@ -4,7 +4,7 @@ pub enum Error {
     InsufficientBytes(usize),
     // 2: the fourth byte of a variable length number has its top bit set
     MalformedRemainingLength,
-    // 3: R, and the limit that it is above
+    // 3: F, and the limit that it is above
     PayloadSizeLimitExceeded(usize, usize),
     // 4: kind 0 or 15
     InvalidPacketType(u8),

@@ -7,7 +7,7 @@ use Rattle.grammar.specs.Text.{rows}
 use Rattle.grammar.specs.Tables.{publishPlace, subscribePlace, ackPlace, unsubscribePlace, reasons, releaseReasons, subAckReasons, unsubAckReasons, kinds, reasonsOf}
 use Rattle.grammar.specs.Record.{lastOf, allOf, publishProps, propsOf}
 use Rattle.reading.specs.Refusal.{within, over}
-use Rattle.reading.specs.Reader.{got, noneOf, neverOf, mapOf, onlyOf, thenOf, sizedOf, isFit, mapFit, handFit, onlyFit, thenFit, exactFit, runFit, chainFit}
+use Rattle.reading.specs.Reader.{got, noneOf, neverOf, mapOf, onlyOf, onlyByOf, thenOf, sizedOf, isFit, mapFit, handFit, onlyFit, thenFit, exactFit, runFit, chainFit}
 use Rattle.reading.specs.Read.{bigOf, byteOf, groupOf, numOf, identOf, followOf, restOf, charOf, isText, frameOf, bodyAnswer, stringFit, bytesOf, textOf, valueOf, valueAt, propertyOf, propertiesFit, blockOf, ackBlockFit, ackRestFit, reasonsFit, filterOf, filtersFit, topicsFit, messageFit, fieldsFit, layoutFit, bodyFit, wholeAnswer, frameAnswer, readAs}
 use Rattle.writing.specs.Handed.{publishGiven, subscribeGiven, ackGiven, unsubscribeGiven, filters, blockBelongs, filtersBelong, belongs}
 use Rattle.writing.specs.Spell.{wide, spellStep, spell, short, string, numeral, value, propsBytes, counted, block}
@@ -34,5 +34,5 @@ tidied = (
     ∷ []
 
 pub tidied-right : map (λ (t : List ℕ × List ℕ). tidyOf (t .0)) tidied ≡ map (λ (t : List ℕ × List ℕ). got (t .1)) tidied
-unfolding rows publishPlace subscribePlace ackPlace unsubscribePlace kinds reasons releaseReasons subAckReasons unsubAckReasons reasonsOf lastOf allOf publishProps propsOf noneOf neverOf mapOf onlyOf thenOf sizedOf isFit mapFit handFit onlyFit thenFit exactFit runFit chainFit byteOf followOf restOf charOf isText bigOf groupOf numOf identOf stringFit bytesOf textOf valueOf valueAt propertyOf propertiesFit blockOf ackBlockFit ackRestFit reasonsFit filterOf filtersFit topicsFit messageFit fieldsFit layoutFit bodyFit within over frameOf bodyAnswer wholeAnswer frameAnswer readAs spell spellStep publishGiven subscribeGiven ackGiven unsubscribeGiven filters blockBelongs filtersBelong belongs wide short string numeral value propsBytes counted block propsSize restIs sizeIs judge propsFields fieldsOf permit firsts firstOf firstByte bodyBytes frameBytes writeOf handedOf rewrite tidyOf
+unfolding rows publishPlace subscribePlace ackPlace unsubscribePlace kinds reasons releaseReasons subAckReasons unsubAckReasons reasonsOf lastOf allOf publishProps propsOf noneOf neverOf mapOf onlyOf onlyByOf thenOf sizedOf isFit mapFit handFit onlyFit thenFit exactFit runFit chainFit byteOf followOf restOf charOf isText bigOf groupOf numOf identOf stringFit bytesOf textOf valueOf valueAt propertyOf propertiesFit blockOf ackBlockFit ackRestFit reasonsFit filterOf filtersFit topicsFit messageFit fieldsFit layoutFit bodyFit within over frameOf bodyAnswer wholeAnswer frameAnswer readAs spell spellStep publishGiven subscribeGiven ackGiven unsubscribeGiven filters blockBelongs filtersBelong belongs wide short string numeral value propsBytes counted block propsSize restIs sizeIs judge propsFields fieldsOf permit firsts firstOf firstByte bodyBytes frameBytes writeOf handedOf rewrite tidyOf
 tidied-right = refl

@@ -1,5 +1,6 @@
 -- `framing::check::check` is right since it refuses as the header does, then above the limit, then where bytes are lacking: 01's order. Assumes nothing.
 use borrow.Author.Needs.{needs}
+use native.Mathlib.Omega.{arith}
 use Rattle.framing.proofs.Laws.{header-within, frame-refused, frame-checked}
 use Rattle.framing.proofs.check.check.Statement.{statement}
 use Rattle.framing.proofs.check.check.Tie as tie
@@ -14,7 +15,12 @@ enum-known-h : tie.Need-enum-known-h
 enum-known-h c = search needs
 
 sub-held : tie.Need-sub-held
-sub-held c = header-within _ _ _ _ (rw (c .before .before .h .given .1) at (c .before .before .before .before .parse-fixed-header .ensures))
+sub-held c = header-within _ _ _ _ (rw (c .before .before .h .given .1) at (c .before .before .before .before .parse-fixed-header .ensures .0))
+
+add-size : tie.Need-add-size
+add-size c =
+    let e = rw (c .before .before .before .h .given .1) at (c .before .before .before .before .before .parse-fixed-header .ensures) in
+    omega (arith, e .1, header-within _ _ _ _ (e .0))
 
 limited-requires : tie.Need-limited-requires
 limited-requires c κs = search needs
@@ -26,11 +32,11 @@ then-requires : tie.Need-then-requires
 then-requires c κs = search needs
 
 returns : tie.Need-returns
-returns c = frame-refused _ _ _ (rw (c .before .e .given .1) at (c .before .before .before .parse-fixed-header .ensures))
+returns c = frame-refused _ _ _ (rw (c .before .e .given .1) at (c .before .before .before .parse-fixed-header .ensures .0))
 
 returns-2 : tie.Need-returns-2
 returns-2 c =
-    frame-checked _ _ _ _ _ (rw (c .before .before .before .before .before .h .given .1) at (c .before .before .before .before .before .before .before .parse-fixed-header .ensures))
+    frame-checked _ _ _ _ _ (rw (c .before .before .before .before .before .before .h .given .1) at (c .before .before .before .before .before .before .before .before .parse-fixed-header .ensures .0))
     (c .then .result)
     (rw (c .before .before .limited .ensures, c .before .whole .ensures) at (c .then .ensures))
 
@@ -42,6 +48,7 @@ check-spec =
     enum-known-e
     enum-known-h
     sub-held
+    add-size
     limited-requires
     whole-requires
     then-requires

@@ -1,4 +1,4 @@
--- `framing::check::limited` is right since R is refused above the limit alone. Assumes nothing.
+-- `framing::check::limited` is right since F is refused above the limit alone. Assumes nothing.
 use borrow.Author.Needs.{needs}
 use borrow.Author.Tests.{le-leb, lt-leb}
 use Rattle.reading.specs.Refusal.{within, over}

@@ -10,7 +10,7 @@ use Rattle.framing.proofs.check.parse_fixed_header.Statement.{statement
 use Rattle.framing.proofs.check.parse_fixed_header.Tie as tie
 
 returns : tie.Need-returns
-returns c = header-none _ (omega arith)
+returns c = (header-none _ (omega arith), tt)
 
 shared-slice-read-byte1 : tie.Need-shared-slice-read-byte1
 shared-slice-read-byte1 c = search needs
@@ -36,13 +36,13 @@ enum-told-2 : tie.Need-enum-told-2
 enum-told-2 c = search needs
 
 returns-2 : tie.Need-returns-2
-returns-2 c = rw (sym (c .before .before .before .length .ensures (nr 1 (1 ∷ []))), c .before .n .given .1) at (header-first (c .before .before .before .before .before .before .before .args .stream .now) (omega arith))
+returns-2 c = (rw (sym (c .before .before .before .length .ensures (nr 1 (1 ∷ []))), c .before .n .given .1) at (header-first (c .before .before .before .before .before .before .before .args .stream .now) (omega arith)), omega arith)
 
 returns-3 : tie.Need-returns-3
-returns-3 c = rw (sym (c .before .before .length .ensures (nr 1 (1 ∷ []))), c .enum-told .given .1) at (header-first (c .before .before .before .before .before .before .args .stream .now) (omega arith))
+returns-3 c = (rw (sym (c .before .before .length .ensures (nr 1 (1 ∷ []))), c .enum-told .given .1) at (header-first (c .before .before .before .before .before .before .args .stream .now) (omega arith)), tt)
 
 returns-4 : tie.Need-returns-4
-returns-4 c = rw (sym (c .before .before .length .ensures (nr 1 (1 ∷ []))), c .enum-told2 .given .1) at (header-first (c .before .before .before .before .before .before .args .stream .now) (omega arith))
+returns-4 c = (rw (sym (c .before .before .length .ensures (nr 1 (1 ∷ []))), c .enum-told2 .given .1) at (header-first (c .before .before .before .before .before .before .args .stream .now) (omega arith)), tt)
 
 pub parse-fixed-header-spec : {M : Type 1} → statement M
 parse-fixed-header-spec =
