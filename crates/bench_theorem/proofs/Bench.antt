@@ -9,7 +9,7 @@ use Rattle.grammar.specs.Record.{Val, num, str, duo, lastOf, allOf, PublishProp
 use Rattle.grammar.specs.Sentence.{Packet}
 use Rattle.reading.specs.Refusal.{nr, Answer, accepted, refused, within, over}
 use Rattle.reading.specs.Reader.{Fit, got, bad, noneOf, neverOf, mapOf, onlyOf, onlyByOf, thenOf, sizedOf, isFit, mapFit, handFit, onlyFit, thenFit, exactFit, runFit, chainFit}
-use Rattle.reading.specs.Read.{bigOf, byteOf, groupOf, numOf, identOf, followOf, restOf, charOf, isText, frameOf, bodyAnswer, stringFit, bytesOf, textOf, valueOf, valueAt, propertyOf, propertiesFit, blockOf, ackBlockFit, ackRestFit, reasonsFit, filterOf, filtersFit, topicsFit, messageFit, fieldsFit, layoutFit, bodyFit, wholeAnswer, frameAnswer, readAs, readOf}
+use Rattle.reading.specs.Read.{bigOf, byteOf, groupOf, groupsOf, numOf, identOf, followOf, restOf, charOf, isText, frameOf, bodyAnswer, stringFit, bytesOf, textOf, valueOf, valueAt, propertyOf, propertiesFit, blockOf, ackBlockFit, ackRestFit, reasonsFit, filterOf, filtersFit, topicsFit, messageFit, fieldsFit, layoutFit, bodyFit, wholeAnswer, frameAnswer, readAs, readOf}
 use Rattle.reading.specs.Place.{Span, asPlaces, Placed, readPlacedOf, again, valuesAt, userAt, subscriptionAt, filterAt, reasonAt, topicAt}
 
 -- a limit, a stream, and the answer
@@ -64,7 +64,7 @@ bench =
 -- what else pins a number, a value, an order or a property
 abbrev pub more : List Case
 more =
-    -- framing: n, the limit before completeness and kind, 4 before 5 before 6, longer spellings
+    -- framing: n, the limit before completeness and kind, 4 before 5 before 6, longer spellings refused
     case none (0x30 ∷ 0x05 ∷ 0x00 ∷ []) (refused 1 (4 ∷ []) 0)
     ∷ case none (0xF0 ∷ 0x05 ∷ []) (refused 1 (5 ∷ []) 0)
     ∷ case (some 6) (0xF0 ∷ 0x05 ∷ []) (refused 3 (7 ∷ 6 ∷ []) 0)
@@ -72,7 +72,7 @@ more =
     ∷ case (some 2) (0xC0 ∷ 0x00 ∷ []) (accepted (ping 12) 2)
     ∷ case none (0x00 ∷ 0x00 ∷ []) (refused 4 (0 ∷ []) 2)
     ∷ case none (0xE0 ∷ 0x00 ∷ []) (refused 5 [] 2)
-    ∷ case none (0x30 ∷ 0x80 ∷ 0x00 ∷ []) (refused 5 [] 3)
+    ∷ case none (0x30 ∷ 0x80 ∷ 0x00 ∷ []) (refused 2 [] 0)
     ∷ case none (0x10 ∷ 0x01 ∷ 0x00 ∷ []) (refused 6 (1 ∷ []) 3)
     ∷ case none (0xD5 ∷ 0x02 ∷ 0x01 ∷ 0x02 ∷ 0xFF ∷ []) (accepted (ping 13) 4)
     -- Publish: 11 after 5, the topic is not tested as text, 12 before the block
@@ -112,7 +112,7 @@ more =
     ∷ case none (0x4F ∷ 0x02 ∷ 0x00 ∷ 0x00 ∷ []) (accepted (ack 4 (record { ident = 0; reason = 0; props = none })) 4)
     -- PubAck: both properties; L = 0, in two bytes; 15 before the block, 10 before the bytes after it
     ∷ case none (0x40 ∷ 0x0F ∷ 0x00 ∷ 0x0A ∷ 0x99 ∷ 0x0B ∷ 0x1F ∷ 0x00 ∷ 0x01 ∷ 0x61 ∷ 0x26 ∷ 0x00 ∷ 0x01 ∷ 0x6B ∷ 0x00 ∷ 0x01 ∷ 0x76 ∷ []) (accepted (acked 0x99 (some (record { reason = some (str (0x61 ∷ [])); ident = none; user = duo (0x6B ∷ []) (0x76 ∷ []) ∷ [] }))) 17)
-    ∷ case none (0x40 ∷ 0x05 ∷ 0x00 ∷ 0x0A ∷ 0x10 ∷ 0x80 ∷ 0x00 ∷ []) (accepted (acked 0x10 none) 7)
+    ∷ case none (0x40 ∷ 0x05 ∷ 0x00 ∷ 0x0A ∷ 0x10 ∷ 0x80 ∷ 0x00 ∷ []) (refused 2 [] 7)
     ∷ case none (0x40 ∷ 0x01 ∷ 0x00 ∷ []) (refused 7 [] 3)
     ∷ case none (0x40 ∷ 0x03 ∷ 0x00 ∷ 0x0A ∷ 0x11 ∷ []) (refused 15 (0x11 ∷ []) 5)
     ∷ case none (0x40 ∷ 0x05 ∷ 0x00 ∷ 0x01 ∷ 0x01 ∷ 0x01 ∷ 0xFF ∷ []) (refused 15 (1 ∷ []) 7)
@@ -215,5 +215,5 @@ Right =
     × (topicAt asPlaces (0x00 ∷ 0x01 ∷ 0x61 ∷ []) (span 0 3) 0 ≡ got (span 2 1))
 
 pub right : Right
-unfolding rows publishPlace subscribePlace ackPlace unsubscribePlace reasons releaseReasons subAckReasons unsubAckReasons kinds lastOf allOf publishProps propsOf noneOf neverOf mapOf onlyOf onlyByOf thenOf sizedOf isFit mapFit handFit onlyFit thenFit exactFit runFit chainFit byteOf followOf restOf charOf isText bigOf groupOf numOf stringFit bytesOf textOf valueOf valueAt propertyOf propertiesFit blockOf ackBlockFit ackRestFit identOf reasonsFit filterOf filtersFit topicsFit messageFit fieldsFit layoutFit bodyFit within over frameOf bodyAnswer wholeAnswer frameAnswer readAs again valuesAt userAt subscriptionAt filterAt reasonAt topicAt
+unfolding rows publishPlace subscribePlace ackPlace unsubscribePlace reasons releaseReasons subAckReasons unsubAckReasons kinds lastOf allOf publishProps propsOf noneOf neverOf mapOf onlyOf onlyByOf thenOf sizedOf isFit mapFit handFit onlyFit thenFit exactFit runFit chainFit byteOf followOf restOf charOf isText bigOf groupOf groupsOf numOf stringFit bytesOf textOf valueOf valueAt propertyOf propertiesFit blockOf ackBlockFit ackRestFit identOf reasonsFit filterOf filtersFit topicsFit messageFit fieldsFit layoutFit bodyFit within over frameOf bodyAnswer wholeAnswer frameAnswer readAs again valuesAt userAt subscriptionAt filterAt reasonAt topicAt
 right = (refl, refl, refl, refl, refl, refl, refl)

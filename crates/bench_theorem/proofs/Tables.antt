@@ -4,16 +4,21 @@ use mathlib.Core.Bool.{true, false}
 use mathlib.Core.List.{List, [], _∷_, map}
 use Prim.Native.Nat.{ℕ}
 use Rattle.grammar.specs.Text.{rows}
-use Rattle.reading.specs.Refusal.{cut}
-use Rattle.reading.specs.Reader.{got, noneOf, neverOf, mapOf, onlyOf, thenOf, runFit, chainFit}
-use Rattle.reading.specs.Read.{byteOf, groupOf, numOf, followOf, restOf, charOf, isText}
+use Rattle.reading.specs.Refusal.{nr, cut}
+use Rattle.reading.specs.Reader.{got, bad, onlyByOf, noneOf, neverOf, mapOf, onlyOf, thenOf, runFit, chainFit}
+use Rattle.reading.specs.Read.{byteOf, groupOf, groupsOf, numOf, followOf, restOf, charOf, isText}
 
--- 01, lengths: "127 is 7F, 128 is 80 01, 16,383 is FF 7F, 16,384 is 80 80 01, 2,097,152 is 80 80 80 01"; the largest; "80 00 is 0"
+-- 02, P8: "`80` alone still lacks bytes; `80 00` is refused"; the fourth byte's top bit
+winded : map (numOf cut 4) ((0x80 ∷ []) ∷ (0x80 ∷ 0x00 ∷ []) ∷ (0xFF ∷ 0x80 ∷ 0x00 ∷ []) ∷ (0x80 ∷ 0x80 ∷ 0x80 ∷ 0x00 ∷ []) ∷ (0x80 ∷ 0x80 ∷ 0x80 ∷ 0x80 ∷ []) ∷ (0x00 ∷ []) ∷ []) ≡ bad cut ∷ bad (nr 2 []) ∷ bad (nr 2 []) ∷ bad (nr 2 []) ∷ bad (nr 2 []) ∷ got (0, []) ∷ []
+unfolding onlyByOf numOf groupsOf groupOf
+winded = refl
+
+-- 01, lengths: "127 is 7F, 128 is 80 01, 16,383 is FF 7F, 16,384 is 80 80 01, 2,097,152 is 80 80 80 01"; the largest
 abbrev spellings : List (List ℕ × ℕ)
-spellings = (0x7F ∷ [], 127) ∷ (0x80 ∷ 0x01 ∷ [], 128) ∷ (0xFF ∷ 0x7F ∷ [], 16383) ∷ (0x80 ∷ 0x80 ∷ 0x01 ∷ [], 16384) ∷ (0x80 ∷ 0x80 ∷ 0x80 ∷ 0x01 ∷ [], 2097152) ∷ (0xFF ∷ 0xFF ∷ 0xFF ∷ 0x7F ∷ [], 268435455) ∷ (0x80 ∷ 0x00 ∷ [], 0) ∷ []
+spellings = (0x7F ∷ [], 127) ∷ (0x80 ∷ 0x01 ∷ [], 128) ∷ (0xFF ∷ 0x7F ∷ [], 16383) ∷ (0x80 ∷ 0x80 ∷ 0x01 ∷ [], 16384) ∷ (0x80 ∷ 0x80 ∷ 0x80 ∷ 0x01 ∷ [], 2097152) ∷ (0xFF ∷ 0xFF ∷ 0xFF ∷ 0x7F ∷ [], 268435455) ∷ []
 
 lengths-right : map (λ (z : List ℕ × ℕ). numOf cut 4 (z .0)) spellings ≡ map (λ (z : List ℕ × ℕ). got (z .1, [])) spellings
-unfolding numOf groupOf
+unfolding onlyByOf numOf groupsOf groupOf
 lengths-right = refl
 
 -- Unicode, table 3-7: at and around each bound of each row

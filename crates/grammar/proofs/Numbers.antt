@@ -5,6 +5,7 @@ use Prim.Native.Nat.{ℕ, suc, _*_, _^_, _≤_, _<_}
 use native.Mathlib.Omega.{arith}
 use native.Mathlib.Nat.{pow-suc, one-le-pow}
 use Rattle.grammar.specs.Octets.{Octets, _&_}
+use Rattle.grammar.specs.Gram.{onlyBy}
 use Rattle.grammar.specs.Number.{Groups, last, next, Spells}
 
 -- 01, grammar: "seven bits each": k bytes spell a number of 7 k bits
@@ -20,4 +21,4 @@ groups-small (next {k = k} {x = x} {n = n} {b = b} h g) (q & o) =
 
 -- 01, grammar: "Largest: 268,435,455"
 pub spells-small : (n : ℕ) (b : List ℕ) → Spells n b → Octets b → n ≤ 268435455
-spells-small n b g o = let h = groups-small g o in omega arith
+spells-small n b (onlyBy s g) o = let h = groups-small g o in omega arith

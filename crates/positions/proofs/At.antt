@@ -10,7 +10,7 @@ use borrow.Author.Tests.{le-leb, lt-leb, lt-ltb, le-ltb}
 use Rattle.grammar.specs.Number.{bigFrom}
 use Rattle.reading.specs.Refusal.{Refusal}
 use Rattle.reading.specs.Reader.{Fit, got, bad, Reader, Filler, _>>=_, sizedOf}
-use Rattle.reading.specs.Read.{bigOf, groupOf, numOf}
+use Rattle.reading.specs.Read.{bigOf, groupOf, groupsOf}
 use Rattle.reading.specs.Place.{spanOf}
 
 -- k elements from index at
@@ -31,16 +31,16 @@ abbrev pub scale : ℕ → ℕ → Fit (ℕ × List ℕ) → Fit (ℕ × List �
 scale a m t = t >>= λ (n, r). got (a + m * n, r)
 
 module _ (c : Refusal) (k at : ℕ) (s : List ℕ) where
-  pub num-cut : length s ≤ at → numOf c (suc k) (drop at s) ≡ bad c
-  unfolding numOf
+  pub num-cut : length s ≤ at → groupsOf c (suc k) (drop at s) ≡ bad c
+  unfolding groupsOf
   num-cut h = rw (drop-of-length-le s h)
 
-  pub num-last : at < length s → getD s at 0 < 128 → numOf c (suc k) (drop at s) ≡ got (getD s at 0, drop (at + 1) s)
-  unfolding numOf groupOf
+  pub num-last : at < length s → getD s at 0 < 128 → groupsOf c (suc k) (drop at s) ≡ got (getD s at 0, drop (at + 1) s)
+  unfolding groupsOf groupOf
   num-last h l = rw (drop-cons s at 0 h, add-one at, lt-ltb (getD s at 0) 128 l)
 
-  pub num-next : at < length s → 128 ≤ getD s at 0 → numOf c (suc k) (drop at s) ≡ scale (getD s at 0 - 128) 128 (numOf c k (drop (at + 1) s))
-  unfolding numOf groupOf
+  pub num-next : at < length s → 128 ≤ getD s at 0 → groupsOf c (suc k) (drop at s) ≡ scale (getD s at 0 - 128) 128 (groupsOf c k (drop (at + 1) s))
+  unfolding groupsOf groupOf
   num-next h l = rw (drop-cons s at 0 h, add-one at, le-ltb (getD s at 0) 128 l)
 
 pub scale-scale : (a m b n : ℕ) (t : Fit (ℕ × List ℕ)) → scale a m (scale b n t) ≡ scale (a + b * m) (m * n) t

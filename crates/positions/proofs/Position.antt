@@ -1,12 +1,13 @@
 -- A reader at an index of a slice, and the same reader on what is left of the slice there. Assumes nothing.
 use mathlib.Core.Path.{_≡_, sym, ap, _∙_}
+use mathlib.Core.Bool.{Bool, true, false}
 use mathlib.Core.List.{List, _++_, append-assoc}
 use Prim.Native.Nat.{ℕ, _-_, _≤_}
 use native.Mathlib.Omega.{arith}
 use lib.ListN.{length, take, drop, length-append, length-drop, take-append-drop}
 use lib.Seq.{drop-append-seam}
 use Rattle.reading.specs.Refusal.{Refusal}
-use Rattle.reading.specs.Reader.{got, bad, Reader}
+use Rattle.reading.specs.Reader.{got, bad, Reader, onlyByOf}
 use Rattle.reading.proofs.Reading.{from-got, from-bind}
 use Rattle.reading.proofs.Refusing.{got-bad, of-bind}
 use Rattle.positions.specs.Position.{fromAt}
@@ -51,3 +52,23 @@ module _ {A : Type 0} (p : Reader A) (s : List ℕ) (at : ℕ) where
   pub left-bad : (k : Refusal) → p (drop at s) ≡ bad k → fromAt p s at ≡ bad k
   unfolding fromAt
   left-bad k e = rw e
+
+  -- ---- with a test of the value v and of the count of its bytes, which end at m
+  module _ (t : A → ℕ → Bool) (k : A → ℕ → Refusal) where
+    pub by-bad : (c : Refusal) → p (drop at s) ≡ bad c → fromAt (onlyByOf t k p) s at ≡ bad c
+    unfolding fromAt onlyByOf
+    by-bad c e = rw e
+
+    module _ (v : A) (m : ℕ) (e : p (drop at s) ≡ got (v, drop m s)) (h : m ≤ length s) where
+      counts : length (drop at s) - length (drop m s) ≡ m - at
+      counts = rw (length-drop at s, length-drop m s) (omega arith)
+
+      pub by-passes : t v (m - at) ≡ true → fromAt (onlyByOf t k p) s at ≡ got (v, m)
+      unfolding fromAt onlyByOf
+      by-passes w =
+          let n : length s - length (drop m s) ≡ m = rw length-drop (omega arith) in
+          rw (e, counts, w, n)
+
+      pub by-fails : t v (m - at) ≡ false → fromAt (onlyByOf t k p) s at ≡ bad (k v (m - at))
+      unfolding fromAt onlyByOf
+      by-fails w = rw (e, counts, w)

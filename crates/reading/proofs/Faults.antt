@@ -10,22 +10,27 @@ use lib.ListN.{length, length-append}
 use borrow.Author.Tests.{not-false, not-true}
 use Rattle.grammar.specs.Choice.{isIn, lookup, isEmpty}
 use Rattle.grammar.specs.Gram.{Gram, done, more, Many, Solid}
+use Rattle.grammar.specs.Number.{shortest}
 use Rattle.grammar.specs.Text.{Utf8}
 use Rattle.grammar.specs.Tables.{Form, u8, u16, u32, number, text, bytes, pair, Place, publishPlace, subscribePlace, ackPlace, unsubscribePlace, Layout, aPublish, anAck, aSubscribe, aReply, anUnsubscribe, aPing, kinds, reserved, isPing}
 use Rattle.grammar.specs.Record.{num, str, kindOf, flagQos, mkPublish, mkAck, mkFilter, mkSubscribe, mkReply, mkUnsubscribe, mkPing}
 use Rattle.grammar.specs.Sentence.{Text, Prop, duoOf, Block, propsIf, notThree, notZero, qosFine, ruleFine, someOf, ReasonOf, Packet}
 use Rattle.reading.specs.Refusal.{Refusal, nr, Answer, cut, crossed, lacking, passes, exceeds}
-use Rattle.reading.specs.Fault.{Fault, Sound, ManyFault, ExactFault, BytesFault, TextFault, ValueFault, PropertyFault, noId, unknown, value, BlockFault, AckFault, reason, block, IdentFault, FilterFault, SomeFault, noEntry, entry, FiltersFault, ReasonFault, MessageFault, PublishFault, qos, fields, FieldsFault, BodyFault, kind, noBytes, foreign, content, FrameFault, Passing, Verdict, says, breaks, noFrame}
+use Rattle.reading.specs.Fault.{Fault, Sound, NumFault, ManyFault, ExactFault, BytesFault, TextFault, ValueFault, PropertyFault, noId, unknown, value, BlockFault, AckFault, reason, block, IdentFault, FilterFault, SomeFault, noEntry, entry, FiltersFault, ReasonFault, MessageFault, PublishFault, qos, fields, FieldsFault, BodyFault, kind, noBytes, foreign, content, FrameFault, Passing, Verdict, says, breaks, noFrame}
 use Rattle.reading.specs.Reader.{Fit, got, bad, Reader, isFit, onlyFit, exactFit, runFit, chainFit, manyFit}
-use Rattle.reading.specs.Read.{identOf, isText, anyBytes, asBytes, someFit, reasonsFit, frameOf, bodyAnswer, stringFit, bytesOf, textOf, valueOf, valueAt, propertyOf, propertiesFit, blockOf, publishAs, propsAs, ackBlockFit, ackRestFit, filterOf, filtersFit, topicsFit, messageFit, fieldsFit, layoutFit, bodyFit, wholeAnswer, frameAnswer, readAs, readOf}
+use Rattle.reading.specs.Read.{numOf, identOf, isText, anyBytes, asBytes, someFit, reasonsFit, frameOf, bodyAnswer, stringFit, bytesOf, textOf, valueOf, valueAt, propertyOf, propertiesFit, blockOf, publishAs, propsAs, ackBlockFit, ackRestFit, filterOf, filtersFit, topicsFit, messageFit, fieldsFit, layoutFit, bodyFit, wholeAnswer, frameAnswer, readAs, readOf}
 use Rattle.reading.proofs.Lists.{none-left}
 use Rattle.reading.proofs.Reading.{Reads, reads-only, fills-many}
-use Rattle.reading.proofs.Fields.{reads-byte, reads-big, reads-num, text-fine, reads-bytes, reads-text, reads-property, property-solid}
+use Rattle.reading.proofs.Fields.{reads-byte, reads-big, reads-groups, reads-num, text-fine, reads-bytes, reads-text, reads-property, property-solid}
 use Rattle.reading.proofs.Packets.{reads-props, reads-ident, reads-filter, filter-solid, reads-publish-block, reason-solid, text-solid, kind-fine, fills-body}
 use Rattle.reading.proofs.Demand.{reads-length, reads-frame, whole-answer}
-use Rattle.reading.proofs.Refusing.{got-bad, of-bind, of-guard, RefusesBy, refuses-byte, refuses-big, refuses-num, refuses-none, refuses-map, refuses-fit, refuses-hand, refuses-then, refuses-end, refuses-only, refuses-by, refuses-exact, refuses-many, refuses-sized, refuses-is}
+use Rattle.reading.proofs.Refusing.{got-bad, of-bind, of-guard, RefusesBy, refuses-byte, refuses-big, refuses-groups, refuses-none, refuses-map, refuses-fit, refuses-hand, refuses-then, refuses-end, refuses-only, refuses-by, refuses-exact, refuses-many, refuses-sized, refuses-is}
 
 -- ---- strings and properties
+
+refuses-num : (c : Refusal) (k : ℕ) → RefusesBy (numOf c k) (NumFault c k)
+unfolding numOf
+refuses-num c k = refuses-by (refuses-groups c k) (reads-groups c k) shortest (λ _ _. nr 2 [])
 
 sound : RefusesBy (isFit anyBytes cut) Sound
 unfolding isFit

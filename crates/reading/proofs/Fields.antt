@@ -11,17 +11,17 @@ use lib.Dec.{leb, ltb, leb→le, ltb→lt}
 use mathlib.Core.Logic.{_↔_}
 use borrow.Author.Tests.{le-leb, lt-ltb, ltb-false, le-ltb}
 use Rattle.grammar.specs.Choice.{lookup}
-use Rattle.grammar.specs.Gram.{Many, Is, Solid}
-use Rattle.grammar.specs.Number.{Byte, byte, bigFrom, Big, big, Groups, last, next}
+use Rattle.grammar.specs.Gram.{OnlyBy, Many, Is, Solid}
+use Rattle.grammar.specs.Number.{Byte, byte, bigFrom, Big, big, Groups, last, next, shortest}
 use Rattle.grammar.specs.Text.{Range, inRange, rows, rowAt, cons, Follow, Rest, Char, Utf8}
 use Rattle.grammar.specs.Tables.{Form, u8, u16, u32, number, text, bytes, pair, Place}
 use Rattle.grammar.specs.Record.{num, str}
 use Rattle.grammar.specs.Sentence.{Any, Bytes, Text, Prop, duoOf, Spelt, Property, property, Block}
-use Rattle.reading.specs.Refusal.{Refusal, cut, crossed}
+use Rattle.reading.specs.Refusal.{Refusal, nr, cut, crossed}
 use Rattle.reading.specs.Reader.{Fit, got, bad, manyFit, isGot}
-use Rattle.reading.specs.Read.{bigOf, byteOf, groupOf, numOf, followOf, restOf, charOf, isText, anyBytes, asBytes, stringFit, bytesOf, textOf, valueOf, valueAt, propertyOf, propertiesFit, blockOf}
+use Rattle.reading.specs.Read.{bigOf, byteOf, groupOf, groupsOf, numOf, followOf, restOf, charOf, isText, anyBytes, asBytes, stringFit, bytesOf, textOf, valueOf, valueAt, propertyOf, propertiesFit, blockOf}
 use Rattle.reading.proofs.Lists.{T-of}
-use Rattle.reading.proofs.Reading.{bad-got, from-got, from-bind, from-guard, Cut, Reads, Fills, reads-none, reads-map, reads-only, reads-then, reads-sized, fills-hand, fills-as, fills-many, fills-is, reads-never, solid-map, solid-then, solid-sized}
+use Rattle.reading.proofs.Reading.{bad-got, from-got, from-bind, from-guard, Cut, Reads, Fills, reads-none, reads-map, reads-only, reads-by, reads-then, reads-sized, fills-hand, fills-as, fills-many, fills-is, reads-never, solid-map, solid-then, solid-sized, solid-by}
 
 -- ---- numbers
 
@@ -57,31 +57,38 @@ module _ (c : Refusal) (k : ℕ) where
   reads-big = record { whole = big-whole; split = big-split }
 
 module _ (c : Refusal) where
-  num-whole : (k n : ℕ) (b r : List ℕ) → Groups k n b → numOf c k (b ++ r) ≡ got (n, r)
-  unfolding numOf groupOf
-  num-whole _ _ _ r (last {k = k} {x = x} h) = rw (lt-ltb x 128 h)
-  num-whole _ _ _ r (next {k = k} {x = x} {n = n} {b = b} h g) = rw (le-ltb x 128 h, num-whole k n b r g)
+  groups-whole : (k n : ℕ) (b r : List ℕ) → Groups k n b → groupsOf c k (b ++ r) ≡ got (n, r)
+  unfolding groupsOf groupOf
+  groups-whole _ _ _ r (last {k = k} {x = x} h) = rw (lt-ltb x 128 h)
+  groups-whole _ _ _ r (next {k = k} {x = x} {n = n} {b = b} h g) = rw (le-ltb x 128 h, groups-whole k n b r g)
 
-  num-step : (k x : ℕ) (s : List ℕ) → ((z : ℕ × List ℕ) → numOf c k s ≡ got z → Cut (Groups k) s z)
-      → (t : Bool) → ltb x 128 ≡ t → (z : ℕ × List ℕ) → groupOf t x s (numOf c k s) ≡ got z → Cut (Groups (suc k)) (x ∷ s) z
+  groups-step : (k x : ℕ) (s : List ℕ) → ((z : ℕ × List ℕ) → groupsOf c k s ≡ got z → Cut (Groups k) s z)
+      → (t : Bool) → ltb x 128 ≡ t → (z : ℕ × List ℕ) → groupOf t x s (groupsOf c k s) ≡ got z → Cut (Groups (suc k)) (x ∷ s) z
   unfolding groupOf
-  num-step k x s ih true e = from-got (Cut (Groups (suc k)) (x ∷ s)) (x, s) (x ∷ [], refl, last (ltb→lt x 128 (T-of (ltb x 128) e)))
-  num-step k x s ih false e = from-bind (numOf c k s) (λ y. got (x - 128 + 128 * y .0, y .1)) λ y e₁.
+  groups-step k x s ih true e = from-got (Cut (Groups (suc k)) (x ∷ s)) (x, s) (x ∷ [], refl, last (ltb→lt x 128 (T-of (ltb x 128) e)))
+  groups-step k x s ih false e = from-bind (groupsOf c k s) (λ y. got (x - 128 + 128 * y .0, y .1)) λ y e₁.
       let (b, e₂, g) = ih y e₁ in
       from-got (Cut (Groups (suc k)) (x ∷ s)) (x - 128 + 128 * y .0, y .1) (x ∷ b, ap (λ (l : List ℕ). x ∷ l) e₂, next (ltb-false x 128 e) g)
 
-  num-split : (k : ℕ) (s : List ℕ) (z : ℕ × List ℕ) → numOf c k s ≡ got z → Cut (Groups k) s z
-  unfolding numOf
-  num-split zero s = λ z e. absurd (bad-got e)
-  num-split (suc k) [] = λ z e. absurd (bad-got e)
-  num-split (suc k) (x ∷ s) = num-step k x s (num-split k s) (ltb x 128) refl
+  groups-split : (k : ℕ) (s : List ℕ) (z : ℕ × List ℕ) → groupsOf c k s ≡ got z → Cut (Groups k) s z
+  unfolding groupsOf
+  groups-split zero s = λ z e. absurd (bad-got e)
+  groups-split (suc k) [] = λ z e. absurd (bad-got e)
+  groups-split (suc k) (x ∷ s) = groups-step k x s (groups-split k s) (ltb x 128) refl
 
-  pub reads-num : (k : ℕ) → Reads (numOf c k) (Groups k)
-  reads-num k = record { whole = num-whole k; split = num-split k }
+  pub reads-groups : (k : ℕ) → Reads (groupsOf c k) (Groups k)
+  reads-groups k = record { whole = groups-whole k; split = groups-split k }
 
-pub num-solid : (k : ℕ) → Solid (Groups k)
-num-solid _ _ _ (last h) e = let z : _≡_ {A = ℕ} 0 1 = cc in omega arith
-num-solid _ _ _ (next h g) e = let z : _≡_ {A = ℕ} 0 1 = cc in omega arith
+pub reads-num : (c : Refusal) (k : ℕ) → Reads (numOf c k) (OnlyBy shortest (Groups k))
+unfolding numOf
+reads-num c k = reads-by shortest (λ _ _. nr 2 []) (reads-groups c k)
+
+pub groups-solid : (k : ℕ) → Solid (Groups k)
+groups-solid _ _ _ (last h) e = let z : _≡_ {A = ℕ} 0 1 = cc in omega arith
+groups-solid _ _ _ (next h g) e = let z : _≡_ {A = ℕ} 0 1 = cc in omega arith
+
+pub num-solid : (k : ℕ) → Solid (OnlyBy shortest (Groups k))
+num-solid k = solid-by shortest (groups-solid k)
 
 pub big-solid : (k : ℕ) → Solid (Big (suc k))
 big-solid k _ b (big l) e = omega (arith, ap length e)

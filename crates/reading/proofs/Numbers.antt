@@ -9,7 +9,7 @@ use Rattle.grammar.specs.Gram.{Gram}
 use Rattle.grammar.specs.Tables.{Form, u8, u16, u32, number, text, bytes, pair, Place, Layout, aPublish, anAck, aSubscribe, aReply, anUnsubscribe, aPing}
 use Rattle.grammar.specs.Record.{flagQos}
 use Rattle.reading.specs.Refusal.{Refusal, nr}
-use Rattle.reading.specs.Fault.{Fault, Sound, OnlyFault, under, fails, ThenFault, first, second, SizedFault, sizes, crosses, fills, ManyFault, now, later, ExactFault, before, follows, IsFault, isnt, ByteFault, noByte, BigFault, fewer, NumFault, endless, long, BytesFault, TextFault, ValueFault, PropertyFault, noId, unknown, value, BlockFault, AckFault, reason, block, IdentFault, SomeFault, noEntry, entry, FiltersFault, PublishFault, qos, fields, FieldsFault}
+use Rattle.reading.specs.Fault.{Fault, Sound, OnlyFault, under, fails, underBy, failsBy, ThenFault, first, second, SizedFault, sizes, crosses, fills, ManyFault, now, later, ExactFault, before, follows, IsFault, isnt, ByteFault, noByte, BigFault, fewer, NumFault, endless, long, BytesFault, TextFault, ValueFault, PropertyFault, noId, unknown, value, BlockFault, AckFault, reason, block, IdentFault, SomeFault, noEntry, entry, FiltersFault, PublishFault, qos, fields, FieldsFault}
 use Rattle.reading.specs.Rows.{Breaks}
 use Rattle.reading.specs.Demand.{ofFields}
 
@@ -54,8 +54,9 @@ kept-big : {c : Refusal} {n : ℕ} → numbered c → Kept (BigFault c n)
 kept-big C _ _ (fewer h) = C
 
 kept-num : {c : Refusal} {n : ℕ} → numbered c → numbered (nr 2 []) → Kept (NumFault c n)
-kept-num C D _ _ (endless t h) = C
-kept-num C D _ _ (long r t h) = D
+kept-num C D _ _ (underBy (endless t h)) = C
+kept-num C D _ _ (underBy (long r t h)) = D
+kept-num C D _ _ (failsBy r g h) = D
 
 kept-bytes : Kept BytesFault
 kept-bytes = kept-sized (λ _ _. refl) (kept-big refl) kept-sound

@@ -323,6 +323,9 @@ solid-sized S _ _ (sized {b = b} {c = c} n h) e = S (length b) c n (left-nil c b
 pub solid-only : {A : Type 0} {G : Gram A} (t : A → Bool) → Solid G → Solid (Only t G)
 solid-only t S a b (only h g) e = S a b g e
 
+pub solid-by : {A : Type 0} {G : Gram A} (t : A → ℕ → Bool) → Solid G → Solid (OnlyBy t G)
+solid-by t S a b (onlyBy h g) e = S a b g e
+
 -- a reader of a grammar with no empty spelling leaves less
 pub less : {A : Type 0} {p : Reader A} {G : Gram A} → Reads p G → Solid G → (s : List ℕ) (z : A × List ℕ) → p s ≡ got z → length (z .1) < length s
 less {G = G} R L s z e = let (b, e₁, g) = R .split s z e in front b (z .1) g e₁

@@ -12,9 +12,9 @@ use borrow.Author.Tests.{le-leb, lt-leb, leb-false, ltb-false, le-ltb}
 use Rattle.grammar.specs.Choice.{isEmpty}
 use Rattle.grammar.specs.Gram.{Gram, forget, Solid}
 use Rattle.reading.specs.Refusal.{Refusal, nr}
-use Rattle.reading.specs.Fault.{Fault, Sound, OnlyFault, under, fails, OnlyByFault, underBy, failsBy, ThenFault, first, second, SizedFault, sizes, crosses, fills, ManyFault, now, later, ExactFault, before, follows, IsFault, isnt, ByteFault, noByte, BigFault, fewer, Tops, noTops, aTop, NumFault, endless, long}
+use Rattle.reading.specs.Fault.{Fault, Sound, OnlyFault, under, fails, OnlyByFault, underBy, failsBy, ThenFault, first, second, SizedFault, sizes, crosses, fills, ManyFault, now, later, ExactFault, before, follows, IsFault, isnt, ByteFault, noByte, BigFault, fewer, Tops, noTops, aTop, GroupsFault, endless, long}
 use Rattle.reading.specs.Reader.{Fit, got, bad, Reader, Filler, _>>=_, _>>_, guard, noneOf, mapOf, onlyOf, onlyByOf, thenOf, sizedOf, isFit, mapFit, handFit, thenFit, exactFit, runFit, chainFit, manyFit}
-use Rattle.reading.specs.Read.{bigOf, byteOf, groupOf, numOf}
+use Rattle.reading.specs.Read.{bigOf, byteOf, groupOf, groupsOf}
 use Rattle.reading.proofs.Lists.{T-of}
 use Rattle.reading.proofs.Reading.{bad-got, Reads, less, count-front}
 
@@ -65,40 +65,40 @@ module _ (c : Refusal) where
     refuses-big = record { fault = big-fault; refuse = big-refuse }
 
   -- a byte with its top bit set before a fault
-  more : (n x : ℕ) (s : List ℕ) (k : Refusal) → 128 ≤ x → NumFault c n s k → NumFault c (suc n) (x ∷ s) k
+  more : (n x : ℕ) (s : List ℕ) (k : Refusal) → 128 ≤ x → GroupsFault c n s k → GroupsFault c (suc n) (x ∷ s) k
   more n x _ _ h (endless t l) = endless (aTop h t) (omega arith)
   more n x _ _ h (long r t l) = long r (aTop h t) (omega arith)
 
-  num-step : (n x : ℕ) (s : List ℕ) (k : Refusal) → (numOf c n s ≡ bad k → NumFault c n s k) → (t : Bool) → ltb x 128 ≡ t → groupOf t x s (numOf c n s) ≡ bad k → NumFault c (suc n) (x ∷ s) k
+  groups-step : (n x : ℕ) (s : List ℕ) (k : Refusal) → (groupsOf c n s ≡ bad k → GroupsFault c n s k) → (t : Bool) → ltb x 128 ≡ t → groupOf t x s (groupsOf c n s) ≡ bad k → GroupsFault c (suc n) (x ∷ s) k
   unfolding groupOf
-  num-step n x s k ih true h e = got-bad e
-  num-step n x s k ih false h e = of-bind (numOf c n s) _ k (λ e′. more n x s k (ltb-false x 128 h) (ih e′)) (λ y e′ e″. got-bad e″) e
+  groups-step n x s k ih true h e = got-bad e
+  groups-step n x s k ih false h e = of-bind (groupsOf c n s) _ k (λ e′. more n x s k (ltb-false x 128 h) (ih e′)) (λ y e′ e″. got-bad e″) e
 
-  num-fault : (n : ℕ) (s : List ℕ) (k : Refusal) → numOf c n s ≡ bad k → NumFault c n s k
-  unfolding numOf
-  num-fault zero s k e = subst (NumFault c zero s) (cc) (long s noTops refl)
-  num-fault (suc n) [] k e = subst (NumFault c (suc n) []) (cc) (endless noTops (omega arith))
-  num-fault (suc n) (x ∷ s) k e = num-step n x s k (num-fault n s k) (ltb x 128) refl e
+  groups-fault : (n : ℕ) (s : List ℕ) (k : Refusal) → groupsOf c n s ≡ bad k → GroupsFault c n s k
+  unfolding groupsOf
+  groups-fault zero s k e = subst (GroupsFault c zero s) (cc) (long s noTops refl)
+  groups-fault (suc n) [] k e = subst (GroupsFault c (suc n) []) (cc) (endless noTops (omega arith))
+  groups-fault (suc n) (x ∷ s) k e = groups-step n x s k (groups-fault n s k) (ltb x 128) refl e
 
-  tops-end : (n : ℕ) (s : List ℕ) → Tops s → length s < n → numOf c n s ≡ bad c
-  unfolding numOf groupOf
+  tops-end : (n : ℕ) (s : List ℕ) → Tops s → length s < n → groupsOf c n s ≡ bad c
+  unfolding groupsOf groupOf
   tops-end zero s t h = absurd (omega arith)
   tops-end (suc n) _ noTops h = refl
   tops-end (suc n) _ (aTop {x = x} {b = b} g t) h = rw (le-ltb x 128 g, tops-end n b t (omega arith))
 
-  tops-long : (n : ℕ) (b r : List ℕ) → Tops b → length b ≡ n → numOf c n (b ++ r) ≡ bad (nr 2 [])
-  unfolding numOf groupOf
+  tops-long : (n : ℕ) (b r : List ℕ) → Tops b → length b ≡ n → groupsOf c n (b ++ r) ≡ bad (nr 2 [])
+  unfolding groupsOf groupOf
   tops-long zero _ r noTops h = refl
   tops-long (suc n) _ r noTops h = absurd (omega arith)
   tops-long zero _ r (aTop g t) h = absurd (omega arith)
   tops-long (suc n) _ r (aTop {x = x} {b = b} g t) h = rw (le-ltb x 128 g, tops-long n b r t (omega arith))
 
-  num-refuse : (n : ℕ) (s : List ℕ) (k : Refusal) → NumFault c n s k → numOf c n s ≡ bad k
-  num-refuse n s _ (endless t h) = tops-end n s t h
-  num-refuse n _ _ (long {b = b} r t h) = tops-long n b r t h
+  groups-refuse : (n : ℕ) (s : List ℕ) (k : Refusal) → GroupsFault c n s k → groupsOf c n s ≡ bad k
+  groups-refuse n s _ (endless t h) = tops-end n s t h
+  groups-refuse n _ _ (long {b = b} r t h) = tops-long n b r t h
 
-  pub refuses-num : (n : ℕ) → RefusesBy (numOf c n) (NumFault c n)
-  refuses-num n = record { fault = num-fault n; refuse = num-refuse n }
+  pub refuses-groups : (n : ℕ) → RefusesBy (groupsOf c n) (GroupsFault c n)
+  refuses-groups n = record { fault = groups-fault n; refuse = groups-refuse n }
 
 -- ---- readers
 

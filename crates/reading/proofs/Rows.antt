@@ -5,24 +5,32 @@ use mathlib.Core.Bool.{Bool, true, false, _||_, cond, false≢true}
 use mathlib.Core.Option.{Option, none, some}
 use mathlib.Core.Logic.{_↔_, _⊎_, inl, inr}
 use mathlib.Core.List.{List, [], _∷_, _++_}
-use Prim.Native.Nat.{ℕ, _+_, _-_, _<_}
+use Prim.Native.Nat.{ℕ, _+_, _-_, _^_, _<_}
 use native.Mathlib.Omega.{arith}
-use lib.Dec.{eqb}
+use lib.Dec.{eqb, leb}
 use lib.ListN.{length, length-append}
 use borrow.Author.Tests.{lt-leb, leb-false}
 use Rattle.grammar.specs.Choice.{isIn}
 use Rattle.grammar.specs.Gram.{OnlyBy, onlyBy, both}
-use Rattle.grammar.specs.Number.{Byte, byte, Spells}
+use Rattle.grammar.specs.Number.{Byte, byte, shortest, Spells}
 use Rattle.grammar.specs.Sentence.{Packet}
 use Rattle.reading.specs.Refusal.{Refusal, nr, Answer, accepted, refused, refusedAs, lacking, within, over, passes, exceeds}
 use Rattle.reading.specs.Fault.{Sound, OnlyByFault, underBy, failsBy, first, second, SizedFault, sizes, crosses, fills, ByteFault, noByte, noTops, NumFault, endless, long, BodyFault, kind, noBytes, foreign, content, FrameFault, Passing, Verdict, says, breaks, noFrame}
 use Rattle.reading.specs.Read.{readOf}
-use Rattle.reading.specs.Rows.{Incomplete, underTwo, noEnd, partly, Overlong, overlong, Above, above, Holds, holds, Framing, insufficient, malformed, exceeded, invalid, required, notCarried, rowNumber, FramingGiven, Breaks}
+use Rattle.reading.specs.Rows.{Incomplete, underTwo, noEnd, partly, Overlong, overlong, winded, Above, above, Holds, holds, Framing, insufficient, malformed, exceeded, invalid, required, notCarried, rowNumber, FramingGiven, Breaks}
 use Rattle.reading.specs.Demand.{ofFields, Taken, nothing-yet, own-length, whole-frame}
 use Rattle.reading.proofs.Faults.{answered}
 use Rattle.reading.proofs.Numbers.{field-numbers}
 
 -- ---- rows 1 to 3, from the fault of a frame
+
+-- 02, P8: "more bytes than it needs"
+needless : (n k : ℕ) → (shortest n k ≡ false) ↔ ((1 < k) × (n < 128 ^ (k - 1)))
+needless n k = (there (leb k 1) refl, λ (i, j). rw (lt-leb k 1 i, lt-leb (128 ^ (k - 1)) n j))
+  where
+    there : (t : Bool) → leb k 1 ≡ t → (t || leb (128 ^ (k - 1)) n) ≡ false → (1 < k) × (n < 128 ^ (k - 1))
+    there true e h = absurd (false≢true (sym h))
+    there false e h = (leb-false k 1 e, leb-false (128 ^ (k - 1)) n h)
 
 abbrev Some : Option ℕ → List ℕ → ℕ → List ℕ → ℕ → Type 0
 Some limit s k vs t = (r : Framing) × (rowNumber r ≡ k) × FramingGiven limit r s vs t
@@ -36,8 +44,9 @@ module _ (limit : Option ℕ) where
   lacks-bytes s n i = (insufficient, refl, (n, i, refl, refl))
 
   num-row : (x : ℕ) (s : List ℕ) (k : Refusal) → NumFault (nr 1 (1 ∷ [])) 4 s k → Shown limit (x ∷ s) k 0
-  num-row x s _ (endless t h) = lacks-bytes (x ∷ s) 1 (noEnd t h)
-  num-row x _ _ (long r t h) = (malformed, refl, (overlong r t h, refl, refl))
+  num-row x s _ (underBy (endless t h)) = lacks-bytes (x ∷ s) 1 (noEnd t h)
+  num-row x _ _ (underBy (long r t h)) = (malformed, refl, (overlong r t h, refl, refl))
+  num-row x _ _ (failsBy {a = l} {b = b} r g h) = let (i, j) = needless l (length b) .0 h in (malformed, refl, (winded r g i j, refl, refl))
 
 over-row : (limit : Option ℕ) (x l : ℕ) (b r : List ℕ) → Spells l b → passes limit l (length b) ≡ false → Shown limit (x ∷ (b ++ r)) (exceeds limit l (length b)) 0
 unfolding within over
@@ -105,18 +114,19 @@ module _ (limit : Option ℕ) where
 
   short-verdict : (s : List ℕ) → length s < 2 → Verdict limit s (refused 1 ((2 - length s) ∷ []) 0)
   short-verdict [] h = noFrame (first noByte)
-  short-verdict (x ∷ []) h = noFrame (second byte (sizes (underBy (endless noTops (omega arith)))))
+  short-verdict (x ∷ []) h = noFrame (second byte (sizes (underBy (underBy (endless noTops (omega arith))))))
   short-verdict (x ∷ y ∷ s) h = absurd (omega arith)
 
   incomplete-verdict : (s : List ℕ) (n : ℕ) → Incomplete limit s n → Verdict limit s (refused 1 (n ∷ []) 0)
   incomplete-verdict s _ (underTwo h) = short-verdict s h
-  incomplete-verdict _ _ (noEnd t h) = noFrame (second byte (sizes (underBy (endless t h))))
+  incomplete-verdict _ _ (noEnd t h) = noFrame (second byte (sizes (underBy (underBy (endless t h)))))
   incomplete-verdict _ _ (partly {x = x} {R = l} {b = b} r g w h) =
       let n : l - length r ≡ 1 + length b + l - length (x ∷ (b ++ r)) = omega (arith, length-append b r) in
       subst (λ (i : ℕ). Verdict limit (x ∷ (b ++ r)) (refused 1 (i ∷ []) 0)) n (noFrame (second byte (crosses r (onlyBy w g) h)))
 
   overlong-verdict : (s : List ℕ) → Overlong s → Verdict limit s (refused 2 [] 0)
-  overlong-verdict _ (overlong r t h) = noFrame (second byte (sizes (underBy (long r t h))))
+  overlong-verdict _ (overlong r t h) = noFrame (second byte (sizes (underBy (underBy (long r t h)))))
+  overlong-verdict _ (winded {R = l} {b = b} r g i j) = noFrame (second byte (sizes (underBy (failsBy r g (needless l (length b) .1 (i, j))))))
 
   above-verdict : (s : List ℕ) (n m : ℕ) → limit ≡ some m → Above s n m → Verdict limit s (refused 3 (n ∷ m ∷ []) 0)
   above-verdict _ _ m e (above {x = x} {R = l} {b = b} r g h) =
@@ -191,7 +201,7 @@ module _ (limit : Option ℕ) (s vs : List ℕ) where
   pub row-1 : (t : ℕ) → (readOf limit s ≡ refused 1 vs t) ↔ FramingGiven limit insufficient s vs t
   row-1 t = framing-row insufficient t (not-field 1 t refl)
 
-  -- 01, row 2, with nothing taken: given exactly when the fourth byte of the frame's own length has its top bit set
+  -- 01, row 2, with nothing taken: given exactly when the fourth byte of the frame's own length has its top bit set, or it uses more bytes than it needs
   pub row-2 : (readOf limit s ≡ refused 2 vs 0) ↔ FramingGiven limit malformed s vs 0
   row-2 = framing-row malformed 0 (λ (x, l, b, f, e, h, g). holds-some limit s x b 0 f refl)
 

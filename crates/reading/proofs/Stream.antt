@@ -10,7 +10,7 @@ use lib.Dec.{leb, leb→le}
 use lib.ListN.{length, length-append}
 use borrow.Author.Tests.{le-leb, lt-leb, leb-false, le-ltb}
 use Rattle.grammar.specs.Gram.{OnlyBy, onlyBy, both, sized, is}
-use Rattle.grammar.specs.Number.{byte, Groups, last, next, Spells}
+use Rattle.grammar.specs.Number.{byte, Groups, last, next, shortest, Spells}
 use Rattle.grammar.specs.Sentence.{Packet, Frame, frameLength, framed, Sentence}
 use Rattle.reading.specs.Refusal.{Refusal, nr, refused, refusedAs, within, over, passes, exceeds}
 use Rattle.reading.specs.Fault.{failsBy, second, sizes, Tops, noTops, aTop, FrameFault, Passing}
@@ -138,7 +138,7 @@ module _ (limit : Option ℕ) where
   answer-of : (s : List ℕ) (n : ℕ) → Incomplete limit s n → readOf limit s ≡ refused 1 (n ∷ []) 0
   answer-of s n w = row-1 limit s (n ∷ []) 0 .1 (n, w, refl, refl)
 
-  module _ (x : ℕ) (c b w : List ℕ) (y : ℕ) (i : passes limit (length b) (length c) ≡ true) (g : Spells (length b) c) where
+  module _ (x : ℕ) (c b w : List ℕ) (y : ℕ) (i : passes limit (length b) (length c) ≡ true) (g : Groups 4 (length b) c) (o : shortest (length b) (length c) ≡ true) where
     frame-front : (u : List ℕ) → c ++ b ≡ u ++ (y ∷ w) → readOf limit (x ∷ u) ≡ refused 1 (lacks (x ∷ u) (length (x ∷ (c ++ b))) ∷ []) 0
     unfolding lacks
     frame-front [] e = answer-of (x ∷ []) 1 (underTwo {s = x ∷ []} (omega arith))
@@ -153,16 +153,16 @@ module _ (limit : Option ℕ) where
             let l : length v < length b = omega (arith, ap length e₂, length-append v (y ∷ w)) in
             let n : allTops (z ∷ u) ≡ false = ap allTops e₁ ∙ no-top 4 (length b) c v g in
             let a : 1 + length c + length b - length (x ∷ (c ++ v)) ≡ length (x ∷ (c ++ b)) - length (x ∷ z ∷ u) = omega (arith, length-append c b, length-append c v, ap length e₁) in
-            let q : readOf limit (x ∷ (c ++ v)) ≡ refused 1 ((1 + length c + length b - length (x ∷ (c ++ v))) ∷ []) 0 = answer-of (x ∷ (c ++ v)) _ (partly v g i l) in
+            let q : readOf limit (x ∷ (c ++ v)) ≡ refused 1 ((1 + length c + length b - length (x ∷ (c ++ v))) ∷ []) 0 = answer-of (x ∷ (c ++ v)) _ (partly v (onlyBy o g) i l) in
             rw (le-ltb (length (x ∷ z ∷ u)) 2 (omega arith), n, ← a, e₁) q
 
   first-byte : (x y : ℕ) (c b u w : List ℕ) → OnlyBy (passes limit) Spells (length b) c → x ∷ (c ++ b) ≡ u ++ (y ∷ w) → readOf limit u ≡ refused 1 (lacks u (length (x ∷ (c ++ b))) ∷ []) 0
   unfolding lacks
   first-byte x y c b [] w g e = answer-of [] 2 (underTwo {s = []} (omega arith))
-  first-byte x y c b (z ∷ u) w (onlyBy i g) e =
+  first-byte x y c b (z ∷ u) w (onlyBy i (onlyBy o g)) e =
       let j : x ≡ z = cc in
       let q : c ++ b ≡ u ++ (y ∷ w) = cc in
-      rw (← j) (frame-front x c b w y i g u q)
+      rw (← j) (frame-front x c b w y i g o u q)
 
   -- 01: "n is 2 less the bytes held if under two; 1 while the length number lacks its end; else F less the bytes held", of each strict
   -- front of a frame that the limit lets pass

@@ -8,7 +8,7 @@ use Prim.Native.Nat.{ℕ, zero, suc, _≤_, _<_}
 use lib.ListN.{length}
 use Rattle.grammar.specs.Choice.{isIn, lookup, isEmpty}
 use Rattle.grammar.specs.Gram.{Gram, Only, OnlyBy}
-use Rattle.grammar.specs.Number.{Byte, Big, Spells}
+use Rattle.grammar.specs.Number.{Byte, Big, Groups, shortest, Spells}
 use Rattle.grammar.specs.Text.{Utf8}
 use Rattle.grammar.specs.Tables.{Form, u8, u16, u32, number, text, bytes, pair, Place, publishPlace, subscribePlace, ackPlace, unsubscribePlace, Layout, aPublish, anAck, aSubscribe, aReply, anUnsubscribe, aPing, kinds, reserved, isPing}
 use Rattle.grammar.specs.Record.{kindOf, flagQos}
@@ -75,9 +75,13 @@ pub data Tops : List ℕ → Type 0 where
   aTop : {x : ℕ} {b : List ℕ} → 128 ≤ x → Tops b → Tops (x ∷ b)
 
 -- 01, row 2: "fourth byte of a variable length number has its top bit set"
-pub data NumFault (c : Refusal) (n : ℕ) : List ℕ → Refusal → Type 0 where
-  endless : {s : List ℕ} → Tops s → length s < n → NumFault c n s c
-  long : {b : List ℕ} (r : List ℕ) → Tops b → length b ≡ n → NumFault c n (b ++ r) (nr 2 [])
+pub data GroupsFault (c : Refusal) (n : ℕ) : List ℕ → Refusal → Type 0 where
+  endless : {s : List ℕ} → Tops s → length s < n → GroupsFault c n s c
+  long : {b : List ℕ} (r : List ℕ) → Tops b → length b ≡ n → GroupsFault c n (b ++ r) (nr 2 [])
+
+-- 02, P8: "A variable length number that uses more bytes than it needs now gets refusal 2"
+abbrev pub NumFault : Refusal → ℕ → Fault
+NumFault c n = OnlyByFault shortest (λ _ _. nr 2 []) (Groups n) (GroupsFault c n)
 
 -- ---- strings and properties
 

@@ -7,7 +7,7 @@ use Prim.Native.Nat.{ℕ, zero, suc, _+_, _-_, _*_}
 use lib.Dec.{leb, ltb}
 use lib.ListN.{length, take, drop}
 use Rattle.grammar.specs.Choice.{isIn, lookup, isEmpty}
-use Rattle.grammar.specs.Number.{bigFrom}
+use Rattle.grammar.specs.Number.{bigFrom, shortest}
 use Rattle.grammar.specs.Text.{Range, inRange, rows, rowAt, cons}
 use Rattle.grammar.specs.Tables.{Form, u8, u16, u32, number, text, bytes, pair, Place, publishPlace, subscribePlace, ackPlace, unsubscribePlace, Layout, aPublish, anAck, aSubscribe, aReply, anUnsubscribe, aPing, kinds, reserved, isPing}
 use Rattle.grammar.specs.Record.{Val, num, str, PropOf, unlessEmpty, PublishProps, publishProps, Props, propsOf, Filter, PacketOf, kindOf, flagQos, mkPublish, mkAck, mkFilter, mkSubscribe, mkReply, mkUnsubscribe, mkPing}
@@ -36,10 +36,14 @@ groupOf false x s m = do
   got (x - 128 + 128 * n, r)
 
 -- 01, row 2: "fourth byte of a variable length number has its top bit set"
+unfoldable pub groupsOf : Refusal → ℕ → Reader ℕ
+groupsOf c zero s = bad (nr 2 [])
+groupsOf c (suc k) [] = bad c
+groupsOf c (suc k) (x ∷ s) = groupOf (ltb x 128) x s (groupsOf c k s)
+
+-- 02, P8: "A variable length number that uses more bytes than it needs now gets refusal 2"
 unfoldable pub numOf : Refusal → ℕ → Reader ℕ
-numOf c zero s = bad (nr 2 [])
-numOf c (suc k) [] = bad c
-numOf c (suc k) (x ∷ s) = groupOf (ltb x 128) x s (numOf c k s)
+numOf c k = onlyByOf shortest (λ _ _. nr 2 []) (groupsOf c k)
 
 -- 01, row 12: "Publish, QoS 1 or 2, identifier 0"
 unfoldable pub identOf : ℕ → Reader ℕ

@@ -4,11 +4,11 @@ use mathlib.Core.Path.{_≡_}
 use mathlib.Core.Bool.{Bool, true, false, not, _||_, cond}
 use mathlib.Core.Option.{Option, none, some}
 use mathlib.Core.List.{List, [], _∷_, _++_}
-use Prim.Native.Nat.{ℕ, _+_, _-_, _<_}
+use Prim.Native.Nat.{ℕ, _+_, _-_, _^_, _<_}
 use lib.Dec.{leb, ltb}
 use lib.ListN.{length, drop}
 use Rattle.grammar.specs.Choice.{isIn, lookup, isEmpty, all}
-use Rattle.grammar.specs.Number.{Spells}
+use Rattle.grammar.specs.Number.{Groups, Spells}
 use Rattle.grammar.specs.Tables.{Layout, kinds, reserved, isPing}
 use Rattle.grammar.specs.Record.{kindOf}
 use Rattle.reading.specs.Refusal.{Refusal, passes}
@@ -28,6 +28,8 @@ pub data Incomplete (limit : Option ℕ) : List ℕ → ℕ → Type 0 where
 -- 01, row 2: "fourth byte of a variable length number has its top bit set", of the frame's own
 pub data Overlong : List ℕ → Type 0 where
   overlong : {x : ℕ} {b : List ℕ} (r : List ℕ) → Tops b → length b ≡ 4 → Overlong (x ∷ (b ++ r))
+  -- 02, P8: "uses more bytes than it needs": more than one, and one fewer could hold R
+  winded : {x R : ℕ} {b : List ℕ} (r : List ℕ) → Groups 4 R b → 1 < length b → R < 128 ^ (length b - 1) → Overlong (x ∷ (b ++ r))
 
 -- 02, P2: "Test F": F, which is the first byte, the bytes of the length number, and the R that it counts, is above the limit m
 pub data Above : List ℕ → ℕ → ℕ → Type 0 where

@@ -1,4 +1,4 @@
--- Tidy forms by computation: lengths spelled long, a property given twice and out of order; PubAcks of five bytes, of which a success becomes
+-- Tidy forms by computation: a property given twice and out of order; PubAcks of five bytes, of which a success becomes
 -- four and another six; options and flags. Assumes nothing.
 use mathlib.Core.Path.{_≡_, refl}
 use mathlib.Core.List.{List, [], _∷_, map}
@@ -8,7 +8,7 @@ use Rattle.grammar.specs.Tables.{publishPlace, subscribePlace, ackPlace, unsubs
 use Rattle.grammar.specs.Record.{lastOf, allOf, publishProps, propsOf}
 use Rattle.reading.specs.Refusal.{within, over}
 use Rattle.reading.specs.Reader.{got, noneOf, neverOf, mapOf, onlyOf, onlyByOf, thenOf, sizedOf, isFit, mapFit, handFit, onlyFit, thenFit, exactFit, runFit, chainFit}
-use Rattle.reading.specs.Read.{bigOf, byteOf, groupOf, numOf, identOf, followOf, restOf, charOf, isText, frameOf, bodyAnswer, stringFit, bytesOf, textOf, valueOf, valueAt, propertyOf, propertiesFit, blockOf, ackBlockFit, ackRestFit, reasonsFit, filterOf, filtersFit, topicsFit, messageFit, fieldsFit, layoutFit, bodyFit, wholeAnswer, frameAnswer, readAs}
+use Rattle.reading.specs.Read.{bigOf, byteOf, groupOf, groupsOf, numOf, identOf, followOf, restOf, charOf, isText, frameOf, bodyAnswer, stringFit, bytesOf, textOf, valueOf, valueAt, propertyOf, propertiesFit, blockOf, ackBlockFit, ackRestFit, reasonsFit, filterOf, filtersFit, topicsFit, messageFit, fieldsFit, layoutFit, bodyFit, wholeAnswer, frameAnswer, readAs}
 use Rattle.writing.specs.Handed.{publishGiven, subscribeGiven, ackGiven, unsubscribeGiven, filters, blockBelongs, filtersBelong, belongs}
 use Rattle.writing.specs.Spell.{wide, spellStep, spell, short, string, numeral, value, propsBytes, counted, block}
 use Rattle.writing.specs.Size.{propsSize, restIs, sizeIs}
@@ -18,7 +18,7 @@ use Rattle.tidy.specs.Tidy.{handedOf, rewrite, tidyOf}
 
 abbrev pub tidied : List (List ℕ × List ℕ)
 tidied = (
-  0x30 ∷ 0x8B ∷ 0x00 ∷ 0x00 ∷ 0x01 ∷ 0x61 ∷ 0x86 ∷ 0x00 ∷ 0x0B ∷ 0x05 ∷ 0x01 ∷ 0x00 ∷ 0x01 ∷ 0x01 ∷ [],
+  0x30 ∷ 0x0A ∷ 0x00 ∷ 0x01 ∷ 0x61 ∷ 0x06 ∷ 0x0B ∷ 0x05 ∷ 0x01 ∷ 0x00 ∷ 0x01 ∷ 0x01 ∷ [],
   0x30 ∷ 0x08 ∷ 0x00 ∷ 0x01 ∷ 0x61 ∷ 0x04 ∷ 0x01 ∷ 0x01 ∷ 0x0B ∷ 0x05 ∷ [],
 )
     ∷ (0x40 ∷ 0x03 ∷ 0x00 ∷ 0x0A ∷ 0x10 ∷ [], 0x40 ∷ 0x04 ∷ 0x00 ∷ 0x0A ∷ 0x10 ∷ 0x00 ∷ [])
@@ -26,13 +26,13 @@ tidied = (
     ∷ (0x50 ∷ 0x03 ∷ 0x00 ∷ 0x0A ∷ 0x10 ∷ [], 0x50 ∷ 0x04 ∷ 0x00 ∷ 0x0A ∷ 0x10 ∷ 0x00 ∷ [])
     ∷ (0x60 ∷ 0x03 ∷ 0x00 ∷ 0x0A ∷ 0x92 ∷ [], 0x62 ∷ 0x04 ∷ 0x00 ∷ 0x0A ∷ 0x92 ∷ 0x00 ∷ [])
     ∷ (0x7F ∷ 0x04 ∷ 0x00 ∷ 0x0A ∷ 0x00 ∷ 0x00 ∷ [], 0x70 ∷ 0x02 ∷ 0x00 ∷ 0x0A ∷ [])
-    ∷ (0x9F ∷ 0x06 ∷ 0x00 ∷ 0x01 ∷ 0x80 ∷ 0x00 ∷ 0x00 ∷ 0xA2 ∷ [], 0x90 ∷ 0x05 ∷ 0x00 ∷ 0x01 ∷ 0x00 ∷ 0x00 ∷ 0xA2 ∷ [])
+    ∷ (0x9F ∷ 0x05 ∷ 0x00 ∷ 0x01 ∷ 0x00 ∷ 0x00 ∷ 0xA2 ∷ [], 0x90 ∷ 0x05 ∷ 0x00 ∷ 0x01 ∷ 0x00 ∷ 0x00 ∷ 0xA2 ∷ [])
     ∷ (0xA0 ∷ 0x06 ∷ 0x00 ∷ 0x01 ∷ 0x00 ∷ 0x00 ∷ 0x01 ∷ 0x61 ∷ [], 0xA2 ∷ 0x06 ∷ 0x00 ∷ 0x01 ∷ 0x00 ∷ 0x00 ∷ 0x01 ∷ 0x61 ∷ [])
-    ∷ (0xB0 ∷ 0x84 ∷ 0x00 ∷ 0x00 ∷ 0x01 ∷ 0x00 ∷ 0x11 ∷ [], 0xB0 ∷ 0x04 ∷ 0x00 ∷ 0x01 ∷ 0x00 ∷ 0x11 ∷ [])
+    ∷ (0xBF ∷ 0x04 ∷ 0x00 ∷ 0x01 ∷ 0x00 ∷ 0x11 ∷ [], 0xB0 ∷ 0x04 ∷ 0x00 ∷ 0x01 ∷ 0x00 ∷ 0x11 ∷ [])
     ∷ (0x8F ∷ 0x07 ∷ 0x00 ∷ 0x01 ∷ 0x00 ∷ 0x00 ∷ 0x01 ∷ 0x61 ∷ 0xC1 ∷ [], 0x82 ∷ 0x07 ∷ 0x00 ∷ 0x01 ∷ 0x00 ∷ 0x00 ∷ 0x01 ∷ 0x61 ∷ 0x01 ∷ [])
     ∷ (0xC3 ∷ 0x01 ∷ 0x07 ∷ [], 0xC0 ∷ 0x00 ∷ [])
     ∷ []
 
 pub tidied-right : map (λ (t : List ℕ × List ℕ). tidyOf (t .0)) tidied ≡ map (λ (t : List ℕ × List ℕ). got (t .1)) tidied
-unfolding rows publishPlace subscribePlace ackPlace unsubscribePlace kinds reasons releaseReasons subAckReasons unsubAckReasons reasonsOf lastOf allOf publishProps propsOf noneOf neverOf mapOf onlyOf onlyByOf thenOf sizedOf isFit mapFit handFit onlyFit thenFit exactFit runFit chainFit byteOf followOf restOf charOf isText bigOf groupOf numOf identOf stringFit bytesOf textOf valueOf valueAt propertyOf propertiesFit blockOf ackBlockFit ackRestFit reasonsFit filterOf filtersFit topicsFit messageFit fieldsFit layoutFit bodyFit within over frameOf bodyAnswer wholeAnswer frameAnswer readAs spell spellStep publishGiven subscribeGiven ackGiven unsubscribeGiven filters blockBelongs filtersBelong belongs wide short string numeral value propsBytes counted block propsSize restIs sizeIs judge propsFields fieldsOf permit firsts firstOf firstByte bodyBytes frameBytes writeOf handedOf rewrite tidyOf
+unfolding rows publishPlace subscribePlace ackPlace unsubscribePlace kinds reasons releaseReasons subAckReasons unsubAckReasons reasonsOf lastOf allOf publishProps propsOf noneOf neverOf mapOf onlyOf onlyByOf thenOf sizedOf isFit mapFit handFit onlyFit thenFit exactFit runFit chainFit byteOf followOf restOf charOf isText bigOf groupOf groupsOf numOf identOf stringFit bytesOf textOf valueOf valueAt propertyOf propertiesFit blockOf ackBlockFit ackRestFit reasonsFit filterOf filtersFit topicsFit messageFit fieldsFit layoutFit bodyFit within over frameOf bodyAnswer wholeAnswer frameAnswer readAs spell spellStep publishGiven subscribeGiven ackGiven unsubscribeGiven filters blockBelongs filtersBelong belongs wide short string numeral value propsBytes counted block propsSize restIs sizeIs judge propsFields fieldsOf permit firsts firstOf firstByte bodyBytes frameBytes writeOf handedOf rewrite tidyOf
 tidied-right = refl

@@ -2,7 +2,9 @@
 use numbers::got::GotU32;
 use records::error::Error;
 ghost use mathlib.Core.Path.{_≡_};
+ghost use mathlib.Core.Bool.{_||_};
 ghost use Prim.Native.Nat.{_<_};
+ghost use lib.Dec.{leb};
 ghost use Rattle.reading.specs.Refusal.{Refusal, cut};
 ghost use Rattle.reading.specs.Read.{numOf};
 ghost use Rattle.positions.specs.Position.{fromAt};
@@ -15,7 +17,7 @@ pub enum GotLength {
     Number(u32, usize),
     // the bytes end before the number does
     Cut,
-    // the fourth byte has its top bit set
+    // the fourth byte has its top bit set, or fewer bytes could spell the number
     Long,
 }
 
@@ -23,6 +25,16 @@ fn widen(b: u8) -> u32
     ensures { λ r. ⌜ (r ≡ b) × (r < 256) ⌝ }
 {
     b as u32
+}
+
+// Whether a number needs its bytes: it has one, or it is not below the unit that its last byte counts.
+fn is_shortest(n: u32, unit: u32, count: usize) -> bool
+    ensures { λ r. ⌜ r ≡ (leb count 1 || leb unit n) ⌝ }
+{
+    if count <= 1 {
+        return true;
+    }
+    unit <= n
 }
 
 // The variable length number at index `at`, and how many bytes spell it.
@@ -40,7 +52,11 @@ pub fn length(s: &[u8], at: usize) -> GotLength
         next = next + 1;
         let count = next - at;
         if b < 128 {
-            break GotLength::Number(value + b * unit, count);
+            let n = value + b * unit;
+            if is_shortest(n, unit, count) {
+                break GotLength::Number(n, count);
+            }
+            break GotLength::Long;
         }
         if 4 <= count {
             break GotLength::Long;

@@ -1,15 +1,15 @@
 -- What is written is in the grammar, and is bytes: one law for each way to build a grammar. Assumes nothing.
 use mathlib.Core.Path.{_≡_, refl, _∙_, subst}
-use mathlib.Core.Bool.{Bool, true, false}
+use mathlib.Core.Bool.{Bool, true, false, _||_}
 use mathlib.Core.List.{List, [], _∷_, _++_, map}
 use Prim.Native.Nat.{ℕ, zero, suc, _+_, _-_, _*_, _/_, _%_, _^_, _≤_, _<_}
 use native.Mathlib.Omega.{arith}
 use native.Mathlib.Nat.{pow-suc}
-use lib.Dec.{ltb, ltb→lt}
+use lib.Dec.{leb, leb→le, ltb, ltb→lt}
 use lib.ListN.{length, length-append}
-use borrow.Author.Tests.{ltb-false}
-use Rattle.grammar.specs.Gram.{Gram, Nothing, nothing, Map, mapped, Only, only, Then, both, Sized, sized, done, more, Many, Is, is}
-use Rattle.grammar.specs.Number.{Byte, byte, bigFrom, Big, big, Groups, last, next, Spells}
+use borrow.Author.Tests.{ltb-false, le-leb, lt-leb, leb-false}
+use Rattle.grammar.specs.Gram.{Gram, Nothing, nothing, Map, mapped, Only, only, onlyBy, Then, both, Sized, sized, done, more, Many, Is, is}
+use Rattle.grammar.specs.Number.{Byte, byte, bigFrom, Big, big, Groups, last, next, shortest, Spells}
 use Rattle.grammar.specs.Octets.{Each, nil, _&_, Octets}
 use Rattle.reading.proofs.Lists.{T-of}
 use Rattle.writing.specs.Lists.{flat}
@@ -105,10 +105,46 @@ spell-spells (suc k) n h =
     let p : 128 ^ suc (suc k) ≡ 128 ^ suc k * 128 = pow-suc 128 (suc k) in
     step-spells (suc k) n (spell (suc k) (n / 128)) (λ l. spell-spells k (n / 128) (omega arith)) (ltb n 128) refl
 
+-- ---- 02, P8: no more bytes than it needs
+
+-- k bytes, of which k - 1 could not hold n
+abbrev pub Needs : ℕ → ℕ → Type 0
+Needs n k = 1 < k → 128 ^ (k - 1) ≤ n
+
+pub is-needed : (n k : ℕ) → Needs n k → shortest n k ≡ true
+is-needed n k h = go (leb k 1) refl
+  where
+    go : (t : Bool) → leb k 1 ≡ t → (t || leb (128 ^ (k - 1)) n) ≡ true
+    go true e = refl
+    go false e = le-leb (128 ^ (k - 1)) n (h (leb-false k 1 e))
+
+pub needed-is : (n k : ℕ) → shortest n k ≡ true → Needs n k
+needed-is n k h l = leb→le (128 ^ (k - 1)) n (T-of (leb (128 ^ (k - 1)) n) (rw (lt-leb k 1 l) at h))
+
+one-more : (k n : ℕ) → 128 ≤ n → Needs (n / 128) k → Needs n (suc k)
+one-more zero n h g l = absurd (omega arith)
+one-more (suc zero) n h g l = omega arith
+one-more (suc (suc k)) n h g l =
+    let p : 128 ^ suc (suc k) ≡ 128 ^ suc k * 128 = pow-suc 128 (suc k) in
+    let i : suc (suc k) - 1 ≡ suc k = omega arith in
+    let j : suc (suc (suc k)) - 1 ≡ suc (suc k) = omega arith in
+    let q : 128 ^ suc k ≤ n / 128 = rw i at (g (omega arith)) in
+    rw (j, p) (omega arith)
+
+step-needs : (n : ℕ) (b : List ℕ) → Needs (n / 128) (length b) → (t : Bool) → ltb n 128 ≡ t → Needs n (length (spellStep t n b))
+unfolding spellStep
+step-needs n b g true e l = absurd (omega arith)
+step-needs n b g false e l = one-more (length b) n (ltb-false n 128 e) g l
+
+spell-needs : (k n : ℕ) → Needs n (length (spell k n))
+unfolding spell
+spell-needs zero n l = absurd (omega arith)
+spell-needs (suc k) n l = step-needs n (spell k (n / 128)) (spell-needs k (n / 128)) (ltb n 128) refl l
+
 -- a number of at most four bytes
 pub says-short : (n : ℕ) → n ≤ most → Says Spells n (short n)
 unfolding short
-says-short n h = record { spelled = spell-spells 3 n (omega arith); octets = spell-octets 4 n }
+says-short n h = record { spelled = onlyBy (is-needed n (length (spell 4 n)) (spell-needs 4 n)) (spell-spells 3 n (omega arith)); octets = spell-octets 4 n }
 
 pub says-counted : {A : Type 0} {H : Gram A} {a : A} {b : List ℕ} → length b ≤ most → Says H a b → Says (Sized Spells H) a (counted b)
 unfolding counted

@@ -1,9 +1,10 @@
 -- `var_length::length` is right since after each turn the bytes passed are worth `value`, and what stands at `next` decides. Assumes nothing.
+use mathlib.Core.Path.{sym, _∙_}
 use Prim.Native.Nat.{_-_}
 use native.Mathlib.Omega.{arith}
 use borrow.Author.Needs.{needs}
 use lib.ListN as list
-use Rattle.var_length.proofs.Laws.{Passed, none-passed, group-fits, unit-le, number-cut, number-ends, number-long, one-passed}
+use Rattle.var_length.proofs.Laws.{Passed, none-passed, group-fits, unit-le, number-cut, number-ends, number-winded, number-long, one-passed}
 use Rattle.var_length.proofs.length.Statement.{statement}
 use Rattle.var_length.proofs.length.Tie as tie
 
@@ -28,11 +29,14 @@ add-next c = omega arith
 sub-count : tie.Need-sub-count Inv-loop μ-loop
 sub-count c = omega arith
 
-mul-t13 : tie.Need-mul-t13 Inv-loop μ-loop
-mul-t13 c = omega (arith, group-fits (c .before .before .before .before .loop .inv) (c .before .widen .result) (c .if2 .taken))
+mul-n : tie.Need-mul-n Inv-loop μ-loop
+mul-n c = omega (arith, group-fits (c .before .before .before .before .loop .inv) (c .before .widen .result) (c .if2 .taken))
 
-add-t14 : tie.Need-add-t14 Inv-loop μ-loop
-add-t14 c = omega (arith, group-fits (c .before .before .before .before .loop .inv) (c .before .widen .result) (c .if2 .taken))
+add-n : tie.Need-add-n Inv-loop μ-loop
+add-n c = omega (arith, group-fits (c .before .before .before .before .loop .inv) (c .before .widen .result) (c .if2 .taken))
+
+is-shortest-requires : tie.Need-is-shortest-requires Inv-loop μ-loop
+is-shortest-requires c κs = search needs
 
 mul-value : tie.Need-mul-value Inv-loop μ-loop
 mul-value c = omega (arith, group-fits (c .before .before .before .before .before .loop .inv) (c .before .before .widen .result - 128) (omega arith))
@@ -47,16 +51,19 @@ loop-less : tie.Need-loop-less Inv-loop μ-loop
 loop-less c = omega arith
 
 loop-again : tie.Need-loop-again Inv-loop μ-loop
-loop-again c = one-passed (c .before .before .before .before .before .loop .inv) (omega arith) (c .before .before .widen .result) (c .before .before .widen .ensures) (c .before .if2 .left) (c .if3 .left)
+loop-again c = one-passed (c .before .before .before .before .before .loop .inv) (omega arith) (c .before .before .widen .result) (c .before .before .widen .ensures) (c .before .if2 .left) (c .if4 .left)
 
 returns : tie.Need-returns Inv-loop μ-loop
 returns c = number-cut (c .before .loop .inv) (c .if1 .taken)
 
 returns-2 : tie.Need-returns-2 Inv-loop μ-loop
-returns-2 c = number-ends (c .before .before .before .before .loop .inv) (omega arith) (c .before .widen .result) (c .before .widen .ensures) (c .if2 .taken)
+returns-2 c = number-ends (c .before .before .before .before .before .before .loop .inv) (omega arith) (c .before .before .before .widen .result) (c .before .before .before .widen .ensures) (c .before .before .if2 .taken) (sym (c .before .is-shortest .ensures) ∙ c .if3 .taken)
 
 returns-3 : tie.Need-returns-3 Inv-loop μ-loop
-returns-3 c = number-long (c .before .before .before .before .before .loop .inv) (omega arith) (c .before .before .widen .result) (c .before .before .widen .ensures) (c .before .if2 .left) (c .if3 .taken)
+returns-3 c = number-winded (c .before .before .before .before .before .before .loop .inv) (omega arith) (c .before .before .before .widen .result) (c .before .before .before .widen .ensures) (c .before .before .if2 .taken) (sym (c .before .is-shortest .ensures) ∙ c .if3 .left)
+
+returns-4 : tie.Need-returns-4 Inv-loop μ-loop
+returns-4 c = number-long (c .before .before .before .before .before .loop .inv) (omega arith) (c .before .before .widen .result) (c .before .before .widen .ensures) (c .before .if2 .left) (c .if4 .taken)
 
 pub length-spec : {M : Type 1} → statement M
 length-spec =
@@ -69,8 +76,9 @@ length-spec =
     widen-requires
     add-next
     sub-count
-    mul-t13
-    add-t14
+    mul-n
+    add-n
+    is-shortest-requires
     mul-value
     add-value
     mul-unit
@@ -78,4 +86,5 @@ length-spec =
     loop-again
     returns
     returns-2
-    returns-3)
+    returns-3
+    returns-4)
