@@ -9,7 +9,7 @@ use records::ack_record::AckKind;
 use records::error::Error;
 use records::properties_record::MaybeProperties;
 use records::span::MaybeSpan;
-use tables::property::PropertyPlace;
+use tables::property::OtherPlace;
 use tables::reason::is_ack_reason;
 use wire::string;
 ghost use mathlib.Core.Path.{_≡_};
@@ -41,7 +41,7 @@ fn read_last_block(s: &[u8], at: usize) -> GotLastBlock
     if s.len() <= at {
         return GotLastBlock::Value(MaybeProperties::Absent);
     }
-    match place_block::read_block(PropertyPlace::Ack, s, at) {
+    match place_block::read_block(OtherPlace::Ack, s, at) {
         GotBlock::Refused(e) => GotLastBlock::Refused(e),
         GotBlock::Value(properties, next) => {
             if next < s.len() {

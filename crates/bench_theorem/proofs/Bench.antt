@@ -8,8 +8,8 @@ use Rattle.grammar.specs.Tables.{publishPlace, subscribePlace, ackPlace, unsubs
 use Rattle.grammar.specs.Record.{Val, num, str, duo, lastOf, allOf, PublishProps, publishProps, propsOf, Props, publish, ack, subscribe, reply, unsubscribe, ping}
 use Rattle.grammar.specs.Sentence.{Packet}
 use Rattle.reading.specs.Refusal.{nr, Answer, accepted, refused, within, over}
-use Rattle.reading.specs.Reader.{Fit, got, bad, noneOf, neverOf, mapOf, onlyOf, onlyByOf, thenOf, sizedOf, isFit, mapFit, handFit, onlyFit, thenFit, exactFit, runFit, chainFit}
-use Rattle.reading.specs.Read.{bigOf, byteOf, groupOf, groupsOf, numOf, identOf, followOf, restOf, charOf, isText, frameOf, bodyAnswer, stringFit, bytesOf, textOf, valueOf, valueAt, propertyOf, propertiesFit, blockOf, ackBlockFit, ackRestFit, reasonsFit, filterOf, filtersFit, topicsFit, messageFit, fieldsFit, layoutFit, bodyFit, wholeAnswer, frameAnswer, readAs, readOf}
+use Rattle.reading.specs.Reader.{Fit, got, bad, noneOf, neverOf, mapOf, onlyOf, onlyByOf, headOf, thenOf, sizedOf, isFit, mapFit, handFit, onlyFit, thenFit, exactFit, runFit, chainFit}
+use Rattle.reading.specs.Read.{bigOf, byteOf, groupOf, groupsOf, numOf, identOf, followOf, restOf, charOf, isText, frameOf, bodyAnswer, stringFit, bytesOf, textOf, valueOf, valueAt, propertyOf, onceOf, propertiesFit, blockOf, ackBlockFit, ackRestFit, reasonsFit, filterOf, filtersFit, topicsFit, messageFit, fieldsFit, layoutFit, bodyFit, wholeAnswer, frameAnswer, readAs, readOf}
 use Rattle.reading.specs.Place.{Span, asPlaces, Placed, readPlacedOf, again, valuesAt, userAt, subscriptionAt, filterAt, reasonAt, topicAt}
 
 -- a limit, a stream, and the answer
@@ -91,10 +91,18 @@ more =
     ∷ case none (0x30 ∷ 0x0A ∷ 0x00 ∷ 0x01 ∷ 0x61 ∷ 0x04 ∷ 0x0B ∷ 0x80 ∷ 0x80 ∷ 0x80 ∷ 0x01 ∷ 0x07 ∷ []) (refused 7 [] 12)
     ∷ case none (0x30 ∷ 0x0A ∷ 0x00 ∷ 0x01 ∷ 0x61 ∷ 0x05 ∷ 0x0B ∷ 0x80 ∷ 0x80 ∷ 0x80 ∷ 0x80 ∷ 0x07 ∷ []) (refused 2 [] 12)
     ∷ case none (0x30 ∷ 0x07 ∷ 0x00 ∷ 0x01 ∷ 0x61 ∷ 0x03 ∷ 0x1F ∷ 0x00 ∷ 0x00 ∷ []) (refused 10 (31 ∷ []) 9)
-    -- all eight properties; one given twice, the last counts; lists in order
+    -- all eight properties; one given twice; lists in order
     ∷ case none (0x3B ∷ 0x28 ∷ 0x00 ∷ 0x01 ∷ 0x61 ∷ 0x00 ∷ 0x07 ∷ 0x21 ∷ 0x01 ∷ 0x01 ∷ 0x02 ∷ 0x00 ∷ 0x00 ∷ 0x00 ∷ 0x05 ∷ 0x23 ∷ 0x00 ∷ 0x09 ∷ 0x08 ∷ 0x00 ∷ 0x01 ∷ 0x62 ∷ 0x09 ∷ 0x00 ∷ 0x01 ∷ 0xFF ∷ 0x26 ∷ 0x00 ∷ 0x01 ∷ 0x6B ∷ 0x00 ∷ 0x01 ∷ 0x76 ∷ 0x0B ∷ 0x80 ∷ 0x01 ∷ 0x03 ∷ 0x00 ∷ 0x02 ∷ 0xC3 ∷ 0xA9 ∷ 0x07 ∷ []) (accepted (publish (record { dup = 1; qos = 1; retain = 1; topic = 0x61 ∷ []; ident = 7; props = some (record { format = some (num 1); expiry = some (num 5); alias = some (num 9); response = some (str (0x62 ∷ [])); correlation = some (str (0xFF ∷ [])); user = duo (0x6B ∷ []) (0x76 ∷ []) ∷ []; subscriptions = num 128 ∷ []; content = some (str (0xC3 ∷ 0xA9 ∷ [])) }); payload = 0x07 ∷ [] })) 42)
     ∷ case none (0x30 ∷ 0x0B ∷ 0x00 ∷ 0x00 ∷ 0x08 ∷ 0x02 ∷ 0x01 ∷ 0x02 ∷ 0x03 ∷ 0x04 ∷ 0x23 ∷ 0x01 ∷ 0x02 ∷ []) (accepted (message [] (some (record { format = none; expiry = some (num 16909060); alias = some (num 258); response = none; correlation = none; user = []; subscriptions = []; content = none })) []) 13)
-    ∷ case none (0x30 ∷ 0x18 ∷ 0x00 ∷ 0x01 ∷ 0x61 ∷ 0x14 ∷ 0x03 ∷ 0x00 ∷ 0x01 ∷ 0x61 ∷ 0x26 ∷ 0x00 ∷ 0x01 ∷ 0x61 ∷ 0x00 ∷ 0x01 ∷ 0x62 ∷ 0x03 ∷ 0x00 ∷ 0x01 ∷ 0x62 ∷ 0x26 ∷ 0x00 ∷ 0x00 ∷ 0x00 ∷ 0x00 ∷ []) (accepted (message (0x61 ∷ []) (some (record { format = none; expiry = none; alias = none; response = none; correlation = none; user = duo (0x61 ∷ []) (0x62 ∷ []) ∷ duo [] [] ∷ []; subscriptions = []; content = some (str (0x62 ∷ [])) })) []) 26)
+    ∷ case none (0x30 ∷ 0x18 ∷ 0x00 ∷ 0x01 ∷ 0x61 ∷ 0x14 ∷ 0x03 ∷ 0x00 ∷ 0x01 ∷ 0x61 ∷ 0x26 ∷ 0x00 ∷ 0x01 ∷ 0x61 ∷ 0x00 ∷ 0x01 ∷ 0x62 ∷ 0x03 ∷ 0x00 ∷ 0x01 ∷ 0x62 ∷ 0x26 ∷ 0x00 ∷ 0x00 ∷ 0x00 ∷ 0x00 ∷ []) (refused 22 (3 ∷ []) 26)
+    -- 02, P9: a doubled property before its value is looked at, and behind an earlier fault; lists may repeat; 11 twice in a Subscribe; zero; U+0000
+    ∷ case none (0x30 ∷ 0x08 ∷ 0x00 ∷ 0x00 ∷ 0x05 ∷ 0x01 ∷ 0x00 ∷ 0x01 ∷ 0x00 ∷ 0xFF ∷ []) (refused 22 (1 ∷ []) 10)
+    ∷ case none (0x30 ∷ 0x06 ∷ 0x00 ∷ 0x00 ∷ 0x03 ∷ 0x01 ∷ 0x00 ∷ 0x01 ∷ []) (refused 22 (1 ∷ []) 8)
+    ∷ case none (0x30 ∷ 0x07 ∷ 0x00 ∷ 0x00 ∷ 0x04 ∷ 0x01 ∷ 0x00 ∷ 0x00 ∷ 0x01 ∷ []) (refused 10 (0 ∷ []) 9)
+    ∷ case none (0x30 ∷ 0x05 ∷ 0x00 ∷ 0x00 ∷ 0x02 ∷ 0x0B ∷ 0x00 ∷ []) (refused 23 [] 7)
+    ∷ case none (0x82 ∷ 0x0B ∷ 0x00 ∷ 0x01 ∷ 0x04 ∷ 0x0B ∷ 0x01 ∷ 0x0B ∷ 0x00 ∷ 0x00 ∷ 0x01 ∷ 0x61 ∷ 0x00 ∷ []) (refused 22 (11 ∷ []) 13)
+    ∷ case none (0x82 ∷ 0x07 ∷ 0x00 ∷ 0x01 ∷ 0x00 ∷ 0x00 ∷ 0x01 ∷ 0x00 ∷ 0x00 ∷ []) (refused 9 [] 9)
+    ∷ case none (0x30 ∷ 0x04 ∷ 0x00 ∷ 0x01 ∷ 0x00 ∷ 0x00 ∷ []) (accepted (message (0x00 ∷ []) none []) 6)
     -- Subscribe: identifier 0, both properties, every option; 9, 7, 11
     ∷ case none (0x82 ∷ 0x10 ∷ 0x00 ∷ 0x00 ∷ 0x09 ∷ 0x0B ∷ 0x05 ∷ 0x26 ∷ 0x00 ∷ 0x01 ∷ 0x6B ∷ 0x00 ∷ 0x01 ∷ 0x76 ∷ 0x00 ∷ 0x01 ∷ 0x61 ∷ 0xEE ∷ []) (accepted (subscribe (record { ident = 0; props = some (record { reason = none; ident = some (num 5); user = duo (0x6B ∷ []) (0x76 ∷ []) ∷ [] }); filters = record { path = 0x61 ∷ []; qos = 2; noLocal = 1; preserve = 1; rule = 2 } ∷ [] })) 18)
     ∷ case none (0x82 ∷ 0x07 ∷ 0x00 ∷ 0x01 ∷ 0x00 ∷ 0x00 ∷ 0x01 ∷ 0x61 ∷ 0x03 ∷ []) (refused 11 (3 ∷ []) 9)
@@ -127,6 +135,7 @@ six =
     case none (0x5F ∷ 0x02 ∷ 0x00 ∷ 0x00 ∷ []) (accepted (ack 5 (record { ident = 0; reason = 0; props = none })) 4)
     ∷ case none (0x50 ∷ 0x03 ∷ 0x00 ∷ 0x0A ∷ 0x99 ∷ []) (accepted (ack 5 (record { ident = 10; reason = 0x99; props = none })) 5)
     ∷ case none (0x50 ∷ 0x03 ∷ 0x00 ∷ 0x0A ∷ 0x92 ∷ []) (refused 15 (0x92 ∷ []) 5)
+    ∷ case none (0x70 ∷ 0x0A ∷ 0x00 ∷ 0x01 ∷ 0x00 ∷ 0x06 ∷ 0x1F ∷ 0x00 ∷ 0x00 ∷ 0x1F ∷ 0x00 ∷ 0x00 ∷ []) (refused 22 (31 ∷ []) 12)
     ∷ case none (0x60 ∷ 0x08 ∷ 0x00 ∷ 0x0A ∷ 0x92 ∷ 0x04 ∷ 0x1F ∷ 0x00 ∷ 0x01 ∷ 0x61 ∷ []) (accepted (ack 6 (record { ident = 10; reason = 0x92; props = some (record { reason = some (str (0x61 ∷ [])); ident = none; user = [] }) })) 10)
     ∷ case none (0x62 ∷ 0x03 ∷ 0x00 ∷ 0x0A ∷ 0x10 ∷ []) (refused 15 (0x10 ∷ []) 5)
     ∷ case none (0x70 ∷ 0x03 ∷ 0x00 ∷ 0x0A ∷ 0x92 ∷ []) (accepted (ack 7 (record { ident = 10; reason = 0x92; props = none })) 5)
@@ -137,6 +146,7 @@ six =
     ∷ case none (0x90 ∷ 0x03 ∷ 0x00 ∷ 0x01 ∷ 0x00 ∷ []) (refused 13 [] 5)
     ∷ case none (0x90 ∷ 0x05 ∷ 0x00 ∷ 0x01 ∷ 0x00 ∷ 0x00 ∷ 0x11 ∷ []) (refused 15 (0x11 ∷ []) 7)
     ∷ case none (0x90 ∷ 0x06 ∷ 0x00 ∷ 0x01 ∷ 0x02 ∷ 0x0B ∷ 0x01 ∷ 0x03 ∷ []) (refused 10 (11 ∷ []) 8)
+    ∷ case none (0x90 ∷ 0x0A ∷ 0x00 ∷ 0x01 ∷ 0x06 ∷ 0x1F ∷ 0x00 ∷ 0x00 ∷ 0x1F ∷ 0x00 ∷ 0x00 ∷ 0x00 ∷ []) (refused 22 (31 ∷ []) 12)
     ∷ case none (0x90 ∷ 0x00 ∷ []) (refused 5 [] 2)
     ∷ case none (0xB0 ∷ 0x0A ∷ 0x00 ∷ 0x01 ∷ 0x05 ∷ 0x26 ∷ 0x00 ∷ 0x00 ∷ 0x00 ∷ 0x00 ∷ 0x11 ∷ 0x00 ∷ []) (accepted (reply 11 (record { ident = 1; props = some (record { reason = none; ident = none; user = duo [] [] ∷ [] }); reasons = 0x11 ∷ 0x00 ∷ [] })) 12)
     ∷ case none (0xB0 ∷ 0x04 ∷ 0x00 ∷ 0x01 ∷ 0x00 ∷ 0x01 ∷ []) (refused 15 (1 ∷ []) 6)
@@ -145,6 +155,7 @@ six =
     ∷ case none (0xA2 ∷ 0x03 ∷ 0x00 ∷ 0x01 ∷ 0x00 ∷ []) (refused 13 [] 5)
     ∷ case none (0xA2 ∷ 0x05 ∷ 0x00 ∷ 0x01 ∷ 0x02 ∷ 0x0B ∷ 0x01 ∷ []) (refused 10 (11 ∷ []) 7)
     ∷ case none (0xA2 ∷ 0x06 ∷ 0x00 ∷ 0x01 ∷ 0x00 ∷ 0x00 ∷ 0x01 ∷ 0xFF ∷ []) (refused 9 [] 8)
+    ∷ case none (0xA2 ∷ 0x06 ∷ 0x00 ∷ 0x01 ∷ 0x00 ∷ 0x00 ∷ 0x01 ∷ 0x00 ∷ []) (refused 9 [] 8)
     ∷ case none (0xA2 ∷ 0x04 ∷ 0x00 ∷ 0x01 ∷ 0x00 ∷ 0x00 ∷ []) (refused 7 [] 6)
     ∷ []
 
@@ -215,5 +226,5 @@ Right =
     × (topicAt asPlaces (0x00 ∷ 0x01 ∷ 0x61 ∷ []) (span 0 3) 0 ≡ got (span 2 1))
 
 pub right : Right
-unfolding rows publishPlace subscribePlace ackPlace unsubscribePlace reasons releaseReasons subAckReasons unsubAckReasons kinds lastOf allOf publishProps propsOf noneOf neverOf mapOf onlyOf onlyByOf thenOf sizedOf isFit mapFit handFit onlyFit thenFit exactFit runFit chainFit byteOf followOf restOf charOf isText bigOf groupOf groupsOf numOf stringFit bytesOf textOf valueOf valueAt propertyOf propertiesFit blockOf ackBlockFit ackRestFit identOf reasonsFit filterOf filtersFit topicsFit messageFit fieldsFit layoutFit bodyFit within over frameOf bodyAnswer wholeAnswer frameAnswer readAs again valuesAt userAt subscriptionAt filterAt reasonAt topicAt
+unfolding rows publishPlace subscribePlace ackPlace unsubscribePlace reasons releaseReasons subAckReasons unsubAckReasons kinds lastOf allOf publishProps propsOf noneOf neverOf mapOf onlyOf onlyByOf headOf thenOf sizedOf isFit mapFit handFit onlyFit thenFit exactFit runFit chainFit byteOf followOf restOf charOf isText bigOf groupOf groupsOf numOf stringFit bytesOf textOf valueOf valueAt propertyOf onceOf propertiesFit blockOf ackBlockFit ackRestFit identOf reasonsFit filterOf filtersFit topicsFit messageFit fieldsFit layoutFit bodyFit within over frameOf bodyAnswer wholeAnswer frameAnswer readAs again valuesAt userAt subscriptionAt filterAt reasonAt topicAt
 right = (refl, refl, refl, refl, refl, refl, refl)

@@ -24,7 +24,7 @@ lengths-right = refl
 -- Unicode, table 3-7: at and around each bound of each row
 abbrev good : List (List ℕ)
 good =
-    (0x00 ∷ [])
+    (0x01 ∷ [])
     ∷ (0x7F ∷ [])
     ∷ (0xC2 ∷ 0x80 ∷ [])
     ∷ (0xC2 ∷ 0xBF ∷ [])
@@ -60,7 +60,8 @@ good =
 -- one off at each byte: before the row, past it, cut off, overlong, surrogates, above U+10FFFF
 abbrev broken : List (List ℕ)
 broken =
-    (0x80 ∷ [])
+    (0x00 ∷ [])
+    ∷ (0x80 ∷ [])
     ∷ (0xC1 ∷ 0x80 ∷ [])
     ∷ (0xC1 ∷ 0xBF ∷ [])
     ∷ (0xE0 ∷ 0x80 ∷ [])

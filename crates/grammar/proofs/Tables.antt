@@ -5,7 +5,7 @@ use mathlib.Core.Option.{Option, none, some}
 use mathlib.Core.List.{List, [], _∷_}
 use Prim.Native.Nat.{ℕ, zero, suc}
 use Rattle.grammar.specs.Choice.{isIn, lookup}
-use Rattle.grammar.specs.Tables.{u8, u16, u32, number, text, bytes, pair, publishPlace, subscribePlace, ackPlace, unsubscribePlace, reasons, releaseReasons, subAckReasons, unsubAckReasons, Layout, aPublish, anAck, aSubscribe, aReply, anUnsubscribe, aPing, kinds, reserved, isPing}
+use Rattle.grammar.specs.Tables.{u8, u16, u32, number, text, bytes, pair, isList, publishPlace, subscribePlace, ackPlace, unsubscribePlace, reasons, releaseReasons, subAckReasons, unsubAckReasons, Layout, aPublish, anAck, aSubscribe, aReply, anUnsubscribe, aPing, kinds, reserved, isPing, formAt}
 
 -- k numbers from n on
 abbrev pub count : ℕ → ℕ → List ℕ
@@ -33,21 +33,38 @@ isNone none = true
 isNone (some l) = false
 
 -- 01, table of properties: of all 256 identifiers, at each place
-publish-row : known (lookup publishPlace) (count 256 0) ≡ (1, u8) ∷ (2, u32) ∷ (3, text) ∷ (8, text) ∷ (9, bytes) ∷ (11, number) ∷ (35, u16) ∷ (38, pair) ∷ []
+publish-row : known (formAt publishPlace) (count 256 0) ≡ (1, u8) ∷ (2, u32) ∷ (3, text) ∷ (8, text) ∷ (9, bytes) ∷ (11, number) ∷ (35, u16) ∷ (38, pair) ∷ []
 unfolding publishPlace
 publish-row = refl
 
-subscribe-row : known (lookup subscribePlace) (count 256 0) ≡ (11, number) ∷ (38, pair) ∷ []
+subscribe-row : known (formAt subscribePlace) (count 256 0) ≡ (11, number) ∷ (38, pair) ∷ []
 unfolding subscribePlace
 subscribe-row = refl
 
-ack-row : known (lookup ackPlace) (count 256 0) ≡ (31, text) ∷ (38, pair) ∷ []
+ack-row : known (formAt ackPlace) (count 256 0) ≡ (31, text) ∷ (38, pair) ∷ []
 unfolding ackPlace
 ack-row = refl
 
-unsubscribe-row : known (lookup unsubscribePlace) (count 256 0) ≡ (38, pair) ∷ []
+unsubscribe-row : known (formAt unsubscribePlace) (count 256 0) ≡ (38, pair) ∷ []
 unfolding unsubscribePlace
 unsubscribe-row = refl
+
+-- 01, grammar: "38, and 11 in Publish, are lists": of all 256 identifiers, at each place
+publish-lists : chosen (isList publishPlace) (count 256 0) ≡ 11 ∷ 38 ∷ []
+unfolding publishPlace
+publish-lists = refl
+
+subscribe-lists : chosen (isList subscribePlace) (count 256 0) ≡ 38 ∷ []
+unfolding subscribePlace
+subscribe-lists = refl
+
+ack-lists : chosen (isList ackPlace) (count 256 0) ≡ 38 ∷ []
+unfolding ackPlace
+ack-lists = refl
+
+unsubscribe-lists : chosen (isList unsubscribePlace) (count 256 0) ≡ 38 ∷ []
+unfolding unsubscribePlace
+unsubscribe-lists = refl
 
 -- 01, PubAck: of all 256 bytes, the nine reasons
 nine-reasons : chosen (λ c. isIn c reasons) (count 256 0) ≡ 0 ∷ 16 ∷ 128 ∷ 131 ∷ 135 ∷ 144 ∷ 145 ∷ 151 ∷ 153 ∷ []

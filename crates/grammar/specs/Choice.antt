@@ -15,6 +15,11 @@ abbrev pub lookup : {A : Type 0} → List (ℕ × A) → ℕ → Option A
 lookup [] i = none
 lookup (p ∷ ps) i = cond (eqb (p .0) i) (some (p .1)) (lookup ps i)
 
+-- something is there
+abbrev pub isSome : {A : Type 0} → Option A → Bool
+isSome none = false
+isSome (some a) = true
+
 -- the list has no element
 abbrev pub isEmpty : {A : Type 0} → List A → Bool
 isEmpty [] = true

@@ -1,6 +1,6 @@
 -- The packet grammar (01, "The packet grammar"), in 01's order. Nothing here knows of a reader. Assumes nothing.
 use mathlib.Core.Path.{_≡_}
-use mathlib.Core.Bool.{Bool, true, not}
+use mathlib.Core.Bool.{Bool, true, not, cond}
 use mathlib.Core.Option.{Option, none, some}
 use mathlib.Core.List.{List, [], _∷_}
 use Prim.Native.Nat.{ℕ, zero, suc, _+_, _≤_}
@@ -9,8 +9,8 @@ use lib.Dec.{eqb}
 use Rattle.grammar.specs.Choice.{isIn, lookup, isEmpty}
 use Rattle.grammar.specs.Number.{Byte, Big, Spells}
 use Rattle.grammar.specs.Text.{Utf8}
-use Rattle.grammar.specs.Gram.{Gram, Nothing, Map, Only, Then, Sized, Many, Is}
-use Rattle.grammar.specs.Tables.{Form, u8, u16, u32, number, text, bytes, pair, Place, publishPlace, subscribePlace, ackPlace, unsubscribePlace, Layout, aPublish, anAck, aSubscribe, aReply, anUnsubscribe, aPing, kinds}
+use Rattle.grammar.specs.Gram.{Gram, Nothing, Map, Only, Then, Sized, Many, allFrom, Is}
+use Rattle.grammar.specs.Tables.{Form, u8, u16, u32, number, text, bytes, pair, Place, isList, publishPlace, subscribePlace, ackPlace, unsubscribePlace, Layout, aPublish, anAck, aSubscribe, aReply, anUnsubscribe, aPing, kinds, formAt}
 use Rattle.grammar.specs.Record.{Val, num, str, duo, PropOf, unlessEmpty, PublishProps, publishProps, Props, propsOf, Filter, PacketOf, kindOf, flagQos, optionQos, optionRule, mkPublish, mkAck, mkFilter, mkSubscribe, mkReply, mkUnsubscribe, mkPing}
 
 -- ---- strings
@@ -41,23 +41,43 @@ Prop = PropOf (List ℕ)
 abbrev pub duoOf : {S : Type 0} → S × S → Val S
 duoOf p = duo (p .0) (p .1)
 
+-- 01, grammar, Publish: "and not 0"; 02, P9: "Property 11 with value 0 gets SubscriptionIdZero"
+abbrev pub notZero : ℕ → Bool
+notZero i = not (eqb i 0)
+
 -- 01, table of properties: how a value of each form is spelled
 abbrev pub Spelt : Form → Value → List ℕ → Type 0
 Spelt u8 = Map num Byte
 Spelt u16 = Map num (Big 2)
 Spelt u32 = Map num (Big 4)
-Spelt number = Map num Spells
+Spelt number = Map num (Only notZero Spells)
 Spelt text = Map str Text
 Spelt bytes = Map str Bytes
 Spelt pair = Map duoOf (Then Text (λ _. Text))
 
 -- 01, grammar: "A property is an identifier byte and a value", of the form that the place's row gives it
 pub data Property (place : Place) : Prop → List ℕ → Type 0 where
-  property : {i : ℕ} {f : Form} {v : Value} {b : List ℕ} → lookup place i ≡ some f → Spelt f v b → Property place (i, v) (i ∷ b)
+  property : {i : ℕ} {f : Form} {v : Value} {b : List ℕ} → formAt place i ≡ some f → Spelt f v b → Property place (i, v) (i ∷ b)
+
+-- 02, P9: the identifiers that were met and are single-valued, so that they may not come again
+abbrev pub met : {S : Type 0} → Place → List ℕ → PropOf S → List ℕ
+met place σ p = cond (isList place (p .0)) σ (p .0 ∷ σ)
+
+-- 02, P9: not "a single-valued property met a second time"
+abbrev pub fresh : {S : Type 0} → List ℕ → PropOf S → Bool
+fresh σ p = not (isIn (p .0) σ)
+
+-- 02, P9: "No doubled properties"
+abbrev pub noneTwice : {S : Type 0} → Place → List (PropOf S) → Bool
+noneTwice place = allFrom (met place) fresh []
+
+-- what fills a block of the place: properties, none of them doubled
+abbrev pub Properties : Place → List Prop → List ℕ → Type 0
+Properties place = Only (noneTwice place) (Many (Property place))
 
 -- 01, grammar: "a variable length number L and L bytes, filled exactly by properties"; f says what they come to
 abbrev pub Block : {A : Type 0} → Place → (List Prop → A) → A → List ℕ → Type 0
-Block place f = Sized Spells (Map f (Many (Property place)))
+Block place f = Sized Spells (Map f (Properties place))
 
 -- in the language a list is the list
 abbrev pub asList : {A : Type 0} → List A → List A
@@ -76,10 +96,6 @@ propsIf = unlessEmpty (propsOf (List ℕ) List asList)
 -- 01, grammar: "QoS 3, in flags or options, and forward rule 3 stand in no sentence"
 abbrev pub notThree : ℕ → Bool
 notThree q = not (eqb q 3)
-
--- 01, grammar, Publish: "and not 0"
-abbrev pub notZero : ℕ → Bool
-notZero i = not (eqb i 0)
 
 -- 01, grammar, Publish: "u16 identifier only if QoS is 1 or 2, and not 0"
 abbrev pub Ident : ℕ → ℕ → List ℕ → Type 0

@@ -4,31 +4,44 @@ use mathlib.Core.Bool.{Bool, true, false}
 use mathlib.Core.Option.{Option, none, some}
 use mathlib.Core.List.{List, [], _∷_}
 use Prim.Native.Nat.{ℕ}
-use Rattle.grammar.specs.Choice.{lookup}
+use Rattle.grammar.specs.Choice.{isIn, lookup}
 
 -- 01, table of properties: the forms of a value
 pub data Form : Type 0 where
   u8 u16 u32 number text bytes pair : Form
 
--- 01, table of properties: a place's row, identifiers with their forms, in the order of the table
-abbrev pub Place : Type 0
-Place = List (ℕ × Form)
+-- 01, table of properties: a row, identifiers with their forms, in the order of the table
+abbrev pub Forms : Type 0
+Forms = List (ℕ × Form)
+
+-- 01, table of properties: a place's row; 01, grammar: "38, and 11 in Publish, are lists": those of its identifiers that are
+pub record Place : Type 0 where
+  pub row : Forms
+  pub lists : List ℕ
 
 -- 01, table of properties, row Publish
 unfoldable pub publishPlace : Place
-publishPlace = (1, u8) ∷ (2, u32) ∷ (35, u16) ∷ (8, text) ∷ (9, bytes) ∷ (38, pair) ∷ (11, number) ∷ (3, text) ∷ []
+publishPlace = record { row = (1, u8) ∷ (2, u32) ∷ (35, u16) ∷ (8, text) ∷ (9, bytes) ∷ (38, pair) ∷ (11, number) ∷ (3, text) ∷ []; lists = 38 ∷ 11 ∷ [] }
 
 -- 01, table of properties, row Subscribe
 unfoldable pub subscribePlace : Place
-subscribePlace = (11, number) ∷ (38, pair) ∷ []
+subscribePlace = record { row = (11, number) ∷ (38, pair) ∷ []; lists = 38 ∷ [] }
 
 -- 01, table of properties, row PubAck
 unfoldable pub ackPlace : Place
-ackPlace = (31, text) ∷ (38, pair) ∷ []
+ackPlace = record { row = (31, text) ∷ (38, pair) ∷ []; lists = 38 ∷ [] }
 
 -- 02, P1, and MQTT 3.10.2.1: row Unsubscribe
 unfoldable pub unsubscribePlace : Place
-unsubscribePlace = (38, pair) ∷ []
+unsubscribePlace = record { row = (38, pair) ∷ []; lists = 38 ∷ [] }
+
+-- 01, grammar: ".. are lists kept in order"; any other is single-valued
+abbrev pub isList : Place → ℕ → Bool
+isList place i = isIn i (place .lists)
+
+-- 01, row 10: "identifier not in its place's row", else its form
+abbrev pub formAt : Place → ℕ → Option Form
+formAt place = lookup (place .row)
 
 -- 01, grammar, PubAck: "Reasons, in the order of `PubAckReason`"; MQTT 3.5.2.1: PubRec gives the same
 unfoldable pub reasons : List ℕ

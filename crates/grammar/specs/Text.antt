@@ -23,10 +23,10 @@ TextRow = Range × List Range
 abbrev tail : Range
 tail = (0x80, 0xBF)
 
--- 01, grammar: "Unicode table of well-formed sequences" (Unicode, table 3-7), row by row
+-- 01, grammar: "Unicode table of well-formed sequences" (Unicode, table 3-7), row by row; 02, P9: "Text holding U+0000 gets TopicNotUtf8", so the first begins at 01
 unfoldable pub rows : List TextRow
 rows =
-    ((0x00, 0x7F), [])
+    ((0x01, 0x7F), [])
     ∷ ((0xC2, 0xDF), tail ∷ [])
     ∷ ((0xE0, 0xE0), (0xA0, 0xBF) ∷ tail ∷ [])
     ∷ ((0xE1, 0xEC), tail ∷ tail ∷ [])

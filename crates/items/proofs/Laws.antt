@@ -1,8 +1,8 @@
 -- How the search for the n-th value goes on over the properties of a block. Assumes nothing.
 use mathlib.Core.Path.{_≡_, refl, sym, ap, _∙_}
-use mathlib.Core.Bool.{not}
-use mathlib.Core.Option.{some}
-use mathlib.Core.List.{List, _∷_}
+use mathlib.Core.Bool.{Bool, true, false, not, false≢true}
+use mathlib.Core.Option.{Option, some}
+use mathlib.Core.List.{List, [], _∷_}
 use Prim.Native.Nat.{ℕ, zero, suc, _+_, _-_, _≤_, _<_}
 use native.Mathlib.Omega.{arith}
 use lib.Dec.{T}
@@ -12,17 +12,18 @@ use borrow.Author.Tests.{eq-eqb, ne-eqb, le-leb, lt-leb}
 use denote.Enum.Declared.{tagOf}
 use mir.Val.{hasKey}
 use types.Run.{OneOf, miss}
-use Rattle.grammar.specs.Choice.{lookup}
 use Rattle.grammar.specs.Gram.{forget}
-use Rattle.grammar.specs.Tables.{Form, u8, u16, u32, number, text, bytes, pair, Place, publishPlace, subscribePlace, ackPlace, unsubscribePlace}
+use Rattle.grammar.specs.Tables.{Form, u8, u16, u32, number, text, bytes, pair, Place, publishPlace, subscribePlace, ackPlace, unsubscribePlace, formAt}
 use Rattle.grammar.specs.Record.{PropOf, allOf}
-use Rattle.reading.specs.Reader.{Fit, got, bad, Reader, _>>=_, chainFit}
-use Rattle.reading.specs.Read.{propertyOf, propertiesFit}
-use Rattle.reading.specs.Place.{Span, asPlaces, orNoItem, again, nthOf, valuesAt}
+use Rattle.reading.specs.Reader.{Fit, got, bad, Reader, _>>=_, chainFit, manyFit, foldFrom, foldFit, isGot}
+use Rattle.reading.specs.Read.{propertyOf, onceOf, propertiesFit}
+use Rattle.reading.specs.Place.{Span, asPlaces, onGot, noItem, orNoItem, again, nthOf, valuesAt}
 use Rattle.positions.proofs.At.{part-slice}
 use Rattle.positions.proofs.Walk.{Less, chain-nil, chain-bad, chain-next}
-use Rattle.positions.proofs.Less.{property-less}
+use Rattle.positions.proofs.Less.{property-less, once-many}
 use Rattle.positions.proofs.Position.{bad-left}
+use Rattle.grammar.specs.Sentence.{met}
+use Rattle.properties.specs.Block.{Row, applied, loopFrom, filledAt}
 use Rattle.records.specs.Told.{toldError}
 use Rattle.records.specs.declared.error.Error.{Error}
 use Rattle.tables.specs.Property.{placeOf}
@@ -72,14 +73,14 @@ module _ (row : Place) (i : ℕ) (s : List ℕ) where
     -- the search goes on as q from index `at`, and a value found is of the form of property i
     pub record Seeking (q : Seek) (at : ℕ) : Type 0 where
       pub goes : soughtIn row i (length s) (Left n) (drop start s) ≡ soughtIn row i (length s) q (drop at s)
-      pub formed : Formed (lookup row i) q
+      pub formed : Formed (formAt row i) q
 
     pub seeking-start : Seeking (Left n) start
     seeking-start = record { goes = refl; formed = tt }
 
     module _ {q : Seek} {at : ℕ} (w : Seeking q at) where
       pub seeking-end : length s ≤ at → SeekIn row i s start n q
-      unfolding soughtIn propertiesFit allOf
+      unfolding soughtIn allOf
       seeking-end h = record {
         says = sym (w .goes ∙ rw (drop-of-length-le s h, chain-nil forget reads (length s) less tt));
         formed = w .formed;
@@ -87,7 +88,7 @@ module _ (row : Place) (i : ℕ) (s : List ℕ) where
 
       module _ (h : at < length s) where
         pub seeking-bad : (e : Error) → PropertyRead row s at (Refused e) → SeekIn row i s start n (Left n)
-        unfolding soughtIn propertiesFit
+        unfolding soughtIn
         seeking-bad e r =
             let f = rw (drop-cons s at 0 h) at (bad-left (reads tt) s at (toldError e) (sym (r .says))) in
             record {
@@ -99,7 +100,7 @@ module _ (row : Place) (i : ℕ) (s : List ℕ) where
         seeking-ahead {k = k} {v = v} {m = m} r = property-ahead row s at (k, toldValue v) m (r .says)
 
         pub seeking-next : {k : ℕ} {v : Value} {m : ℕ} → PropertyRead row s at (Found k v m) → {q′ : Seek} → SeekOn q i k v q′ → Seeking q′ m
-        unfolding soughtIn propertiesFit
+        unfolding soughtIn
         seeking-next {k = k} {v = v} {m = m} r {q′ = q′} o =
             let f = rw (drop-cons s at 0 h) at (property-left row s at (k, toldValue v) m (r .says)) in
             let b : length (getD s at 0 ∷ drop (suc at) s) ≤ length s = rw length-drop (omega arith) in
@@ -108,7 +109,7 @@ module _ (row : Place) (i : ℕ) (s : List ℕ) where
                   w .goes
                   ∙ rw (drop-cons s at 0 h, chain-next forget reads (length s) less tt (getD s at 0) (drop (suc at) s) ((k, toldValue v), drop m s) b f)
                   (on (chainFit forget reads tt (drop m s)));
-              formed = o .formed (lookup row) (r .typed) (w .formed);
+              formed = o .formed (formAt row) (r .typed) (w .formed);
             }
           where
             on : (l : Fit (List (PropOf Span))) → (orNoItem (l >>= λ ps. got ((k, toldValue v) ∷ ps)) >>= λ ps. sought q (allOf i ps)) ≡ (orNoItem l >>= λ ps. sought q′ (allOf i ps))
@@ -122,18 +123,48 @@ module _ (row : Place) (i : ℕ) (s : List ℕ) (p : Span) (n : ℕ) where
   unfolding valuesAt again
   nth-outside h = record { says = rw (lt-leb (p .start + p .len) (length s) h); formed = tt }
 
-  pub nth-within : (r : Seek) → p .start + p .len ≤ length s → SeekIn row i (take (p .start + p .len) s) (p .start) n r → NthRead row i s p n r
-  unfolding valuesAt again soughtIn
-  nth-within r h o =
-      let e = rw (length-take-le (p .start + p .len) s h, sym (part-slice s (p .len) (p .start) h)) at (o .says) in
-      record {
-        says = e ∙ rw (le-leb (p .start + p .len) (length s) h) (on (orNoItem (propertiesFit asPlaces row (p .start + p .len) (take (p .len) (drop (p .start) s)))));
-        formed = o .formed;
-      }
-    where
-      on : (l : Fit (List (PropOf Span))) → (l >>= λ ps. nthOf n (allOf i ps)) ≡ ((l >>= λ ps. got (allOf i ps)) >>= nthOf n)
-      on (got ps) = refl
-      on (bad c) = refl
+  -- the bytes of the block, and where they end
+  abbrev filled : List ℕ
+  filled = take (p .len) (drop (p .start) s)
+
+  abbrev here : Fit (List (PropOf Span))
+  here = propertiesFit asPlaces row (p .start + p .len) filled
+
+  abbrev whole : Bool
+  whole = isGot (propertiesFit asPlaces row (length (take (p .start + p .len) s)) (drop (p .start) (take (p .start + p .len) s)))
+
+  module _ (h : p .start + p .len ≤ length s) where
+    same-whole : whole ≡ isGot here
+    same-whole = rw (length-take-le (p .start + p .len) s h, sym (part-slice s (p .len) (p .start) h))
+
+    -- no block of which no property is doubled
+    pub nth-broken : whole ≡ false → NthRead row i s p n (Left n)
+    unfolding valuesAt again
+    nth-broken b = record { says = go here refl (sym same-whole ∙ b); formed = tt }
+      where
+        go : (m : Fit (List (PropOf Span))) → here ≡ m → isGot m ≡ false → bad noItem ≡ (valuesAt asPlaces s p row i >>= nthOf n)
+        go (got ps) e b = absurd (false≢true (sym b))
+        go (bad k) e b = rw (le-leb (p .start + p .len) (length s) h, e)
+
+    pub nth-within : (r : Seek) → whole ≡ true → SeekIn row i (take (p .start + p .len) s) (p .start) n r → NthRead row i s p n r
+    unfolding valuesAt again soughtIn propertiesFit chainFit onceOf
+    nth-within r b o =
+        let e = rw (length-take-le (p .start + p .len) s h, sym (part-slice s (p .len) (p .start) h)) at (o .says) in
+        record { says = e ∙ go here refl (sym same-whole ∙ b); formed = o .formed }
+      where
+        go : (m : Fit (List (PropOf Span))) → here ≡ m → isGot m ≡ true → (orNoItem (manyFit (propertyOf asPlaces row (p .start + p .len)) filled) >>= λ ps. nthOf n (allOf i ps)) ≡ (valuesAt asPlaces s p row i >>= nthOf n)
+        go (bad k) e b = absurd (false≢true b)
+        go (got ps) e b = rw (once-many asPlaces row (p .start + p .len) [] filled ps e, le-leb (p .start + p .len) (length s) h, e)
+
+-- ---- a block, by what the readers of blocks say of it
+
+pub filled-got : (w : Row) (s : List ℕ) (p : Span) (m : Fit (Option (w .Props) × ℕ)) → m ≡ filledAt w s p → isGot m ≡ isGot (propertiesFit asPlaces (w .place) (length s) (drop (p .start) s))
+unfolding filledAt loopFrom foldFit propertiesFit
+filled-got w s p m e = ap isGot e ∙ go (chainFit (met (w .place)) (onceOf asPlaces (w .place) (length s)) [] (drop (p .start) s))
+  where
+    go : (l : Fit (List (PropOf Span))) → isGot {A = Option (w .Props) × ℕ} (onGot (λ o. (some o, length s)) (l >>= λ vs. got (foldFrom (applied w) (w .made p []) vs))) ≡ isGot l
+    go (got vs) = refl
+    go (bad k) = refl
 
 -- ---- the form of a value says which one it is
 
@@ -163,7 +194,7 @@ not-other f ks t v e o =
     miss ks (tag f) t (rw (tag-form v ∙ ap tag (sym h)) at o)
 
 -- 01, table of properties: 38 is a text pair in every row
-pub user-form : (w : PropertyPlace) → some pair ≡ lookup (placeOf w) 38
+pub user-form : (w : PropertyPlace) → some pair ≡ formAt (placeOf w) 38
 unfolding publishPlace subscribePlace ackPlace unsubscribePlace
 user-form Publish = refl
 user-form Subscribe = refl

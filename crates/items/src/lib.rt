@@ -1,14 +1,24 @@
 // The n-th user property and the n-th subscription identifier of a block: what stands in place of the lists of publish.rs, subscribe.rs and
 // puback.rs. The whole block is read, so that a fault behind the item is seen.
+use properties::place_block;
+use properties::place_block::GotBlock;
 use property_value::GotProperty;
 use property_value::Value;
+use publish_properties;
+use publish_properties::GotPublishBlock;
 use records::answer::IdentifierItem;
 use records::answer::UserItem;
 use records::span::Span;
+use tables::property::OtherPlace;
 use tables::property::PropertyPlace;
 use wire::string;
+ghost use mathlib.Core.Path.{_≡_};
+ghost use lib.ListN.{length, drop};
+ghost use Rattle.reading.specs.Reader.{isGot};
+ghost use Rattle.reading.specs.Read.{propertiesFit};
+ghost use Rattle.reading.specs.Place.{asPlaces};
 ghost use Rattle.records.specs.Told.{toldSpan};
-ghost use Rattle.tables.specs.Property.{placeOf};
+ghost use Rattle.tables.specs.Property.{placeOf, otherOf};
 ghost use Rattle.items.specs.Nth.{SeekOn, SeekIn, NthRead, NthUser, NthIdentifier};
 
 // The search for a value: how many are to be passed before it, or the value.
@@ -35,7 +45,32 @@ fn seek_on(seek: Seek, id: u8, k: u8, v: Value) -> Seek
     }
 }
 
-// The n-th value of property id in the block that fills s from start on.
+// Do properties of a place beside Publish's fill the block that begins where p does and ends where s does, none of them doubled?
+fn stands_other(place: OtherPlace, s: &[u8], p: Span) -> bool
+    ensures { λ r. ⌜ r ≡ isGot (propertiesFit asPlaces (placeOf (otherOf place)) (length (now (s .entry))) (drop (p .start) (now (s .entry)))) ⌝ }
+{
+    match place_block::fill(place, s, p) {
+        GotBlock::Value(_, _) => true,
+        GotBlock::Refused(_) => false,
+    }
+}
+
+// The same of any place.
+fn stands(place: PropertyPlace, s: &[u8], p: Span) -> bool
+    ensures { λ r. ⌜ r ≡ isGot (propertiesFit asPlaces (placeOf place) (length (now (s .entry))) (drop (p .start) (now (s .entry)))) ⌝ }
+{
+    match place {
+        PropertyPlace::Publish => match publish_properties::fill(s, p) {
+            GotPublishBlock::Value(_, _) => true,
+            GotPublishBlock::Refused(_) => false,
+        },
+        PropertyPlace::Subscribe => stands_other(OtherPlace::Subscribe, s, p),
+        PropertyPlace::Ack => stands_other(OtherPlace::Ack, s, p),
+        PropertyPlace::Unsubscribe => stands_other(OtherPlace::Unsubscribe, s, p),
+    }
+}
+
+// The n-th value of property id among the properties that fill s from start on, doubled or not.
 fn seek_in(place: PropertyPlace, id: u8, s: &[u8], start: usize, n: usize) -> Seek
     ensures { λ r. ⌜ SeekIn (placeOf place) id (now (s .entry)) start n r ⌝ }
 {
@@ -63,7 +98,9 @@ fn nth_value(place: PropertyPlace, id: u8, s: &[u8], p: Span, n: usize) -> Seek
         let start = p.start;
         let len = p.len;
         let end = start + len;
-        return seek_in(place, id, &s[..end], start, n);
+        if stands(place, &s[..end], p) {
+            return seek_in(place, id, &s[..end], start, n);
+        }
     }
     Seek::Left(n)
 }

@@ -11,27 +11,27 @@ use borrow.Author.Tests.{le-leb}
 use Rattle.reading.specs.Refusal.{Refusal}
 use Rattle.reading.specs.Reader.{got, bad, _>>_}
 use Rattle.writing.specs.Lists.{flat, pieces}
-use Rattle.writing.specs.Order.{judge, word, fieldTests, small}
+use Rattle.writing.specs.Order.{judge, word, fieldTests, numberTests}
 use Rattle.writing.proofs.Judge.{judge-append, fields-more}
 use Rattle.utf8.specs.Text.{allAscii}
 use Rattle.utf8.proofs.Laws.{and-both, ascii-split, ascii-text}
 
 -- those from the i-th on decide
 abbrev pub Left : List ℕ → ℕ → Type 0
-Left ns i = judge (map small ns) ≡ judge (map small (drop i ns))
+Left ns i = judge (flat numberTests ns) ≡ judge (flat numberTests (drop i ns))
 
 module _ (ns : List ℕ) (i : ℕ) (d : Left ns i) where
   module _ (h : i < length ns) where
-    then-more : judge (map small ns) ≡ (judge (small (getD ns i 0) ∷ []) >> judge (map small (drop (i + 1) ns)))
-    then-more = d ∙ rw (drop-cons ns i 0 h, add-one i) (judge-append (small (getD ns i 0) ∷ []) (map small (drop (suc i) ns)))
+    then-more : judge (flat numberTests ns) ≡ (judge (flat numberTests (getD ns i 0 ∷ [])) >> judge (flat numberTests (drop (i + 1) ns)))
+    then-more = d ∙ rw (drop-cons ns i 0 h, add-one i) (judge-append (flat numberTests (getD ns i 0 ∷ [])) (flat numberTests (drop (suc i) ns)))
 
-    pub number-refused : (k : Refusal) → bad k ≡ judge (small (getD ns i 0) ∷ []) → bad k ≡ judge (map small ns)
+    pub number-refused : (k : Refusal) → bad k ≡ judge (flat numberTests (getD ns i 0 ∷ [])) → bad k ≡ judge (flat numberTests ns)
     number-refused k b = sym (then-more ∙ rw (sym b))
 
-    pub number-passed : got tt ≡ judge (small (getD ns i 0) ∷ []) → Left ns (i + 1)
+    pub number-passed : got tt ≡ judge (flat numberTests (getD ns i 0 ∷ [])) → Left ns (i + 1)
     number-passed b = then-more ∙ rw (sym b)
 
-  pub numbers-done : length ns ≤ i → got tt ≡ judge (map small ns)
+  pub numbers-done : length ns ≤ i → got tt ≡ judge (flat numberTests ns)
   unfolding judge
   numbers-done h = sym (d ∙ rw (drop-of-length-le ns h))
 

@@ -9,7 +9,7 @@ ghost use mathlib.Core.Path.{_≡_};
 ghost use mathlib.Core.List.{map};
 ghost use Rattle.writing.specs.Lists.{flat};
 ghost use Rattle.writing.specs.Handed.{strings};
-ghost use Rattle.writing.specs.Order.{judge, word, fieldTests, small};
+ghost use Rattle.writing.specs.Order.{judge, word, fieldTests, numberTests};
 ghost use Rattle.rows.specs.Given.{run as runOf};
 ghost use Rattle.row_tests.specs.Tested.{toldTested};
 
@@ -45,7 +45,7 @@ pub fn test_words(bytes: &[u8], lengths: &[usize]) -> Tested
 
 // Subscription identifiers in order.
 pub fn test_numbers(ids: &[u32]) -> Tested
-    ensures { λ r. ⌜ toldTested r ≡ judge (map small (now (ids .entry))) ⌝ }
+    ensures { λ r. ⌜ toldTested r ≡ judge (flat numberTests (now (ids .entry))) ⌝ }
 {
     let mut i: usize = 0;
     while i < ids.len() {

@@ -32,6 +32,8 @@ names =
     "NoRoom" ∷
     "ListMismatch" ∷
     "NoItem" ∷
+    "DuplicateProperty" ∷
+    "SubscriptionIdZero" ∷
     []
 
 -- a name is spelled in ASCII: the codes of its characters

@@ -41,7 +41,9 @@ pub fn name_at(number: u32) -> Name
         19 => named(*b"NoRoom\0\0\0\0\0\0\0\0\0\0\0\0\0\0\0\0\0\0", 6),
         20 => named(*b"ListMismatch\0\0\0\0\0\0\0\0\0\0\0\0", 12),
         21 => named(*b"NoItem\0\0\0\0\0\0\0\0\0\0\0\0\0\0\0\0\0\0", 6),
-        22..=4294967295 => named([0; 24], 0),
+        22 => named(*b"DuplicateProperty\0\0\0\0\0\0\0", 17),
+        23 => named(*b"SubscriptionIdZero\0\0\0\0\0\0", 18),
+        24..=4294967295 => named([0; 24], 0),
     }
 }
 

@@ -1,18 +1,24 @@
 -- An item leaves less than it was given, with places too: what a loop over a block or over filters goes by. Assumes nothing.
-use mathlib.Core.List.{List, [], _++_, append-nil}
+use mathlib.Core.Path.{_≡_}
+use mathlib.Core.Bool.{true, false, not}
+use mathlib.Core.List.{List, [], _∷_, _++_, append-nil}
 use Prim.Native.Nat.{ℕ, _-_, _≤_}
 use native.Mathlib.Omega.{arith}
 use lib.ListN.{length, replicate, length-replicate}
-use Rattle.grammar.specs.Gram.{Gram, Solid}
+use Rattle.grammar.specs.Choice.{isIn}
+use Rattle.grammar.specs.Gram.{Gram, forget, Solid}
+use Rattle.grammar.specs.Record.{PropOf}
+use Rattle.grammar.specs.Sentence.{met}
 use Rattle.grammar.specs.Tables.{Place}
-use Rattle.reading.specs.Reader.{Reader}
-use Rattle.reading.specs.Read.{asBytes, textOf, propertyOf, filterOf, reasonOf}
+use Rattle.reading.specs.Refusal.{nr}
+use Rattle.reading.specs.Reader.{got, bad, Reader, _>>_, guard, headOf, runFit, chainFit, manyFit}
+use Rattle.reading.specs.Read.{Shape, asBytes, textOf, propertyOf, onceOf, filterOf, reasonOf}
 use Rattle.reading.specs.Place.{asPlaces}
-use Rattle.reading.proofs.Reading.{Reads, less, reads-only}
-use Rattle.reading.proofs.Fields.{reads-byte, reads-text, reads-property, property-solid}
+use Rattle.reading.proofs.Reading.{bad-got, from-got, from-bind, from-guard, Reads, less, reads-only}
+use Rattle.reading.proofs.Fields.{reads-byte, reads-text, reads-property, property-solid, reads-once, once-solid}
 use Rattle.reading.proofs.Packets.{reads-filter, filter-solid, reason-solid, text-solid}
 use Rattle.reading.proofs.Forget.{like-got, Stands, Forgets, forgets-same}
-use Rattle.reading.proofs.Places.{text-says, property-says, filter-says}
+use Rattle.reading.proofs.Places.{text-says, property-says, once-says, filter-says}
 use Rattle.positions.proofs.Walk.{Less}
 
 -- some stream in which l stands
@@ -31,6 +37,36 @@ placed-less end p p′ F T L l z h e =
 
 pub property-less : (place : Place) (end : ℕ) → Less end (propertyOf asPlaces place end)
 property-less place end = placed-less end (propertyOf asPlaces place end) (propertyOf asBytes place end) (λ s. property-says s place end) (reads-property place end) (property-solid place)
+
+-- 02, P9: one that is not met a second time
+pub once-less : (place : Place) (end : ℕ) (σ : List ℕ) → Less end (onceOf asPlaces place end σ)
+once-less place end σ = placed-less end (onceOf asPlaces place end σ) (onceOf asBytes place end σ) (λ s. once-says s place end σ) (reads-once place end σ) (once-solid place σ)
+
+module _ (h : Shape) (place : Place) (end : ℕ) (σ : List ℕ) (i : ℕ) (s : List ℕ) where
+  pub once-fresh : isIn i σ ≡ false → onceOf h place end σ (i ∷ s) ≡ propertyOf h place end (i ∷ s)
+  unfolding onceOf headOf
+  once-fresh e = rw e
+
+  pub once-twice : isIn i σ ≡ true → onceOf h place end σ (i ∷ s) ≡ bad (nr 22 (i ∷ []))
+  unfolding onceOf headOf
+  once-twice e = rw e
+
+-- a block of which no property is doubled is a run of properties
+once-run : (h : Shape) (place : Place) (end : ℕ) (σ f s : List ℕ) (vs : List (PropOf (h .Str))) → runFit (met place) (onceOf h place end) σ f s ≡ got vs → runFit forget (λ _. propertyOf h place end) tt f s ≡ got vs
+unfolding runFit onceOf headOf
+once-run h place end σ [] [] = λ vs e. e
+once-run h place end σ [] (x ∷ s) = λ vs e. absurd (bad-got e)
+once-run h place end σ (y ∷ f) [] = λ vs e. e
+once-run h place end σ (y ∷ f) (x ∷ s) =
+    from-bind (guard (not (isIn x σ)) (nr 22 (x ∷ [])) >> propertyOf h place end (x ∷ s)) _ λ z e.
+    from-bind (runFit (met place) (onceOf h place end) (met place σ (z .0)) f (z .1)) _ λ ws e′.
+    let i : propertyOf h place end (x ∷ s) ≡ got z = from-guard {C = λ w. propertyOf h place end (x ∷ s) ≡ got w} (not (isIn x σ)) (nr 22 (x ∷ [])) (propertyOf h place end (x ∷ s)) (λ _ w j. j) z e in
+    from-got (λ (us : List (PropOf (h .Str))). runFit forget (λ _. propertyOf h place end) tt (y ∷ f) (x ∷ s) ≡ got us) (z .0 ∷ ws)
+    (rw (i, once-run h place end (met place σ (z .0)) f (z .1) ws e′))
+
+pub once-many : (h : Shape) (place : Place) (end : ℕ) (σ s : List ℕ) (vs : List (PropOf (h .Str))) → chainFit (met place) (onceOf h place end) σ s ≡ got vs → manyFit (propertyOf h place end) s ≡ got vs
+unfolding chainFit
+once-many h place end σ s vs e = once-run h place end σ s s vs e
 
 pub filter-less : (end : ℕ) → Less end (filterOf asPlaces end)
 filter-less end = placed-less end (filterOf asPlaces end) (filterOf asBytes end) (λ s. filter-says s end) (reads-filter end) filter-solid

@@ -7,11 +7,10 @@ use mathlib.Core.List.{List, [], _∷_, _++_, append-assoc}
 use Prim.Native.Nat.{ℕ, _-_}
 use lib.Dec.{leb}
 use lib.ListN.{length, take, drop, take-append-drop}
-use Rattle.grammar.specs.Choice.{lookup}
 use Rattle.grammar.specs.Gram.{Gram}
-use Rattle.grammar.specs.Tables.{Form, u8, u16, u32, number, text, bytes, pair, Place}
+use Rattle.grammar.specs.Tables.{Form, u8, u16, u32, number, text, bytes, pair, Place, formAt}
 use Rattle.grammar.specs.Record.{num, str, PropOf, mkFilter}
-use Rattle.grammar.specs.Sentence.{duoOf}
+use Rattle.grammar.specs.Sentence.{duoOf, notZero}
 use Rattle.reading.specs.Refusal.{Refusal, cut}
 use Rattle.reading.specs.Reader.{got, Reader, Filler, mapOf, onlyOf, thenOf, sizedOf}
 use Rattle.reading.specs.Read.{bigOf, byteOf, numOf, Shape, bytesOf, textOf, valueOf, valueAt, propertyOf, blockOf, filterOf, reasonOf}
@@ -81,7 +80,7 @@ module _ (h : Shape) (end : ℕ) where
   trails-value u8 = trails-map (trails-byte cut) num
   trails-value u16 = trails-map (trails-big cut 2) num
   trails-value u32 = trails-map (trails-big cut 4) num
-  trails-value number = trails-map (trails-num cut 4) num
+  trails-value number = trails-map (trails-only (trails-num cut 4) notZero _) num
   trails-value text = trails-map trails-text str
   trails-value bytes = trails-map trails-bytes str
   trails-value pair = trails-map (trails-then trails-text (λ _. trails-text)) duoOf
@@ -95,7 +94,7 @@ module _ (h : Shape) (end : ℕ) where
   pub trails-property : (place : Place) → Trails (propertyOf h place end)
   unfolding propertyOf
   trails-property place [] = λ z e. absurd (bad-got e)
-  trails-property place (i ∷ s) = trails-at (lookup place i) i s
+  trails-property place (i ∷ s) = trails-at (formAt place i) i s
 
   pub trails-block : {A : Type 0} (place : Place) (f : List (PropOf (h .Str)) → List ℕ → ℕ → A) → Trails (blockOf h place f end)
   unfolding blockOf

@@ -1,5 +1,5 @@
-// The properties at a place, after the `read`s of the property structs of subscribe.rs, puback.rs and their like. Of a reason string or an
-// identifier given twice the last counts; the user properties are left in the block, and the record keeps where it stands.
+// The properties at a place, after the `read`s of the property structs of subscribe.rs, puback.rs and their like. A reason string or an
+// identifier given twice is refused; the user properties are left in the block, and the record keeps where it stands.
 use crate::block;
 use property_value::GotProperty;
 use property_value::Value;
@@ -9,20 +9,21 @@ use records::properties_record::Properties;
 use records::span::MaybeSpan;
 use records::span::MaybeU32;
 use records::span::Span;
-use tables::property::PropertyPlace;
+use tables::property;
+use tables::property::OtherPlace;
 use wire::got::GotSpan;
 ghost use mathlib.Core.Path.{_≡_};
 ghost use mathlib.Core.Option.{some};
 ghost use lib.ListN.{length};
-ghost use Rattle.grammar.specs.Choice.{lookup};
+ghost use Rattle.grammar.specs.Tables.{formAt};
 ghost use Rattle.reading.specs.Read.{blockOf, propsAs};
 ghost use Rattle.reading.specs.Place.{asPlaces};
 ghost use Rattle.positions.specs.Position.{fromAt};
 ghost use Rattle.records.specs.Told.{toldSpan};
 ghost use Rattle.records.specs.Said.{toldProperties};
-ghost use Rattle.tables.specs.Property.{placeOf};
+ghost use Rattle.tables.specs.Property.{placeOf, otherOf};
 ghost use Rattle.property_value.specs.Told.{toldValue, formOf};
-ghost use Rattle.properties.specs.Block.{propsRow, applied, filledAt, toldBlockAt};
+ghost use Rattle.properties.specs.Block.{saidOf, propsSaid, propsRow, applied, filledAt, toldBlockAt};
 
 // The properties, if there are any, and the index after the block; or the refusal.
 pub enum GotBlock {
@@ -31,9 +32,9 @@ pub enum GotBlock {
 }
 
 // One property more: 31 is a text and 11 a number wherever they stand, and the record keeps no other.
-fn apply(place: PropertyPlace, p: Properties, k: u8, v: Value) -> Properties
-    requires { ⌜ lookup (placeOf place) k ≡ some (formOf v) ⌝ }
-    ensures { λ r. ⌜ toldProperties r ≡ applied (propsRow (placeOf place)) (toldProperties p) (k, toldValue v) ⌝ }
+fn apply(place: OtherPlace, p: Properties, k: u8, v: Value) -> Properties
+    requires { ⌜ formAt (placeOf (otherOf place)) k ≡ some (formOf v) ⌝ }
+    ensures { λ r. ⌜ toldProperties r ≡ applied (propsRow (placeOf (otherOf place))) (toldProperties p) (k, toldValue v) ⌝ }
 {
     match v {
         Value::Text(x) => {
@@ -62,9 +63,30 @@ fn apply(place: PropertyPlace, p: Properties, k: u8, v: Value) -> Properties
     }
 }
 
+// Whether the single-valued property k is there.
+fn has(p: Properties, k: u8) -> bool
+    ensures { λ r. ⌜ r ≡ saidOf (propsSaid (toldProperties p)) k ⌝ }
+{
+    if k == 31 {
+        let value = p.reason_string;
+        return match value {
+            MaybeSpan::Present(_) => true,
+            MaybeSpan::Absent => false,
+        };
+    }
+    if k == 11 {
+        let value = p.id;
+        return match value {
+            MaybeU32::Present(_) => true,
+            MaybeU32::Absent => false,
+        };
+    }
+    false
+}
+
 // The block that stands at `block`, which ends where the slice does: no read goes past it (D2).
-fn fill(place: PropertyPlace, s: &[u8], block: Span) -> GotBlock
-    ensures { λ r. ⌜ toldBlockAt r ≡ filledAt (propsRow (placeOf place)) (now (s .entry)) (toldSpan block) ⌝ }
+pub fn fill(place: OtherPlace, s: &[u8], block: Span) -> GotBlock
+    ensures { λ r. ⌜ toldBlockAt r ≡ filledAt (propsRow (placeOf (otherOf place))) (now (s .entry)) (toldSpan block) ⌝ }
 {
     let mut p = Properties {
         reason_string: MaybeSpan::Absent,
@@ -73,7 +95,11 @@ fn fill(place: PropertyPlace, s: &[u8], block: Span) -> GotBlock
     };
     let mut at = block.start;
     while at < s.len() {
-        match property_value::read_property(place, s, at) {
+        let first = s[at];
+        if has(p, first) {
+            return GotBlock::Refused(Error::DuplicateProperty(first));
+        }
+        match property_value::read_property(property::as_place(place), s, at) {
             GotProperty::Found(k, v, next) => {
                 p = apply(place, p, k, v);
                 at = next;
@@ -87,8 +113,8 @@ fn fill(place: PropertyPlace, s: &[u8], block: Span) -> GotBlock
 }
 
 // The block of a place at index `at`: its L, and its properties; absent where L is 0.
-pub fn read_block(place: PropertyPlace, s: &[u8], at: usize) -> GotBlock
-    ensures { λ r. ⌜ toldBlockAt r ≡ fromAt (blockOf asPlaces (placeOf place) (propsAs asPlaces) (length (now (s .entry)))) (now (s .entry)) at ⌝ }
+pub fn read_block(place: OtherPlace, s: &[u8], at: usize) -> GotBlock
+    ensures { λ r. ⌜ toldBlockAt r ≡ fromAt (blockOf asPlaces (placeOf (otherOf place)) (propsAs asPlaces) (length (now (s .entry)))) (now (s .entry)) at ⌝ }
 {
     match block::read_room(s, at) {
         GotSpan::Refused(e) => GotBlock::Refused(e),

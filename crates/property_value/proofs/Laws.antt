@@ -5,25 +5,26 @@ use mathlib.Core.List.{List, [], _∷_}
 use Prim.Native.Nat.{ℕ, _-_, _<_}
 use native.Mathlib.Omega.{arith}
 use lib.ListN.{length, drop, length-drop}
-use Rattle.grammar.specs.Choice.{lookup}
-use Rattle.grammar.specs.Tables.{Form, u8, u16, u32, number, text, bytes, pair, Place}
+use Rattle.grammar.specs.Tables.{Form, u8, u16, u32, number, text, bytes, pair, Place, formAt}
 use Rattle.grammar.specs.Record.{Val, num, str, PropOf}
-use Rattle.grammar.specs.Sentence.{duoOf}
-use Rattle.reading.specs.Refusal.{Refusal, cut}
-use Rattle.reading.specs.Reader.{Fit, got, bad, Reader, _>>=_, mapOf, thenOf}
+use Rattle.grammar.specs.Sentence.{duoOf, notZero}
+use Rattle.reading.specs.Refusal.{Refusal, nr, cut}
+use Rattle.reading.specs.Reader.{Fit, got, bad, Reader, _>>=_, mapOf, onlyOf, thenOf}
 use Rattle.reading.specs.Read.{bigOf, byteOf, numOf, bytesOf, textOf, valueOf, valueAt, propertyOf}
 use Rattle.reading.specs.Place.{Span, asPlaces}
-use Rattle.reading.proofs.Reading.{bad-got, from-got, from-bind}
+use Rattle.reading.proofs.Reading.{bad-got, from-got, from-bind, reads-only}
+use Rattle.reading.proofs.Fields.{reads-num}
 use Rattle.reading.proofs.Refusing.{got-bad}
 use Rattle.positions.specs.Position.{fromAt, nextOr}
 use Rattle.positions.proofs.Less.{property-less}
-use Rattle.positions.proofs.Trails.{Trails, trails-map, trails-then, trails-byte, trails-big, trails-num, trails-bytes, trails-text, trails-property}
-use Rattle.positions.proofs.Position.{got-left, bad-left, left-bad}
+use Rattle.positions.proofs.Trails.{Trails, trails-reads, trails-map, trails-then, trails-byte, trails-big, trails-num, trails-bytes, trails-text, trails-property}
+use Rattle.positions.proofs.Position.{got-left, got-within, bad-left, left-at, left-bad}
+use borrow.Author.Tests.{ne-eqb}
 use Rattle.positions.proofs.Fill.{then-bad, map-bad, then-got, map-got}
 use Rattle.records.specs.Told.{toldError, toldSpan}
 use Rattle.records.specs.declared.error.Error.{Error}
 use Rattle.records.specs.declared.span.Span as records
-use Rattle.property_value.specs.Told.{toldValue, formOf, toldProperty, OfForm, ValueRead, PropertyRead, ValuePassed, PropertyPassed}
+use Rattle.property_value.specs.Told.{identifierOf, toldValue, formOf, toldProperty, OfForm, ValueRead, PropertyRead, ValuePassed, PropertyPassed}
 use Rattle.property_value.specs.declared.Value.{Value}
 use Rattle.property_value.specs.declared.Value.the-variants.{Pair}
 use Rattle.property_value.specs.declared.GotProperty.{GotProperty}
@@ -49,9 +50,9 @@ module _ (end : ℕ) where
   unfolding valueOf
   of-u32 = record { same = refl; trails = trails-big cut 4 }
 
-  pub of-number : Reader-of number num (numOf cut 4) end
+  pub of-number : Reader-of number num identifierOf end
   unfolding valueOf
-  of-number = record { same = refl; trails = trails-num cut 4 }
+  of-number = record { same = refl; trails = trails-reads (reads-only notZero (λ _. nr 23 []) (reads-num cut 4)) }
 
   pub of-text : Reader-of text str (textOf asPlaces end) end
   unfolding valueOf
@@ -64,6 +65,22 @@ module _ (end : ℕ) where
   pub of-pair : Reader-of pair duoOf (thenOf (textOf asPlaces end) (λ _. textOf asPlaces end)) end
   unfolding valueOf
   of-pair = record { same = refl; trails = trails-then (trails-text asPlaces end) (λ _. trails-text asPlaces end) }
+
+-- ---- a subscription identifier
+
+module _ (s : List ℕ) (at : ℕ) where
+  pub identifier-bad : (k : Refusal) → bad k ≡ fromAt (numOf cut 4) s at → bad k ≡ fromAt identifierOf s at
+  unfolding fromAt onlyOf
+  identifier-bad k e = rw (bad-left (numOf cut 4) s at k (sym e))
+
+  module _ (x n : ℕ) (e : got (x, n) ≡ fromAt (numOf cut 4) s at) where
+    pub identifier-zero : x ≡ 0 → bad (nr 23 []) ≡ fromAt identifierOf s at
+    unfolding fromAt onlyOf
+    identifier-zero z = rw (got-left (numOf cut 4) s at (trails-num cut 4) x n (sym e), z)
+
+    pub identifier-fine : (x ≡ 0 → ⊥) → got (x, n) ≡ fromAt identifierOf s at
+    unfolding onlyOf
+    identifier-fine z = sym (left-at identifierOf s at x n (rw (got-left (numOf cut 4) s at (trails-num cut 4) x n (sym e), ne-eqb x 0 z)) (got-within (numOf cut 4) s at (trails-num cut 4) x n (sym e)))
 
 -- the value with its identifier
 abbrev tagged : {A : Type 0} → (A → Val Span) → Reader A → ℕ → Reader (PropOf Span)
@@ -176,23 +193,23 @@ module _ (row : Place) (s : List ℕ) (at : ℕ) where
   past-none {k = k} h = record { says = ap (nextOr at) (property-bad k h) }
 
   module _ (k m : ℕ) (e : got (k, m) ≡ fromAt (byteOf cut) s at) where
-    property-next : fromAt (propertyOf asPlaces row (length s)) s at ≡ fromAt (valueAt asPlaces (lookup row k) k (length s)) s m
+    property-next : fromAt (propertyOf asPlaces row (length s)) s at ≡ fromAt (valueAt asPlaces (formAt row k) k (length s)) s m
     unfolding fromAt propertyOf
     property-next = rw (byte-cons (drop at s) k (drop m s) (got-left (byteOf cut) s at (trails-byte cut) k m (sym e)))
 
-    retyped : (r : GotProperty) → toldProperty r ≡ fromAt (valueAt asPlaces (lookup row k) k (length s)) s m → OfForm (λ _. lookup row k) r → OfForm (lookup row) r
-    retyped (Found j v n) h t = rw (value-id (lookup row k) k (length s) s m ((j, toldValue v), n) (sym h)) t
+    retyped : (r : GotProperty) → toldProperty r ≡ fromAt (valueAt asPlaces (formAt row k) k (length s)) s m → OfForm (λ _. formAt row k) r → OfForm (formAt row) r
+    retyped (Found j v n) h t = rw (value-id (formAt row k) k (length s) s m ((j, toldValue v), n) (sym h)) t
     retyped (Refused c) h t = tt
 
-    pub property-read : (o : Option Form) (r : GotProperty) → o ≡ lookup row k → ValueRead o k s m r → PropertyRead row s at r
+    pub property-read : (o : Option Form) (r : GotProperty) → o ≡ formAt row k → ValueRead o k s m r → PropertyRead row s at r
     property-read o r h v =
-        let w : ValueRead (lookup row k) k s m r = rw h at v in
+        let w : ValueRead (formAt row k) k s m r = rw h at v in
         record { says = w .says ∙ sym property-next; typed = retyped r (w .says) (w .typed) }
 
-    pub past-in : (i r : ℕ) (f : Form) → k ≡ i → lookup row i ≡ some f → ValuePassed f i s at m r → PropertyPassed row s at r
+    pub past-in : (i r : ℕ) (f : Form) → k ≡ i → formAt row i ≡ some f → ValuePassed f i s at m r → PropertyPassed row s at r
     past-in i r f j h v = record { says = v .says ∙ sym (ap (nextOr at) property-next ∙ rw (j, h)) }
 
-    pub past-out : lookup row k ≡ none → PropertyPassed row s at at
+    pub past-out : formAt row k ≡ none → PropertyPassed row s at at
     unfolding valueAt fromAt
     past-out h = record { says = sym (ap (nextOr at) property-next ∙ rw h) }
 

@@ -4,11 +4,12 @@ use mathlib.Core.Option.{Option, some}
 use mathlib.Core.List.{List, [], _∷_}
 use Prim.Native.Nat.{ℕ}
 use lib.ListN.{length}
-use Rattle.grammar.specs.Choice.{lookup}
 use Rattle.grammar.specs.Record.{Val, num, str, duo, PropOf}
 use Rattle.grammar.specs.Tables as tables
-use Rattle.reading.specs.Reader.{Fit, got, bad}
-use Rattle.reading.specs.Read.{valueAt, propertyOf}
+use Rattle.reading.specs.Reader.{Fit, got, bad, Reader, onlyOf}
+use Rattle.reading.specs.Read.{numOf, valueAt, propertyOf}
+use Rattle.reading.specs.Refusal.{nr, cut}
+use Rattle.grammar.specs.Sentence.{notZero}
 use Rattle.reading.specs.Place.{asPlaces}
 use Rattle.reading.specs.Place as place
 use Rattle.positions.specs.Position.{fromAt, nextOr}
@@ -43,6 +44,10 @@ abbrev pub toldProperty : GotProperty → Fit (PropOf place.Span × ℕ)
 toldProperty (Found k v n) = got ((k, toldValue v), n)
 toldProperty (Refused e) = bad (toldError e)
 
+-- 02, P9: "Property 11 with value 0 gets SubscriptionIdZero, after the number is read"
+abbrev pub identifierOf : Reader ℕ
+identifierOf = onlyOf notZero (λ _. nr 23 []) (numOf cut 4)
+
 -- where a value v is found with identifier k, it has the form that f gives k: so two forms that tell the same, as u8 and u16, are told apart
 abbrev pub OfForm : (ℕ → Option tables.Form) → GotProperty → Type 0
 OfForm f (Found k v n) = f k ≡ some (formOf v)
@@ -56,11 +61,11 @@ pub record ValueRead (o : Option tables.Form) (k : ℕ) (s : List ℕ) (at : ℕ
 -- the property at index `at` of s, in the row of a kind of packet
 pub record PropertyRead (row : tables.Place) (s : List ℕ) (at : ℕ) (r : GotProperty) : Type 0 where
   pub says : toldProperty r ≡ fromAt (propertyOf asPlaces row (length s)) s at
-  pub typed : OfForm (lookup row) r
+  pub typed : OfForm (tables.formAt row) r
 
 -- 01, grammar: "38, and 11 in Publish, are lists kept in order": their entries in row Publish
 abbrev pub publishLists : tables.Place
-publishLists = (38, tables.pair) ∷ (11, tables.number) ∷ []
+publishLists = record { row = (38, tables.pair) ∷ (11, tables.number) ∷ []; lists = 38 ∷ 11 ∷ [] }
 
 -- the index after a value of the form f at `start`; `at` if none stands there
 pub record ValuePassed (f : tables.Form) (k : ℕ) (s : List ℕ) (at start r : ℕ) : Type 0 where

@@ -12,10 +12,13 @@ use tables::property::PropertyPlace;
 use var_length;
 use wire::got::GotSpan;
 use wire::string;
+ghost use mathlib.Core.Path.{_≡_};
 ghost use mathlib.Core.Option.{some};
 ghost use Rattle.grammar.specs.Tables.{number, pair};
+ghost use Rattle.positions.specs.Position.{fromAt};
+ghost use Rattle.numbers.specs.Told.{toldGotU32};
 ghost use Rattle.tables.specs.Property.{placeOf, toldForm};
-ghost use Rattle.property_value.specs.Told.{ValueRead, PropertyRead, publishLists, ValuePassed, PropertyPassed};
+ghost use Rattle.property_value.specs.Told.{identifierOf, ValueRead, PropertyRead, publishLists, ValuePassed, PropertyPassed};
 
 // A value, by its form.
 pub enum Value {
@@ -47,6 +50,21 @@ fn read_pair(k: u8, s: &[u8], at: usize) -> GotProperty
     }
 }
 
+// The number of a subscription identifier, which is not 0.
+fn read_identifier(s: &[u8], at: usize) -> GotU32
+    ensures { λ r. ⌜ toldGotU32 r ≡ fromAt identifierOf (now (s .entry)) at ⌝ }
+{
+    match var_length::read_length(s, at) {
+        GotU32::Refused(e) => GotU32::Refused(e),
+        GotU32::Value(x, n) => {
+            if x == 0 {
+                return GotU32::Refused(Error::SubscriptionIdZero);
+            }
+            GotU32::Value(x, n)
+        }
+    }
+}
+
 // The value of property k, which has this form.
 fn read_value(form: PropertyForm, k: u8, s: &[u8], at: usize) -> GotProperty
     ensures { λ r. ⌜ ValueRead (toldForm form) k (now (s .entry)) at r ⌝ }
@@ -64,7 +82,7 @@ fn read_value(form: PropertyForm, k: u8, s: &[u8], at: usize) -> GotProperty
             GotU32::Value(x, n) => GotProperty::Found(k, Value::U32(x), n),
             GotU32::Refused(e) => GotProperty::Refused(e),
         },
-        PropertyForm::Number => match var_length::read_length(s, at) {
+        PropertyForm::Number => match read_identifier(s, at) {
             GotU32::Value(x, n) => GotProperty::Found(k, Value::Number(x), n),
             GotU32::Refused(e) => GotProperty::Refused(e),
         },
@@ -111,7 +129,7 @@ fn pass_pair(s: &[u8], at: usize, start: usize) -> usize
 fn pass_number(s: &[u8], at: usize, start: usize) -> usize
     ensures { λ r. ⌜ ValuePassed number 11 (now (s .entry)) at start r ⌝ }
 {
-    match var_length::read_length(s, start) {
+    match read_identifier(s, start) {
         GotU32::Refused(_) => at,
         GotU32::Value(_, n) => n,
     }

@@ -10,7 +10,7 @@ use Rattle.reading.specs.Refusal.{nr}
 use Rattle.reading.specs.Reader.{Fit, got, bad, _>>_}
 use Rattle.writing.specs.Lists.{flat}
 use Rattle.writing.specs.Handed.{PublishHanded, publish, lent, several, strings, rowBelongs, belongs}
-use Rattle.writing.specs.Order.{judge, raw, word, fieldTests, givenFields, fieldsOf, small}
+use Rattle.writing.specs.Order.{judge, raw, word, fieldTests, givenFields, fieldsOf, numberTests}
 use Rattle.writing.proofs.Tests.{eq-when, eq-not}
 use Rattle.writing.proofs.ForCode.{publish-belongs, judge-if, publish-tests}
 use Rattle.rows.specs.Given.{givenU8, givenU16, givenU32, givenLent, givenPairs}
@@ -85,5 +85,5 @@ module _ (h : PublishHanded) {q : ℕ} {t : Bool} (e : q ≡ h .qos) (f : t ≡ 
   pub late-unnamed : t ≡ false → bad (nr 12 []) ≡ lateOf (publish h)
   late-unnamed g = rw (← e, ← f, g)
 
-  pub late-named : t ≡ true → {x : Fit (Unit {0})} → x ≡ judge (map small (h .subscriptions)) → x ≡ lateOf (publish h)
-  late-named g i = i ∙ rw (← e, ← f, g) (sym (then-none (judge (map small (h .subscriptions)))))
+  pub late-named : t ≡ true → {x : Fit (Unit {0})} → x ≡ judge (flat numberTests (h .subscriptions)) → x ≡ lateOf (publish h)
+  late-named g i = i ∙ rw (← e, ← f, g) (sym (then-none (judge (flat numberTests (h .subscriptions)))))

@@ -1,4 +1,4 @@
-// The properties of a Publish, after `PublishProperties::read` of publish.rs. Of a property given twice the last counts; the lists are
+// The properties of a Publish, after `PublishProperties::read` of publish.rs. A single-valued property given twice is refused; the lists are
 // left in the block, and the record keeps where it stands.
 use properties::block;
 use property_value::GotProperty;
@@ -17,8 +17,7 @@ ghost use mathlib.Core.Path.{_≡_};
 ghost use mathlib.Core.Option.{some};
 ghost use mathlib.Core.List.{[]};
 ghost use lib.ListN.{length};
-ghost use Rattle.grammar.specs.Choice.{lookup};
-ghost use Rattle.grammar.specs.Tables.{publishPlace};
+ghost use Rattle.grammar.specs.Tables.{publishPlace, formAt};
 ghost use Rattle.grammar.specs.Record.{num, str};
 ghost use Rattle.reading.specs.Read.{blockOf, publishAs};
 ghost use Rattle.reading.specs.Place.{asPlaces};
@@ -76,7 +75,7 @@ fn none(block: Span) -> Singles
 
 // One property more.
 fn apply(p: Singles, k: u8, v: Value) -> Singles
-    requires { ⌜ lookup publishPlace k ≡ some (formOf v) ⌝ }
+    requires { ⌜ formAt publishPlace k ≡ some (formOf v) ⌝ }
     ensures { λ r. ⌜ toldSingles r ≡ applied publishRow (toldSingles p) (k, toldValue v) ⌝ }
 {
     match v {
@@ -116,6 +115,21 @@ fn apply(p: Singles, k: u8, v: Value) -> Singles
             ..p
         },
         Value::Pair(_, _) => p,
+    }
+}
+
+// Whether the single-valued property k is there.
+fn has(p: Singles, k: u8) -> bool
+    ensures { λ r. ⌜ r ≡ publishRow .has (toldSingles p) k ⌝ }
+{
+    match k {
+        1 => p.has_format,
+        2 => p.has_expiry,
+        35 => p.has_alias,
+        8 => p.has_response,
+        9 => p.has_correlation,
+        3 => p.has_content,
+        0 | 4..=7 | 10..=34 | 36..=255 => false,
     }
 }
 
@@ -179,7 +193,7 @@ fn made(p: Singles) -> PublishProperties
 }
 
 // The block that stands at `block`, which ends where the slice does: no read goes past it (D2).
-fn fill(s: &[u8], block: Span) -> GotPublishBlock
+pub fn fill(s: &[u8], block: Span) -> GotPublishBlock
     ensures { λ r. ⌜ toldPublishBlockAt r ≡ filledAt publishRow (now (s .entry)) (toldSpan block) ⌝ }
 {
     let mut p = none(block);
@@ -189,6 +203,10 @@ fn fill(s: &[u8], block: Span) -> GotPublishBlock
         if past != at {
             at = past;
         } else {
+            let first = s[at];
+            if has(p, first) {
+                return GotPublishBlock::Refused(Error::DuplicateProperty(first));
+            }
             match property_value::read_property(PropertyPlace::Publish, s, at) {
                 GotProperty::Found(k, v, next) => {
                     p = apply(p, k, v);

@@ -12,19 +12,19 @@ use Rattle.grammar.specs.Choice.{isIn, lookup, isEmpty}
 use Rattle.grammar.specs.Gram.{Gram, done, more, Many, Solid}
 use Rattle.grammar.specs.Number.{shortest}
 use Rattle.grammar.specs.Text.{Utf8}
-use Rattle.grammar.specs.Tables.{Form, u8, u16, u32, number, text, bytes, pair, Place, publishPlace, subscribePlace, ackPlace, unsubscribePlace, Layout, aPublish, anAck, aSubscribe, aReply, anUnsubscribe, aPing, kinds, reserved, isPing}
+use Rattle.grammar.specs.Tables.{Form, u8, u16, u32, number, text, bytes, pair, Place, publishPlace, subscribePlace, ackPlace, unsubscribePlace, Layout, aPublish, anAck, aSubscribe, aReply, anUnsubscribe, aPing, kinds, reserved, isPing, formAt}
 use Rattle.grammar.specs.Record.{num, str, kindOf, flagQos, mkPublish, mkAck, mkFilter, mkSubscribe, mkReply, mkUnsubscribe, mkPing}
-use Rattle.grammar.specs.Sentence.{Text, Prop, duoOf, Block, propsIf, notThree, notZero, qosFine, ruleFine, someOf, ReasonOf, Packet}
+use Rattle.grammar.specs.Sentence.{Text, Prop, duoOf, met, Block, propsIf, notThree, notZero, qosFine, ruleFine, someOf, ReasonOf, Packet}
 use Rattle.reading.specs.Refusal.{Refusal, nr, Answer, cut, crossed, lacking, passes, exceeds}
-use Rattle.reading.specs.Fault.{Fault, Sound, NumFault, ManyFault, ExactFault, BytesFault, TextFault, ValueFault, PropertyFault, noId, unknown, value, BlockFault, AckFault, reason, block, IdentFault, FilterFault, SomeFault, noEntry, entry, FiltersFault, ReasonFault, MessageFault, PublishFault, qos, fields, FieldsFault, BodyFault, kind, noBytes, foreign, content, FrameFault, Passing, Verdict, says, breaks, noFrame}
+use Rattle.reading.specs.Fault.{Fault, Sound, NumFault, ManyFault, ExactFault, BytesFault, TextFault, ValueFault, OnceFault, PropertyFault, noId, unknown, value, BlockFault, AckFault, reason, block, IdentFault, FilterFault, SomeFault, noEntry, entry, FiltersFault, ReasonFault, MessageFault, PublishFault, qos, fields, FieldsFault, BodyFault, kind, noBytes, foreign, content, FrameFault, Passing, Verdict, says, breaks, noFrame}
 use Rattle.reading.specs.Reader.{Fit, got, bad, Reader, isFit, onlyFit, exactFit, runFit, chainFit, manyFit}
-use Rattle.reading.specs.Read.{numOf, identOf, isText, anyBytes, asBytes, someFit, reasonsFit, frameOf, bodyAnswer, stringFit, bytesOf, textOf, valueOf, valueAt, propertyOf, propertiesFit, blockOf, publishAs, propsAs, ackBlockFit, ackRestFit, filterOf, filtersFit, topicsFit, messageFit, fieldsFit, layoutFit, bodyFit, wholeAnswer, frameAnswer, readAs, readOf}
+use Rattle.reading.specs.Read.{numOf, identOf, isText, anyBytes, asBytes, someFit, reasonsFit, frameOf, bodyAnswer, stringFit, bytesOf, textOf, valueOf, valueAt, propertyOf, onceOf, propertiesFit, blockOf, publishAs, propsAs, ackBlockFit, ackRestFit, filterOf, filtersFit, topicsFit, messageFit, fieldsFit, layoutFit, bodyFit, wholeAnswer, frameAnswer, readAs, readOf}
 use Rattle.reading.proofs.Lists.{none-left}
 use Rattle.reading.proofs.Reading.{Reads, reads-only, fills-many}
-use Rattle.reading.proofs.Fields.{reads-byte, reads-big, reads-groups, reads-num, text-fine, reads-bytes, reads-text, reads-property, property-solid}
+use Rattle.reading.proofs.Fields.{reads-byte, reads-big, reads-groups, reads-num, text-fine, reads-bytes, reads-text, reads-property, reads-once, once-solid}
 use Rattle.reading.proofs.Packets.{reads-props, reads-ident, reads-filter, filter-solid, reads-publish-block, reason-solid, text-solid, kind-fine, fills-body}
 use Rattle.reading.proofs.Demand.{reads-length, reads-frame, whole-answer}
-use Rattle.reading.proofs.Refusing.{got-bad, of-bind, of-guard, RefusesBy, refuses-byte, refuses-big, refuses-groups, refuses-none, refuses-map, refuses-fit, refuses-hand, refuses-then, refuses-end, refuses-only, refuses-by, refuses-exact, refuses-many, refuses-sized, refuses-is}
+use Rattle.reading.proofs.Refusing.{got-bad, of-bind, of-guard, RefusesBy, refuses-byte, refuses-big, refuses-groups, refuses-none, refuses-map, refuses-fit, refuses-hand, refuses-then, refuses-end, refuses-only, refuses-by, refuses-exact, refuses-chain, refuses-many, refuses-head, refuses-sized, refuses-is}
 
 -- ---- strings and properties
 
@@ -50,13 +50,13 @@ unfolding valueOf
 refuses-value u8 end = refuses-map (refuses-byte cut) num
 refuses-value u16 end = refuses-map (refuses-big cut 2) num
 refuses-value u32 end = refuses-map (refuses-big cut 4) num
-refuses-value number end = refuses-map (refuses-num cut 4) num
+refuses-value number end = refuses-map (refuses-only (refuses-num cut 4) (reads-num cut 4) notZero (λ _. nr 23 [])) num
 refuses-value text end = refuses-map (refuses-text end) str
 refuses-value bytes end = refuses-map (refuses-bytes end) str
 refuses-value pair end = refuses-map (refuses-then (refuses-text end) (reads-text end) (refuses-text end)) duoOf
 
 module _ (place : Place) (end : ℕ) where
-  kind-fault : (i : ℕ) (s : List ℕ) (k : Refusal) (o : Option Form) → lookup place i ≡ o → valueAt asBytes o i end s ≡ bad k → PropertyFault place (i ∷ s) k
+  kind-fault : (i : ℕ) (s : List ℕ) (k : Refusal) (o : Option Form) → formAt place i ≡ o → valueAt asBytes o i end s ≡ bad k → PropertyFault place (i ∷ s) k
   unfolding valueAt
   kind-fault i s k none e h = subst (PropertyFault place (i ∷ s)) (cc) (unknown e)
   kind-fault i s k (some t) e h = of-bind (valueOf asBytes t end s) _ k (λ e′. value e (refuses-value t end .fault s k e′)) (λ y e′ e″. got-bad e″) h
@@ -64,7 +64,7 @@ module _ (place : Place) (end : ℕ) where
   property-fault : (s : List ℕ) (k : Refusal) → propertyOf asBytes place end s ≡ bad k → PropertyFault place s k
   unfolding propertyOf
   property-fault [] k e = subst (PropertyFault place []) (cc) noId
-  property-fault (i ∷ s) k e = kind-fault i s k (lookup place i) refl e
+  property-fault (i ∷ s) k e = kind-fault i s k (formAt place i) refl e
 
   property-refuse : (s : List ℕ) (k : Refusal) → PropertyFault place s k → propertyOf asBytes place end s ≡ bad k
   unfolding propertyOf valueAt
@@ -75,9 +75,13 @@ module _ (place : Place) (end : ℕ) where
   refuses-property : RefusesBy (propertyOf asBytes place end) (PropertyFault place)
   refuses-property = record { fault = property-fault; refuse = property-refuse }
 
+refuses-once : (place : Place) (end : ℕ) (σ : List ℕ) → RefusesBy (onceOf asBytes place end σ) (OnceFault place σ)
+unfolding onceOf
+refuses-once place end σ = refuses-head (refuses-property place end) (λ i. not (isIn i σ)) (λ i. nr 22 (i ∷ []))
+
 refuses-block : {A : Type 0} (place : Place) (f : List Prop → List ℕ → ℕ → A) (end : ℕ) → RefusesBy (blockOf asBytes place f end) (BlockFault place)
 unfolding blockOf propertiesFit
-refuses-block place f = refuses-sized crossed (reads-num cut 4) (refuses-num cut 4) (refuses-hand f (λ e. refuses-many (refuses-property place e) (reads-property place e) (property-solid place)))
+refuses-block place f = refuses-sized crossed (reads-num cut 4) (refuses-num cut 4) (refuses-hand f (λ e. refuses-chain (met place) (refuses-once place e) (reads-once place e) (once-solid place) []))
 
 -- ---- bodies
 

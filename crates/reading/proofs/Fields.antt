@@ -1,6 +1,6 @@
 -- The readers of numbers, strings and properties read their grammars. Assumes nothing.
 use mathlib.Core.Path.{_≡_, refl, ap}
-use mathlib.Core.Bool.{Bool, true, false, false≢true}
+use mathlib.Core.Bool.{Bool, true, false, not, false≢true}
 use mathlib.Core.Option.{Option, none, some}
 use mathlib.Core.List.{List, [], _∷_, _++_}
 use Prim.Native.Nat.{ℕ, zero, suc, _+_, _-_, _*_}
@@ -10,18 +10,18 @@ use lib.Seq.{take-at, drop-at, length-take-le}
 use lib.Dec.{leb, ltb, leb→le, ltb→lt}
 use mathlib.Core.Logic.{_↔_}
 use borrow.Author.Tests.{le-leb, lt-ltb, ltb-false, le-ltb}
-use Rattle.grammar.specs.Choice.{lookup}
-use Rattle.grammar.specs.Gram.{OnlyBy, Many, Is, Solid}
+use Rattle.grammar.specs.Choice.{isIn}
+use Rattle.grammar.specs.Gram.{Only, OnlyBy, Many, Is, Solid}
 use Rattle.grammar.specs.Number.{Byte, byte, bigFrom, Big, big, Groups, last, next, shortest}
 use Rattle.grammar.specs.Text.{Range, inRange, rows, rowAt, cons, Follow, Rest, Char, Utf8}
-use Rattle.grammar.specs.Tables.{Form, u8, u16, u32, number, text, bytes, pair, Place}
+use Rattle.grammar.specs.Tables.{Form, u8, u16, u32, number, text, bytes, pair, Place, formAt}
 use Rattle.grammar.specs.Record.{num, str}
-use Rattle.grammar.specs.Sentence.{Any, Bytes, Text, Prop, duoOf, Spelt, Property, property, Block}
+use Rattle.grammar.specs.Sentence.{Any, Bytes, Text, Prop, duoOf, notZero, Spelt, Property, property, met, fresh, Properties, Block}
 use Rattle.reading.specs.Refusal.{Refusal, nr, cut, crossed}
 use Rattle.reading.specs.Reader.{Fit, got, bad, manyFit, isGot}
-use Rattle.reading.specs.Read.{bigOf, byteOf, groupOf, groupsOf, numOf, followOf, restOf, charOf, isText, anyBytes, asBytes, stringFit, bytesOf, textOf, valueOf, valueAt, propertyOf, propertiesFit, blockOf}
+use Rattle.reading.specs.Read.{bigOf, byteOf, groupOf, groupsOf, numOf, followOf, restOf, charOf, isText, anyBytes, asBytes, stringFit, bytesOf, textOf, valueOf, valueAt, propertyOf, onceOf, propertiesFit, blockOf}
 use Rattle.reading.proofs.Lists.{T-of}
-use Rattle.reading.proofs.Reading.{bad-got, from-got, from-bind, from-guard, Cut, Reads, Fills, reads-none, reads-map, reads-only, reads-by, reads-then, reads-sized, fills-hand, fills-as, fills-many, fills-is, reads-never, solid-map, solid-then, solid-sized, solid-by}
+use Rattle.reading.proofs.Reading.{bad-got, from-got, from-bind, from-guard, Cut, Reads, Fills, reads-none, reads-map, reads-only, reads-by, Heads, reads-head, reads-then, reads-sized, fills-hand, fills-as, fills-iff, fills-chain, chain-only, fills-many, fills-is, reads-never, solid-map, solid-then, solid-sized, solid-only, solid-by}
 
 -- ---- numbers
 
@@ -142,7 +142,7 @@ unfolding valueOf
 reads-value u8 end = reads-map num (reads-byte cut)
 reads-value u16 end = reads-map num (reads-big cut 2)
 reads-value u32 end = reads-map num (reads-big cut 4)
-reads-value number end = reads-map num (reads-num cut 4)
+reads-value number end = reads-map num (reads-only notZero (λ _. nr 23 []) (reads-num cut 4))
 reads-value text end = reads-map str (reads-text end)
 reads-value bytes end = reads-map str (reads-bytes end)
 reads-value pair end = reads-map duoOf (reads-then (reads-text end) (λ _. reads-text end))
@@ -154,7 +154,7 @@ module _ (place : Place) (end : ℕ) where
   unfolding propertyOf valueAt
   property-whole _ _ r (property {f = k} {v = v} {b = b} e g) = rw (e, reads-value k end .whole v b r g)
 
-  value-split : (i : ℕ) (s : List ℕ) (k : Option Form) → lookup place i ≡ k → (z : Prop × List ℕ) → valueAt asBytes k i end s ≡ got z → Cut (Property place) (i ∷ s) z
+  value-split : (i : ℕ) (s : List ℕ) (k : Option Form) → formAt place i ≡ k → (z : Prop × List ℕ) → valueAt asBytes k i end s ≡ got z → Cut (Property place) (i ∷ s) z
   unfolding valueAt
   value-split i s none e = λ z e′. absurd (bad-got e′)
   value-split i s (some k) e = from-bind (valueOf asBytes k end s) (λ y. got ((i, y .0), y .1)) λ y e₁.
@@ -164,7 +164,7 @@ module _ (place : Place) (end : ℕ) where
   property-split : (s : List ℕ) (z : Prop × List ℕ) → propertyOf asBytes place end s ≡ got z → Cut (Property place) s z
   unfolding propertyOf
   property-split [] = λ z e. absurd (bad-got e)
-  property-split (i ∷ s) = value-split i s (lookup place i) refl
+  property-split (i ∷ s) = value-split i s (formAt place i) refl
 
   pub reads-property : Reads (propertyOf asBytes place end) (Property place)
   reads-property = record { whole = property-whole; split = property-split }
@@ -172,9 +172,20 @@ module _ (place : Place) (end : ℕ) where
 pub property-solid : (place : Place) → Solid (Property place)
 property-solid place _ _ (property e g) h = let z : _≡_ {A = ℕ} 0 1 = cc in omega arith
 
-pub fills-properties : (place : Place) (end : ℕ) → Fills (propertiesFit asBytes place end) (Many (Property place))
+-- 02, P9: a property that is not met a second time
+property-heads : (place : Place) (σ : List ℕ) → Heads (λ i. not (isIn i σ)) (fresh σ) (Property place)
+property-heads place σ _ _ (property {i = i} {b = b} e g) = (i, b, refl, refl)
+
+pub reads-once : (place : Place) (end : ℕ) (σ : List ℕ) → Reads (onceOf asBytes place end σ) (Only (fresh σ) (Property place))
+unfolding onceOf
+reads-once place end σ = reads-head (λ i. not (isIn i σ)) (fresh σ) (λ i. nr 22 (i ∷ [])) (property-heads place σ) (reads-property place end)
+
+pub once-solid : (place : Place) (σ : List ℕ) → Solid (Only (fresh σ) (Property place))
+once-solid place σ = solid-only (fresh σ) (property-solid place)
+
+pub fills-properties : (place : Place) (end : ℕ) → Fills (propertiesFit asBytes place end) (Properties place)
 unfolding propertiesFit
-fills-properties place end = fills-many (reads-property place end) (property-solid place)
+fills-properties place end = fills-iff (chain-only (met place) fresh []) (fills-chain (met place) (reads-once place end) (once-solid place) [])
 
 module _ {A : Type 0} (place : Place) where
   pub reads-block : (f : List Prop → List ℕ → ℕ → A) (f′ : List Prop → A) → ((ps : List Prop) (b : List ℕ) (e : ℕ) → f ps b e ≡ f′ ps)

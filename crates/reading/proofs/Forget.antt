@@ -11,7 +11,7 @@ use borrow.Author.Tests.{le-leb}
 use Rattle.grammar.specs.Choice.{isEmpty}
 use Rattle.grammar.specs.Gram.{Gram, forget}
 use Rattle.reading.specs.Refusal.{Refusal}
-use Rattle.reading.specs.Reader.{Fit, got, bad, Reader, Filler, _>>=_, _>>_, guard, mapOf, thenOf, sizedOf, mapFit, handFit, onlyFit, thenFit, exactFit, runFit, chainFit, manyFit}
+use Rattle.reading.specs.Reader.{Fit, got, bad, Reader, Filler, _>>=_, _>>_, guard, mapOf, headOf, thenOf, sizedOf, mapFit, handFit, onlyFit, thenFit, exactFit, runFit, chainFit, manyFit}
 use Rattle.reading.specs.Place.{spanOf, partOf, heldOf}
 use Rattle.reading.proofs.Lists.{T-of}
 use Rattle.reading.proofs.Reading.{Reads}
@@ -155,19 +155,33 @@ module _ {s : List ℕ} {end : ℕ} where
       unfolding thenFit
       drops-then {q = q} {q′ = q′} H = record { like = then-like q q′ (λ a u. (a, u)) (λ b v. (b, v)) (H .like) (λ a b u v r h. (r, h)) }
 
-  module _ {A A′ : Type 0} {f : A → A′} {p : Reader A} {p′ : Reader A′} (F : Forgets s end (Via f) p p′) {G : Gram A′} (T : Reads p′ G) where
-    run-like : (φ l : List ℕ) → Stands s end l → Like (Via (map f)) (runFit forget (λ _. p) tt φ l) (runFit forget (λ _. p′) tt φ l)
+  -- one after the other, where both sum up the same
+  module _ {S A A′ : Type 0} {f : A → A′} (step : S → A → S) (step′ : S → A′ → S) {p : S → Reader A} {p′ : S → Reader A′}
+      (E : (σ : S) (a : A) → step σ a ≡ step′ σ (f a)) (F : (σ : S) → Forgets s end (Via f) (p σ) (p′ σ)) {G : S → Gram A′} (T : (σ : S) → Reads (p′ σ) (G σ)) where
+    run-like : (σ : S) (φ l : List ℕ) → Stands s end l → Like (Via (map f)) (runFit step p σ φ l) (runFit step′ p′ σ φ l)
     unfolding runFit
-    run-like [] [] w = gots refl
-    run-like [] (x ∷ l) w = bads
-    run-like (y ∷ φ) [] w = gots refl
-    run-like (y ∷ φ) (x ∷ l) w = like-bind (p (x ∷ l)) (p′ (x ∷ l)) _ _ (F .like (x ∷ l) w) λ u v i j r.
-        rw (r .1) (like-bind (runFit forget (λ _. p) tt φ (v .1)) (runFit forget (λ _. p′) tt φ (v .1)) _ _ (run-like φ (v .1) (left F T (x ∷ l) v w j)) λ us vs _ _ h.
+    run-like σ [] [] w = gots refl
+    run-like σ [] (x ∷ l) w = bads
+    run-like σ (y ∷ φ) [] w = gots refl
+    run-like σ (y ∷ φ) (x ∷ l) w = like-bind (p σ (x ∷ l)) (p′ σ (x ∷ l)) _ _ (F σ .like (x ∷ l) w) λ u v i j r.
+        let n : step σ (u .0) ≡ step′ σ (v .0) = E σ (u .0) ∙ ap (step′ σ) (r .0) in
+        rw (n, r .1) (like-bind (runFit step p (step′ σ (v .0)) φ (v .1)) (runFit step′ p′ (step′ σ (v .0)) φ (v .1)) _ _ (run-like (step′ σ (v .0)) φ (v .1) (left (F σ) (T σ) (x ∷ l) v w j)) λ us vs _ _ h.
         gots (rw (r .0, h)))
 
-    pub drops-many : Drops s end (Via (map f)) (manyFit p) (manyFit p′)
+    pub drops-chain : (σ : S) → Drops s end (Via (map f)) (chainFit step p σ) (chainFit step′ p′ σ)
     unfolding chainFit
-    drops-many = record { like = λ l w. run-like l l w }
+    drops-chain σ = record { like = λ l w. run-like σ l l w }
+
+  pub drops-many : {A A′ : Type 0} {f : A → A′} {p : Reader A} {p′ : Reader A′} → Forgets s end (Via f) p p′ → {G : Gram A′} → Reads p′ G → Drops s end (Via (map f)) (manyFit p) (manyFit p′)
+  drops-many F T = drops-chain forget forget (λ _ _. refl) (λ _. F) (λ _. T) tt
+
+  pub forgets-head : {A A′ : Type 0} {R : A → A′ → Type 0} {p : Reader A} {p′ : Reader A′} → Forgets s end R p p′ → (t : ℕ → Bool) (k : ℕ → Refusal) → Forgets s end R (headOf t k p) (headOf t k p′)
+  unfolding headOf
+  forgets-head {R = R} {p = p} {p′ = p′} F t k = record { like = go }
+    where
+      go : (l : List ℕ) → Stands s end l → Like (First R) (headOf t k p l) (headOf t k p′ l)
+      go [] w = F .like [] w
+      go (i ∷ l) w = like-guard (t i) (k i) (p (i ∷ l)) (p′ (i ∷ l)) λ _. F .like (i ∷ l) w
 
   module _ {A A′ : Type 0} {R : A → A′ → Type 0} {q : Filler A} {q′ : Filler A′} (F : Drops s end R q q′) where
     pub drops-map : {B B′ : Type 0} {Q : B → B′ → Type 0} (g : A → B) (g′ : A′ → B′) → ((a : A) (b : A′) → R a b → Q (g a) (g′ b)) → Drops s end Q (mapFit g q) (mapFit g′ q′)

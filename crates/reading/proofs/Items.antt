@@ -12,7 +12,7 @@ use lib.Seq.{length-take-le}
 use Rattle.grammar.specs.Gram.{Gram, Only, Many}
 use Rattle.grammar.specs.Tables.{Place, publishPlace, subscribePlace, ackPlace, unsubscribePlace, reasonsOf}
 use Rattle.grammar.specs.Record.{PropOf, allOf, PublishProps, Props, Filter, publish, ack, subscribe, reply, unsubscribe, ping}
-use Rattle.grammar.specs.Sentence.{Value, Prop, Text, Property, FilterOf, ReasonOf, someOf, Packet}
+use Rattle.grammar.specs.Sentence.{Value, Prop, Text, Properties, FilterOf, ReasonOf, someOf, Packet}
 use Rattle.reading.specs.Refusal.{Refusal, nr, accepted}
 use Rattle.reading.specs.Reader.{Fit, got, bad, Filler, _>>=_, _>>_, guard}
 use Rattle.reading.specs.Read.{Shape, asBytes, reasonsFit, propertiesFit, filtersFit, topicsFit, readOf}
@@ -130,16 +130,16 @@ bind-iff {A = A} {B = B} m f z = (from-bind {C = λ (y : B). (a : A) × (m ≡ g
 
 module _ (s : List ℕ) (p : Span) (n : ℕ) where
   nth-iff : (place : Place) (i : ℕ) (v : Value) → ((valuesAt asBytes s p place i >>= nthOf n) ≡ got v)
-      ↔ ((ps : List Prop) × (p .start + p .len ≤ length s) × Many (Property place) ps (partOf s p) × (nthOf n (allOf i ps) ≡ got v))
+      ↔ ((ps : List Prop) × (p .start + p .len ≤ length s) × Properties place ps (partOf s p) × (nthOf n (allOf i ps) ≡ got v))
   unfolding valuesAt
   nth-iff place i v = (
-    from-bind {C = λ (y : Value). (ps : List Prop) × (p .start + p .len ≤ length s) × Many (Property place) ps (partOf s p) × (nthOf n (allOf i ps) ≡ got y)}
+    from-bind {C = λ (y : Value). (ps : List Prop) × (p .start + p .len ≤ length s) × Properties place ps (partOf s p) × (nthOf n (allOf i ps) ≡ got y)}
         (valuesAt asBytes s p place i) (nthOf n) (from-values place i) v,
     λ (ps, h, g, e). rw (block-iff place s p ps .1 (h, g)) e,
   )
     where
       from-values : (place : Place) (i : ℕ) (vs : List Value) → valuesAt asBytes s p place i ≡ got vs → (y : Value) → nthOf n vs ≡ got y
-          → (ps : List Prop) × (p .start + p .len ≤ length s) × Many (Property place) ps (partOf s p) × (nthOf n (allOf i ps) ≡ got y)
+          → (ps : List Prop) × (p .start + p .len ≤ length s) × Properties place ps (partOf s p) × (nthOf n (allOf i ps) ≡ got y)
       from-values place i vs e y e′ =
           let (ps, a, b) = bind-iff (again (propertiesFit asBytes place) s p) _ vs .0 e in
           let (h, g) = block-iff place s p ps .0 a in
@@ -147,12 +147,12 @@ module _ (s : List ℕ) (p : Span) (n : ℕ) where
 
   -- an n-th user property is given exactly when the place is a well-formed block of the row, of the bytes, that has so many
   pub user-iff : (place : Place) (v : Value) → (userAt asBytes s p place n ≡ got v)
-      ↔ ((ps : List Prop) × (p .start + p .len ≤ length s) × Many (Property place) ps (partOf s p) × (nthOf n (allOf 38 ps) ≡ got v))
+      ↔ ((ps : List Prop) × (p .start + p .len ≤ length s) × Properties place ps (partOf s p) × (nthOf n (allOf 38 ps) ≡ got v))
   unfolding userAt
   user-iff place v = nth-iff place 38 v
 
   pub subscription-iff : (v : Value) → (subscriptionAt asBytes s p n ≡ got v)
-      ↔ ((ps : List Prop) × (p .start + p .len ≤ length s) × Many (Property publishPlace) ps (partOf s p) × (nthOf n (allOf 11 ps) ≡ got v))
+      ↔ ((ps : List Prop) × (p .start + p .len ≤ length s) × Properties publishPlace ps (partOf s p) × (nthOf n (allOf 11 ps) ≡ got v))
   unfolding subscriptionAt
   subscription-iff v = nth-iff publishPlace 11 v
 

@@ -9,7 +9,7 @@ use Rattle.grammar.specs.Gram.{Gram}
 use Rattle.grammar.specs.Tables.{Form, u8, u16, u32, number, text, bytes, pair, Place, Layout, aPublish, anAck, aSubscribe, aReply, anUnsubscribe, aPing}
 use Rattle.grammar.specs.Record.{flagQos}
 use Rattle.reading.specs.Refusal.{Refusal, nr}
-use Rattle.reading.specs.Fault.{Fault, Sound, OnlyFault, under, fails, underBy, failsBy, ThenFault, first, second, SizedFault, sizes, crosses, fills, ManyFault, now, later, ExactFault, before, follows, IsFault, isnt, ByteFault, noByte, BigFault, fewer, NumFault, endless, long, BytesFault, TextFault, ValueFault, PropertyFault, noId, unknown, value, BlockFault, AckFault, reason, block, IdentFault, SomeFault, noEntry, entry, FiltersFault, PublishFault, qos, fields, FieldsFault}
+use Rattle.reading.specs.Fault.{Fault, Sound, OnlyFault, under, fails, underBy, failsBy, ThenFault, first, second, SizedFault, sizes, crosses, fills, ChainFault, now, later, HeadFault, noHead, head, behind, ExactFault, before, follows, IsFault, isnt, ByteFault, noByte, BigFault, fewer, NumFault, endless, long, BytesFault, TextFault, ValueFault, PropertyFault, noId, unknown, value, BlockFault, AckFault, reason, block, IdentFault, SomeFault, noEntry, entry, FiltersFault, PublishFault, qos, fields, FieldsFault}
 use Rattle.reading.specs.Rows.{Breaks}
 use Rattle.reading.specs.Demand.{ofFields}
 
@@ -36,9 +36,14 @@ kept-sized C K L s k (sizes f) = K s k f
 kept-sized C K L _ _ (crosses {l = l} r g h) = C l r
 kept-sized C K L _ k (fills {b = b} r g h) = L b k h
 
-kept-many : {A : Type 0} {G : Gram A} {F : Fault} → Kept F → Kept (ManyFault G F)
-kept-many K _ k (now {x = x} {s = s} f) = K (x ∷ s) k f
-kept-many K _ k (later {s = s} g m) = kept-many K s k m
+kept-chain : {S A : Type 0} {step : S → A → S} {G : S → Gram A} {F : S → Fault} → ((σ : S) → Kept (F σ)) → (σ : S) → Kept (ChainFault step G F σ)
+kept-chain K σ _ k (now {x = x} {s = s} f) = K σ (x ∷ s) k f
+kept-chain {step = step} K σ _ k (later {a = a} {s = s} g m) = kept-chain K (step σ a) s k m
+
+kept-head : {t : ℕ → Bool} {c : ℕ → Refusal} {F : Fault} → ((i : ℕ) → numbered (c i)) → Kept F → Kept (HeadFault t c F)
+kept-head C K _ k (noHead f) = K [] k f
+kept-head C K _ _ (head {i = i} h) = C i
+kept-head C K _ k (behind {i = i} {s = s} h f) = K (i ∷ s) k f
 
 kept-exact : {A : Type 0} {G : Gram A} {F : Fault} {c : Refusal} → numbered c → Kept F → Kept (ExactFault G F c)
 kept-exact C K s k (before f) = K s k f
@@ -68,7 +73,7 @@ kept-value : (k : Form) → Kept (ValueFault k)
 kept-value u8 = kept-byte refl
 kept-value u16 = kept-big refl
 kept-value u32 = kept-big refl
-kept-value number = kept-num refl refl
+kept-value number = kept-only (λ _. refl) (kept-num refl refl)
 kept-value text = kept-text
 kept-value bytes = kept-bytes
 kept-value pair = kept-then kept-text kept-text
@@ -79,7 +84,7 @@ kept-property place _ _ (unknown e) = refl
 kept-property place _ k (value {f = t} {s = s} e f) = kept-value t s k f
 
 kept-block : (place : Place) → Kept (BlockFault place)
-kept-block place = kept-sized (λ _ _. refl) (kept-num refl refl) (kept-many (kept-property place))
+kept-block place = kept-sized (λ _ _. refl) (kept-num refl refl) (kept-chain (λ σ. kept-head (λ _. refl) (kept-property place)) [])
 
 kept-ack : (rs : List ℕ) → Kept (AckFault rs)
 kept-ack rs _ _ (reason h) = refl
@@ -91,7 +96,7 @@ kept-ident (suc q) = kept-only (λ _. refl) (kept-big refl)
 
 kept-some : {A : Type 0} {G : Gram A} {F : Fault} → Kept F → Kept (SomeFault G F)
 kept-some K _ _ noEntry = refl
-kept-some K s k (entry f) = kept-many K s k f
+kept-some K s k (entry f) = kept-chain (λ _. K) tt s k f
 
 kept-filters : Kept FiltersFault
 kept-filters = kept-some (kept-then kept-text (kept-only (λ _. refl) (kept-only (λ _. refl) (kept-byte refl))))

@@ -13,19 +13,19 @@ use borrow.Author.Tests.{le-leb}
 use Rattle.grammar.specs.Choice.{isIn, lookup, isEmpty}
 use Rattle.grammar.specs.Gram.{Gram, Only, both, sized, Many, is}
 use Rattle.grammar.specs.Number.{byte}
-use Rattle.grammar.specs.Tables.{Form, u8, u16, u32, number, text, bytes, pair, Place, publishPlace, subscribePlace, ackPlace, unsubscribePlace, Layout, aPublish, anAck, aSubscribe, aReply, anUnsubscribe, aPing, kinds, reserved, isPing, listed, reasonsOf}
+use Rattle.grammar.specs.Tables.{Form, u8, u16, u32, number, text, bytes, pair, Place, publishPlace, subscribePlace, ackPlace, unsubscribePlace, Layout, aPublish, anAck, aSubscribe, aReply, anUnsubscribe, aPing, kinds, reserved, isPing, listed, reasonsOf, formAt}
 use Rattle.grammar.specs.Record.{Val, num, str, PropOf, lastFrom, lastOf, allOf, unlessEmpty, publishProps, propsOf, Props, kindOf, flagQos, mkPublish, mkAck, mkFilter, mkSubscribe, mkReply, mkUnsubscribe, mkPing}
-use Rattle.grammar.specs.Sentence.{Value, Prop, duoOf, Property, notThree, FilterOf, someOf, Packet, Frame}
+use Rattle.grammar.specs.Sentence.{Value, Prop, duoOf, notZero, met, Properties, notThree, FilterOf, someOf, Packet, Frame}
 use Rattle.reading.specs.Refusal.{Refusal, nr, Answer, accepted, refused, cut, crossed}
-use Rattle.reading.specs.Reader.{Fit, got, bad, Filler, _>>_, guard, isFit}
-use Rattle.reading.specs.Read.{bigOf, byteOf, numOf, identOf, isText, anyBytes, asBytes, reasonsFit, frameOf, bodyAnswer, stringFit, bytesOf, textOf, valueOf, valueAt, propertyOf, propertiesFit, blockOf, publishAs, propsAs, ackBlockFit, ackRestFit, filterOf, filtersFit, topicsFit, messageFit, fieldsFit, layoutFit, bodyFit, wholeAnswer, frameAnswer, readAs, readOf}
+use Rattle.reading.specs.Reader.{Fit, got, bad, Filler, _>>_, guard, onlyOf, isFit}
+use Rattle.reading.specs.Read.{bigOf, byteOf, numOf, identOf, isText, anyBytes, asBytes, reasonsFit, frameOf, bodyAnswer, stringFit, bytesOf, textOf, valueOf, valueAt, propertyOf, onceOf, propertiesFit, blockOf, publishAs, propsAs, ackBlockFit, ackRestFit, filterOf, filtersFit, topicsFit, messageFit, fieldsFit, layoutFit, bodyFit, wholeAnswer, frameAnswer, readAs, readOf}
 use Rattle.reading.specs.Place.{Span, spanOf, partOf, heldOf, asPlaces, Placed, readPlacedOf, noItem, orNoItem, again, valuesAt, onGot, onSome, ifSome, sayVal, sayProp, sayFilter, sayPublishProps, sayProps, say, sayAnswer}
 use Rattle.reading.proofs.Lists.{T-of}
 use Rattle.reading.proofs.Reading.{bad-got, got-inj, from-got, from-guard, Fills}
-use Rattle.reading.proofs.Fields.{reads-big, reads-num, reads-bytes, reads-text, reads-property, fills-properties}
+use Rattle.reading.proofs.Fields.{reads-big, reads-num, reads-bytes, reads-text, reads-once, fills-properties}
 use Rattle.reading.proofs.Packets.{reads-props, reads-ident, reads-filter, fills-filters, reads-publish-block, fills-reasons, fills-topics}
 use Rattle.reading.proofs.Demand.{no-accept, reads-length, reads-frame}
-use Rattle.reading.proofs.Forget.{Like, gots, bads, Via, Reading, Both, First, like-bind, like-guard, Stands, stands-rest, stands-within, stands-span, stands-held, Forgets, Drops, forgets-same, drops-same, forgets-map, drops-exact, forgets-then, drops-then, drops-many, drops-map, drops-only, drops-hand, forgets-sized}
+use Rattle.reading.proofs.Forget.{Like, gots, bads, Via, Reading, Both, First, like-bind, like-guard, Stands, stands-rest, stands-within, stands-span, stands-held, Forgets, Drops, forgets-same, drops-same, forgets-map, drops-exact, forgets-then, drops-then, drops-chain, drops-many, forgets-head, drops-map, drops-only, drops-hand, forgets-sized}
 
 -- ---- what is read at a place: just what fills it by the grammar, within the bytes
 
@@ -47,7 +47,7 @@ module _ {A : Type 0} {q : ℕ → Filler A} {G : Gram A} (S : (e : ℕ) → Fil
     λ t. rw (le-leb (p .start + p .len) (length s) (t .0), S (p .start + p .len) .whole v (partOf s p) (t .1)),
   )
 
-pub block-iff : (place : Place) (s : List ℕ) (p : Span) (ps : List Prop) → (again (propertiesFit asBytes place) s p ≡ got ps) ↔ ((p .start + p .len ≤ length s) × Many (Property place) ps (partOf s p))
+pub block-iff : (place : Place) (s : List ℕ) (p : Span) (ps : List Prop) → (again (propertiesFit asBytes place) s p ≡ got ps) ↔ ((p .start + p .len ≤ length s) × Properties place ps (partOf s p))
 block-iff place s p ps = again-iff (fills-properties place) s p ps
 
 -- so where it was read once
@@ -109,7 +109,7 @@ module _ (s : List ℕ) where
   value-says u8 end = forgets-map (forgets-same (byteOf cut)) num num (λ a b r. ap num r)
   value-says u16 end = forgets-map (forgets-same (bigOf cut 2)) num num (λ a b r. ap num r)
   value-says u32 end = forgets-map (forgets-same (bigOf cut 4)) num num (λ a b r. ap num r)
-  value-says number end = forgets-map (forgets-same (numOf cut 4)) num num (λ a b r. ap num r)
+  value-says number end = forgets-map (forgets-same (onlyOf notZero (λ _. nr 23 []) (numOf cut 4))) num num (λ a b r. ap num r)
   value-says text end = forgets-map (text-says end) str str (λ a b r. ap str r)
   value-says bytes end = forgets-map (bytes-says end) str str (λ a b r. ap str r)
   value-says pair end = forgets-map (forgets-then (text-says end) (reads-text end) (text-says end)) duoOf duoOf (λ a b r. rw (r .0, r .1))
@@ -123,14 +123,18 @@ module _ (s : List ℕ) where
   property-like : (place : Place) (end : ℕ) (l : List ℕ) → Stands s end l → Like (First (Via (sayProp s))) (propertyOf asPlaces place end l) (propertyOf asBytes place end l)
   unfolding propertyOf
   property-like place end [] w = bads
-  property-like place end (i ∷ l) w = form-like (lookup place i) i end l (stands-rest (i ∷ l) (i ∷ []) l refl w)
+  property-like place end (i ∷ l) w = form-like (formAt place i) i end l (stands-rest (i ∷ l) (i ∷ []) l refl w)
 
   pub property-says : (place : Place) (end : ℕ) → Forgets s end (Via (sayProp s)) (propertyOf asPlaces place end) (propertyOf asBytes place end)
   property-says place end = record { like = property-like place end }
 
+  pub once-says : (place : Place) (end : ℕ) (σ : List ℕ) → Forgets s end (Via (sayProp s)) (onceOf asPlaces place end σ) (onceOf asBytes place end σ)
+  unfolding onceOf
+  once-says place end σ = forgets-head (property-says place end) (λ i. not (isIn i σ)) (λ i. nr 22 (i ∷ []))
+
   pub properties-says : (place : Place) (end : ℕ) → Drops s end (Via (map (sayProp s))) (propertiesFit asPlaces place end) (propertiesFit asBytes place end)
   unfolding propertiesFit
-  properties-says place end = drops-many (property-says place end) (reads-property place end)
+  properties-says place end = drops-chain (met place) (met place) (λ _ _. refl) (once-says place end) (reads-once place end) []
 
   -- what a block reader hands back, read at its places, is what it hands back in bytes
   block-says : {A B : Type 0} (place : Place) (f : List (PropOf Span) → List ℕ → ℕ → A) (f′ : List Prop → List ℕ → ℕ → B) (h : A → Fit B)

@@ -1,7 +1,7 @@
 -- When a reader reads a grammar: it accepts just what begins with a spelling, and gives its value and what comes after.
 -- Each reader of `specs/Reader.antt` reads its grammar. Assumes nothing.
-use mathlib.Core.Path.{_≡_, refl, ap, _∙_, subst}
-use mathlib.Core.Bool.{Bool, true, false}
+use mathlib.Core.Path.{_≡_, refl, sym, ap, _∙_, subst}
+use mathlib.Core.Bool.{Bool, true, false, _&&_, false≢true}
 use mathlib.Core.Logic.{_↔_}
 use mathlib.Core.List.{List, [], _∷_, _++_, append-assoc, append-nil}
 use Prim.Native.Nat.{ℕ, _-_, _≤_, _<_}
@@ -11,9 +11,9 @@ use lib.Seq.{take-append-seam, drop-append-seam, length-take-le}
 use lib.Dec.{leb, leb→le}
 use borrow.Author.Tests.{le-leb}
 use Rattle.grammar.specs.Choice.{isEmpty}
-use Rattle.grammar.specs.Gram.{Gram, Nothing, nothing, Map, mapped, Only, only, OnlyBy, onlyBy, Then, both, Sized, sized, Chain, done, more, forget, Many, Is, is, Never, Solid}
+use Rattle.grammar.specs.Gram.{Gram, Nothing, nothing, Map, mapped, Only, only, OnlyBy, onlyBy, Then, both, Sized, sized, Chain, done, more, forget, Many, allFrom, Is, is, Never, Solid}
 use Rattle.reading.specs.Refusal.{Refusal}
-use Rattle.reading.specs.Reader.{Fit, got, bad, Reader, Filler, _>>=_, _>>_, guard, noneOf, neverOf, mapOf, onlyOf, onlyByOf, thenOf, sizedOf, isFit, mapFit, handFit, onlyFit, thenFit, exactFit, runFit, chainFit, manyFit}
+use Rattle.reading.specs.Reader.{Fit, got, bad, Reader, Filler, _>>=_, _>>_, guard, noneOf, neverOf, mapOf, onlyOf, onlyByOf, headOf, thenOf, sizedOf, isFit, mapFit, handFit, onlyFit, thenFit, exactFit, runFit, chainFit, manyFit}
 use Rattle.reading.proofs.Lists.{T-of, nil-of, left-nil}
 
 -- ---- taking an accepted answer apart
@@ -114,6 +114,33 @@ module _ {A : Type 0} {p : Reader A} {G : Gram A} (t : A → ℕ → Bool) (k : 
   pub reads-by : Reads (onlyByOf t k p) (OnlyBy t G)
   reads-by = record { whole = by-whole; split = by-split }
 
+-- every spelling begins with a byte that passes the test t just when the value passes t′
+abbrev pub Heads : {A : Type 0} → (ℕ → Bool) → (A → Bool) → Gram A → Type 0
+Heads {A = A} t t′ G = (a : A) (b : List ℕ) → G a b → (i : ℕ) × (c : List ℕ) × (b ≡ i ∷ c) × (t i ≡ t′ a)
+
+module _ {A : Type 0} {p : Reader A} {G : Gram A} (t : ℕ → Bool) (t′ : A → Bool) (k : ℕ → Refusal) (H : Heads t t′ G) (R : Reads p G) where
+  head-whole : (a : A) (b r : List ℕ) → Only t′ G a b → headOf t k p (b ++ r) ≡ got (a, r)
+  unfolding headOf
+  head-whole a b r (only h g) = let (i, c, e, j) = H a b g in rw (e, j, h) (rw e at (R .whole a b r g))
+
+  head-split : (s : List ℕ) (z : A × List ℕ) → headOf t k p s ≡ got z → Cut (Only t′ G) s z
+  unfolding headOf
+  head-split [] = λ z e.
+      let (b, e₁, g) = R .split [] z e in
+      let (i, c, e₂, j) = H (z .0) b g in
+      absurd (omega (arith, ap length e₁, length-append b (z .1), ap length e₂))
+  head-split (i ∷ s) = from-guard (t i) (k i) (p (i ∷ s)) λ h z e.
+      let (b, e₁, g) = R .split (i ∷ s) z e in
+      let (x, c, e₂, j) = H (z .0) b g in
+      let n : i ≡ x = heads i x s (c ++ z .1) (e₁ ∙ ap (λ (l : List ℕ). l ++ z .1) e₂) in
+      (b, e₁, only (sym j ∙ ap t (sym n) ∙ h) g)
+    where
+      heads : (i x : ℕ) (s l : List ℕ) → i ∷ s ≡ x ∷ l → i ≡ x
+      heads i x s l e = cc
+
+  pub reads-head : Reads (headOf t k p) (Only t′ G)
+  reads-head = record { whole = head-whole; split = head-split }
+
 module _ {A B : Type 0} {p : Reader A} {q : A → Reader B} {G : Gram A} {H : A → Gram B} (R : Reads p G) (S : (a : A) → Reads (q a) (H a)) where
   then-whole : (a : A × B) (b r : List ℕ) → Then G H a b → thenOf p q (b ++ r) ≡ got (a, r)
   unfolding thenOf
@@ -183,7 +210,11 @@ module _ {A B : Type 0} {q : ℕ → Filler A} {G : Gram A} (f : A → List ℕ 
   pub fills-hand : Fills (handFit f q end) (Map f′ G)
   fills-hand = record { whole = hand-whole; back = hand-back }
 
-fills-iff : {A : Type 0} {q : Filler A} {G H : Gram A} → ((a : A) (b : List ℕ) → G a b ↔ H a b) → Fills q G → Fills q H
+and-both : (a b : Bool) → (a && b) ≡ true → (a ≡ true) × (b ≡ true)
+and-both true b h = (refl, h)
+and-both false b h = absurd (false≢true h)
+
+pub fills-iff : {A : Type 0} {q : Filler A} {G H : Gram A} → ((a : A) (b : List ℕ) → G a b ↔ H a b) → Fills q G → Fills q H
 fills-iff i S = record { whole = λ a b h. S .whole a b (i a b .1 h); back = λ b a e. i a b .0 (S .back b a e) }
 
 unmap : {A : Type 0} {G : Gram A} (a : A) (b : List ℕ) → Map (λ v. v) G a b → G a b
@@ -233,8 +264,26 @@ module _ {S A : Type 0} (step : S → A → S) {p : S → Reader A} {G : S → G
   unfolding chainFit
   chain-back σ b z e = run-back σ b b z e
 
-  fills-chain : (σ : S) → Fills (chainFit step p σ) (Chain step G σ)
+  pub fills-chain : (σ : S) → Fills (chainFit step p σ) (Chain step G σ)
   fills-chain σ = record { whole = chain-whole σ; back = chain-back σ }
+
+-- a chain of values that pass a test is a run of them that pass it one after the other
+module _ {S A : Type 0} (step : S → A → S) (t : S → A → Bool) {G : Gram A} where
+  chain-run : {σ : S} {vs : List A} {b : List ℕ} → Chain step (λ σ. Only (t σ) G) σ vs b → (allFrom step t σ vs ≡ true) × Many G vs b
+  chain-run done = (refl, done)
+  chain-run (more (only h g) c) = let (i, m) = chain-run c in (rw (h, i), more g m)
+
+  run-chain : {σ : S} {vs : List A} {b : List ℕ} → Many G vs b → allFrom step t σ vs ≡ true → Chain step (λ σ. Only (t σ) G) σ vs b
+  run-chain done h = done
+  run-chain {σ = σ} (more {a = a} {vs = vs} g m) h =
+      let (i, j) = and-both (t σ a) (allFrom step t (step σ a) vs) h in
+      more (only i g) (run-chain m j)
+
+  pub chain-only : (σ : S) (vs : List A) (b : List ℕ) → Chain step (λ σ. Only (t σ) G) σ vs b ↔ Only (allFrom step t σ) (Many G) vs b
+  chain-only σ vs b = (λ c. let (h, m) = chain-run c in only h m, back)
+    where
+      back : {vs : List A} {b : List ℕ} → Only (allFrom step t σ) (Many G) vs b → Chain step (λ σ. Only (t σ) G) σ vs b
+      back (only h m) = run-chain m h
 
 pub fills-many : {A : Type 0} {p : Reader A} {G : Gram A} → Reads p G → Solid G → Fills (manyFit p) (Many G)
 fills-many R L = fills-chain forget (λ _. R) (λ _. L) tt

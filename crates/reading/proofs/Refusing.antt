@@ -12,8 +12,8 @@ use borrow.Author.Tests.{le-leb, lt-leb, leb-false, ltb-false, le-ltb}
 use Rattle.grammar.specs.Choice.{isEmpty}
 use Rattle.grammar.specs.Gram.{Gram, forget, Solid}
 use Rattle.reading.specs.Refusal.{Refusal, nr}
-use Rattle.reading.specs.Fault.{Fault, Sound, OnlyFault, under, fails, OnlyByFault, underBy, failsBy, ThenFault, first, second, SizedFault, sizes, crosses, fills, ManyFault, now, later, ExactFault, before, follows, IsFault, isnt, ByteFault, noByte, BigFault, fewer, Tops, noTops, aTop, GroupsFault, endless, long}
-use Rattle.reading.specs.Reader.{Fit, got, bad, Reader, Filler, _>>=_, _>>_, guard, noneOf, mapOf, onlyOf, onlyByOf, thenOf, sizedOf, isFit, mapFit, handFit, thenFit, exactFit, runFit, chainFit, manyFit}
+use Rattle.reading.specs.Fault.{Fault, Sound, OnlyFault, under, fails, OnlyByFault, underBy, failsBy, ThenFault, first, second, SizedFault, sizes, crosses, fills, ChainFault, ManyFault, now, later, HeadFault, noHead, head, behind, ExactFault, before, follows, IsFault, isnt, ByteFault, noByte, BigFault, fewer, Tops, noTops, aTop, GroupsFault, endless, long}
+use Rattle.reading.specs.Reader.{Fit, got, bad, Reader, Filler, _>>=_, _>>_, guard, noneOf, mapOf, onlyOf, onlyByOf, headOf, thenOf, sizedOf, isFit, mapFit, handFit, thenFit, exactFit, runFit, chainFit, manyFit}
 use Rattle.reading.specs.Read.{bigOf, byteOf, groupOf, groupsOf}
 use Rattle.reading.proofs.Lists.{T-of}
 use Rattle.reading.proofs.Reading.{bad-got, Reads, less, count-front}
@@ -202,48 +202,68 @@ module _ {A : Type 0} {p : Reader A} {F : Fault} (P : RefusesBy p F) where
       pub refuses-exact : RefusesBy (exactFit p c) (ExactFault G F c)
       refuses-exact = record { fault = exact-fault; refuse = exact-refuse }
 
-    module _ (L : Solid G) where
-      run-fault : (f s : List ℕ) (k : Refusal) → length s ≤ length f → runFit forget (λ _. p) tt f s ≡ bad k → ManyFault G F s k
-      unfolding runFit
-      run-fault [] [] k h = got-bad
-      run-fault [] (x ∷ s) k h = absurd (omega arith)
-      run-fault (y ∷ f) [] k h = got-bad
-      run-fault (y ∷ f) (x ∷ s) k h = of-bind (p (x ∷ s)) _ k (λ e. now (P .fault (x ∷ s) k e)) λ z e.
-          of-bind (runFit forget (λ _. p) tt f (z .1)) _ k
-          (λ e′.
-          let l : length (z .1) < length (x ∷ s) = less R L (x ∷ s) z e in
-          let (b, e₁, g) = R .split (x ∷ s) z e in
-          rw e₁ (later g (run-fault f (z .1) k (omega arith) e′)))
-          (λ vs e′ e″. got-bad e″)
+-- one after the other, with what came before summed up
+module _ {S A : Type 0} (step : S → A → S) {p : S → Reader A} {G : S → Gram A} {F : S → Fault} (P : (σ : S) → RefusesBy (p σ) (F σ)) (R : (σ : S) → Reads (p σ) (G σ)) (L : (σ : S) → Solid (G σ)) where
+  run-fault : (σ : S) (f s : List ℕ) (k : Refusal) → length s ≤ length f → runFit step p σ f s ≡ bad k → ChainFault step G F σ s k
+  unfolding runFit
+  run-fault σ [] [] k h = got-bad
+  run-fault σ [] (x ∷ s) k h = absurd (omega arith)
+  run-fault σ (y ∷ f) [] k h = got-bad
+  run-fault σ (y ∷ f) (x ∷ s) k h = of-bind (p σ (x ∷ s)) _ k (λ e. now (P σ .fault (x ∷ s) k e)) λ z e.
+      of-bind (runFit step p (step σ (z .0)) f (z .1)) _ k
+      (λ e′.
+      let l : length (z .1) < length (x ∷ s) = less (R σ) (L σ) (x ∷ s) z e in
+      let (b, e₁, g) = R σ .split (x ∷ s) z e in
+      rw e₁ (later g (run-fault (step σ (z .0)) f (z .1) k (omega arith) e′)))
+      (λ vs e′ e″. got-bad e″)
 
-      run-now : (f : List ℕ) (x : ℕ) (s : List ℕ) (k : Refusal) → length (x ∷ s) ≤ length f → F (x ∷ s) k → runFit forget (λ _. p) tt f (x ∷ s) ≡ bad k
-      unfolding runFit
-      run-now [] x s k h g = absurd (omega arith)
-      run-now (y ∷ f) x s k h g = rw (P .refuse (x ∷ s) k g)
+  run-now : (σ : S) (f : List ℕ) (x : ℕ) (s : List ℕ) (k : Refusal) → length (x ∷ s) ≤ length f → F σ (x ∷ s) k → runFit step p σ f (x ∷ s) ≡ bad k
+  unfolding runFit
+  run-now σ [] x s k h g = absurd (omega arith)
+  run-now σ (y ∷ f) x s k h g = rw (P σ .refuse (x ∷ s) k g)
 
-      run-later : (f : List ℕ) (a : A) (b s : List ℕ) (k : Refusal) → G a b → ((f′ : List ℕ) → length s ≤ length f′ → runFit forget (λ _. p) tt f′ s ≡ bad k)
-          → length (b ++ s) ≤ length f → runFit forget (λ _. p) tt f (b ++ s) ≡ bad k
-      unfolding runFit
-      run-later f a [] s k g ih h = absurd (L a [] g refl)
-      run-later [] a (x ∷ b) s k g ih h = absurd (omega arith)
-      run-later (y ∷ f) a (x ∷ b) s k g ih h =
-          let l : length s ≤ length f = omega (arith, length-append b s) in
-          rw (R .whole a (x ∷ b) s g, ih f l)
+  run-later : (σ : S) (f : List ℕ) (a : A) (b s : List ℕ) (k : Refusal) → G σ a b → ((f′ : List ℕ) → length s ≤ length f′ → runFit step p (step σ a) f′ s ≡ bad k)
+      → length (b ++ s) ≤ length f → runFit step p σ f (b ++ s) ≡ bad k
+  unfolding runFit
+  run-later σ f a [] s k g ih h = absurd (L σ a [] g refl)
+  run-later σ [] a (x ∷ b) s k g ih h = absurd (omega arith)
+  run-later σ (y ∷ f) a (x ∷ b) s k g ih h =
+      let l : length s ≤ length f = omega (arith, length-append b s) in
+      rw (R σ .whole a (x ∷ b) s g, ih f l)
 
-      run-refuse : (s : List ℕ) (k : Refusal) → ManyFault G F s k → (f : List ℕ) → length s ≤ length f → runFit forget (λ _. p) tt f s ≡ bad k
-      run-refuse _ k (now {x = x} {s = s} g) f h = run-now f x s k h g
-      run-refuse _ k (later {a = a} {b = b} {s = s} g m) f h = run-later f a b s k g (λ f′ h′. run-refuse s k m f′ h′) h
+  run-refuse : (σ : S) (s : List ℕ) (k : Refusal) → ChainFault step G F σ s k → (f : List ℕ) → length s ≤ length f → runFit step p σ f s ≡ bad k
+  run-refuse σ _ k (now {x = x} {s = s} g) f h = run-now σ f x s k h g
+  run-refuse σ _ k (later {a = a} {b = b} {s = s} g m) f h = run-later σ f a b s k g (λ f′ h′. run-refuse (step σ a) s k m f′ h′) h
 
-      many-fault : (s : List ℕ) (k : Refusal) → manyFit p s ≡ bad k → ManyFault G F s k
-      unfolding chainFit
-      many-fault s k e = run-fault s s k (omega arith) e
+  chain-fault : (σ : S) (s : List ℕ) (k : Refusal) → chainFit step p σ s ≡ bad k → ChainFault step G F σ s k
+  unfolding chainFit
+  chain-fault σ s k e = run-fault σ s s k (omega arith) e
 
-      many-refuse : (s : List ℕ) (k : Refusal) → ManyFault G F s k → manyFit p s ≡ bad k
-      unfolding chainFit
-      many-refuse s k h = run-refuse s k h s (omega arith)
+  chain-refuse : (σ : S) (s : List ℕ) (k : Refusal) → ChainFault step G F σ s k → chainFit step p σ s ≡ bad k
+  unfolding chainFit
+  chain-refuse σ s k h = run-refuse σ s k h s (omega arith)
 
-      pub refuses-many : RefusesBy (manyFit p) (ManyFault G F)
-      refuses-many = record { fault = many-fault; refuse = many-refuse }
+  pub refuses-chain : (σ : S) → RefusesBy (chainFit step p σ) (ChainFault step G F σ)
+  refuses-chain σ = record { fault = chain-fault σ; refuse = chain-refuse σ }
+
+pub refuses-many : {A : Type 0} {p : Reader A} {G : Gram A} {F : Fault} → RefusesBy p F → Reads p G → Solid G → RefusesBy (manyFit p) (ManyFault G F)
+refuses-many P R L = refuses-chain forget (λ _. P) (λ _. R) (λ _. L) tt
+
+-- a test of the first byte
+module _ {A : Type 0} {p : Reader A} {F : Fault} (P : RefusesBy p F) (t : ℕ → Bool) (c : ℕ → Refusal) where
+  head-fault : (s : List ℕ) (k : Refusal) → headOf t c p s ≡ bad k → HeadFault t c F s k
+  unfolding headOf
+  head-fault [] k e = noHead (P .fault [] k e)
+  head-fault (i ∷ s) k e = of-guard (t i) (c i) (p (i ∷ s)) k (λ h j. rw (← j) (head h)) (λ h e′. behind h (P .fault (i ∷ s) k e′)) e
+
+  head-refuse : (s : List ℕ) (k : Refusal) → HeadFault t c F s k → headOf t c p s ≡ bad k
+  unfolding headOf
+  head-refuse _ k (noHead f) = P .refuse [] k f
+  head-refuse _ _ (head h) = rw h
+  head-refuse _ k (behind {i = i} {s = s} h f) = rw h (P .refuse (i ∷ s) k f)
+
+  pub refuses-head : RefusesBy (headOf t c p) (HeadFault t c F)
+  refuses-head = record { fault = head-fault; refuse = head-refuse }
 
 module _ {A : Type 0} {n : Reader ℕ} {q : ℕ → Filler A} {N : Gram ℕ} {F H : Fault} (c : ℕ → List ℕ → Refusal) (R : Reads n N) (P : RefusesBy n F) (Q : (e : ℕ) → RefusesBy (q e) H) (end : ℕ) where
   sized-fault : (s : List ℕ) (k : Refusal) → sizedOf n c q end s ≡ bad k → SizedFault N F c H s k

@@ -169,7 +169,7 @@ holds-some limit _ x b _ (holds r f) h = some-bytes _ _ f h
     some-bytes _ _ (both byte g) e = omega arith
 
 -- what stands in none of the rows 1 to 6
-other : (r : Framing) (k : ℕ) → rowNumber r ≡ k → isIn k (7 ∷ 8 ∷ 9 ∷ 10 ∷ 11 ∷ 12 ∷ 13 ∷ 14 ∷ 15 ∷ []) ≡ false
+other : (r : Framing) (k : ℕ) → rowNumber r ≡ k → isIn k (7 ∷ 8 ∷ 9 ∷ 10 ∷ 11 ∷ 12 ∷ 13 ∷ 14 ∷ 15 ∷ 22 ∷ 23 ∷ []) ≡ false
 other insufficient k e = rw (← e)
 other malformed k e = rw (← e)
 other exceeded k e = rw (← e)
@@ -221,8 +221,8 @@ module _ (limit : Option ℕ) (s vs : List ℕ) where
   pub row-6 : (t : ℕ) → (readOf limit s ≡ refused 6 vs t) ↔ FramingGiven limit notCarried s vs t
   row-6 t = framing-row notCarried t (not-field 6 t refl)
 
-  -- 01, rows 7 to 15: given exactly when the frame is whole, its kind is carried, and its fields break so, first from the left
-  pub field-rows : (k t : ℕ) → isIn k (7 ∷ 8 ∷ 9 ∷ 10 ∷ 11 ∷ 12 ∷ 13 ∷ 14 ∷ 15 ∷ []) ≡ true → (readOf limit s ≡ refused k vs t) ↔ Breaks limit s (nr k vs) t
+  -- 01, rows 7 to 15, and 02, P9: given exactly when the frame is whole, its kind is carried, and its fields break so, first from the left
+  pub field-rows : (k t : ℕ) → isIn k (7 ∷ 8 ∷ 9 ∷ 10 ∷ 11 ∷ 12 ∷ 13 ∷ 14 ∷ 15 ∷ 22 ∷ 23 ∷ []) ≡ true → (readOf limit s ≡ refused k vs t) ↔ Breaks limit s (nr k vs) t
   field-rows k t h = (λ e. go (refused-rows k t .0 e), λ w. refused-rows k t .1 (inr w))
     where
       go : Some limit s k vs t ⊎ Breaks limit s (nr k vs) t → Breaks limit s (nr k vs) t

@@ -22,9 +22,9 @@ Begins G s v n = (b : List ℕ) × (r : List ℕ) × (s ≡ b ++ r) × G v b × 
 abbrev pub Limited : Shape → ℕ → List ℕ → Type 0
 Limited h m s = ((F : ℕ) × Above s F m × (readAs h (some m) s ≡ refused 3 (F ∷ m ∷ []) 0)) ⊎ (((F : ℕ) → Above s F m → ⊥) × (readAs h (some m) s ≡ readAs h none s))
 
--- 01, rows 7 to 15, and 2: the numbers that the fields of a frame are refused with
+-- 01, rows 7 to 15, and 2, and 02, P9: the numbers that the fields of a frame are refused with
 abbrev pub ofFields : List ℕ
-ofFields = 2 ∷ 7 ∷ 8 ∷ 9 ∷ 10 ∷ 11 ∷ 12 ∷ 13 ∷ 14 ∷ 15 ∷ []
+ofFields = 2 ∷ 7 ∷ 8 ∷ 9 ∷ 10 ∷ 11 ∷ 12 ∷ 13 ∷ 14 ∷ 15 ∷ 22 ∷ 23 ∷ []
 
 -- 01, column Taken, of the refusal numbered k of the stream s
 pub data Taken (limit : Option ℕ) (s : List ℕ) : ℕ → ℕ → Type 0 where

@@ -7,12 +7,12 @@ use mathlib.Core.List.{List, [], _∷_, _++_}
 use Prim.Native.Nat.{ℕ, zero, suc, _≤_, _<_}
 use lib.ListN.{length}
 use Rattle.grammar.specs.Choice.{isIn, lookup, isEmpty}
-use Rattle.grammar.specs.Gram.{Gram, Only, OnlyBy}
+use Rattle.grammar.specs.Gram.{Gram, Only, OnlyBy, forget}
 use Rattle.grammar.specs.Number.{Byte, Big, Groups, shortest, Spells}
 use Rattle.grammar.specs.Text.{Utf8}
-use Rattle.grammar.specs.Tables.{Form, u8, u16, u32, number, text, bytes, pair, Place, publishPlace, subscribePlace, ackPlace, unsubscribePlace, Layout, aPublish, anAck, aSubscribe, aReply, anUnsubscribe, aPing, kinds, reserved, isPing}
+use Rattle.grammar.specs.Tables.{Form, u8, u16, u32, number, text, bytes, pair, Place, publishPlace, subscribePlace, ackPlace, unsubscribePlace, Layout, aPublish, anAck, aSubscribe, aReply, anUnsubscribe, aPing, kinds, reserved, isPing, formAt}
 use Rattle.grammar.specs.Record.{kindOf, flagQos}
-use Rattle.grammar.specs.Sentence.{Bytes, Text, Property, Block, publishOf, propsIf, notThree, notZero, Ident, qosFine, ruleFine, FilterOf, ReasonOf, Packet, Body, Frame}
+use Rattle.grammar.specs.Sentence.{Bytes, Text, met, fresh, Property, Block, publishOf, propsIf, notThree, notZero, Ident, qosFine, ruleFine, FilterOf, ReasonOf, Packet, Body, Frame}
 use Rattle.reading.specs.Refusal.{Refusal, nr, Answer, accepted, refused, lacking, passes, exceeds}
 
 -- bytes, and the refusal with which they break
@@ -45,10 +45,20 @@ pub data SizedFault (N : Gram ℕ) (F : Fault) (c : ℕ → List ℕ → Refusal
   crosses : {l : ℕ} {b : List ℕ} (r : List ℕ) → N l b → length r < l → SizedFault N F c H (b ++ r) (c l r)
   fills : {b d : List ℕ} {k : Refusal} (r : List ℕ) → N (length b) d → H b k → SizedFault N F c H (d ++ (b ++ r)) k
 
--- some good ones, then one that breaks
-pub data ManyFault {A : Type 0} (G : Gram A) (F : Fault) : List ℕ → Refusal → Type 0 where
-  now : {x : ℕ} {s : List ℕ} {k : Refusal} → F (x ∷ s) k → ManyFault G F (x ∷ s) k
-  later : {a : A} {b s : List ℕ} {k : Refusal} → G a b → ManyFault G F s k → ManyFault G F (b ++ s) k
+-- some good ones, then one that breaks; what came before, as `step` sums it up in σ, may bear on the next
+pub data ChainFault {S A : Type 0} (step : S → A → S) (G : S → Gram A) (F : S → Fault) : S → List ℕ → Refusal → Type 0 where
+  now : {σ : S} {x : ℕ} {s : List ℕ} {k : Refusal} → F σ (x ∷ s) k → ChainFault step G F σ (x ∷ s) k
+  later : {σ : S} {a : A} {b s : List ℕ} {k : Refusal} → G σ a b → ChainFault step G F (step σ a) s k → ChainFault step G F σ (b ++ s) k
+
+-- the same where nothing is summed up
+abbrev pub ManyFault : {A : Type 0} → Gram A → Fault → Fault
+ManyFault G F = ChainFault forget (λ _. G) (λ _. F) tt
+
+-- the first byte fails the test, or passes and what begins with it breaks
+pub data HeadFault (t : ℕ → Bool) (c : ℕ → Refusal) (F : Fault) : List ℕ → Refusal → Type 0 where
+  noHead : {k : Refusal} → F [] k → HeadFault t c F [] k
+  head : {i : ℕ} {s : List ℕ} → t i ≡ false → HeadFault t c F (i ∷ s) (c i)
+  behind : {i : ℕ} {s : List ℕ} {k : Refusal} → t i ≡ true → F (i ∷ s) k → HeadFault t c F (i ∷ s) k
 
 -- it breaks, or bytes follow
 pub data ExactFault {A : Type 0} (G : Gram A) (F : Fault) (c : Refusal) : List ℕ → Refusal → Type 0 where
@@ -102,7 +112,7 @@ abbrev pub ValueFault : Form → Fault
 ValueFault u8 = ByteFault (nr 7 [])
 ValueFault u16 = BigFault (nr 7 []) 2
 ValueFault u32 = BigFault (nr 7 []) 4
-ValueFault number = NumFault (nr 7 []) 4
+ValueFault number = OnlyFault notZero (λ _. nr 23 []) Spells (NumFault (nr 7 []) 4)
 ValueFault text = TextFault
 ValueFault bytes = BytesFault
 ValueFault pair = ThenFault Text TextFault TextFault
@@ -110,12 +120,16 @@ ValueFault pair = ThenFault Text TextFault TextFault
 -- 01, row 10: "identifier not in its place's row"
 pub data PropertyFault (place : Place) : List ℕ → Refusal → Type 0 where
   noId : PropertyFault place [] (nr 7 [])
-  unknown : {i : ℕ} {s : List ℕ} → lookup place i ≡ none → PropertyFault place (i ∷ s) (nr 10 (i ∷ []))
-  value : {i : ℕ} {f : Form} {s : List ℕ} {k : Refusal} → lookup place i ≡ some f → ValueFault f s k → PropertyFault place (i ∷ s) k
+  unknown : {i : ℕ} {s : List ℕ} → formAt place i ≡ none → PropertyFault place (i ∷ s) (nr 10 (i ∷ []))
+  value : {i : ℕ} {f : Form} {s : List ℕ} {k : Refusal} → formAt place i ≡ some f → ValueFault f s k → PropertyFault place (i ∷ s) k
+
+-- 02, P9: "A single-valued property met a second time gets a new refusal DuplicateProperty(k), when its identifier byte is met"; σ were met
+abbrev pub OnceFault : Place → List ℕ → Fault
+OnceFault place σ = HeadFault (λ i. not (isIn i σ)) (λ i. nr 22 (i ∷ [])) (PropertyFault place)
 
 -- 01, rows 7, 2 and 8 for L, then the first property that breaks
 abbrev pub BlockFault : Place → Fault
-BlockFault place = SizedFault Spells (NumFault (nr 7 []) 4) crossing (ManyFault (Property place) (PropertyFault place))
+BlockFault place = SizedFault Spells (NumFault (nr 7 []) 4) crossing (ChainFault (met place) (λ σ. Only (fresh σ) (Property place)) (OnceFault place) [])
 
 -- ---- bodies
 

@@ -9,11 +9,11 @@ use lib.ListN.{length, take, drop}
 use Rattle.grammar.specs.Choice.{isIn, lookup, isEmpty}
 use Rattle.grammar.specs.Number.{bigFrom, shortest}
 use Rattle.grammar.specs.Text.{Range, inRange, rows, rowAt, cons}
-use Rattle.grammar.specs.Tables.{Form, u8, u16, u32, number, text, bytes, pair, Place, publishPlace, subscribePlace, ackPlace, unsubscribePlace, Layout, aPublish, anAck, aSubscribe, aReply, anUnsubscribe, aPing, kinds, reserved, isPing}
+use Rattle.grammar.specs.Tables.{Form, u8, u16, u32, number, text, bytes, pair, Place, publishPlace, subscribePlace, ackPlace, unsubscribePlace, Layout, aPublish, anAck, aSubscribe, aReply, anUnsubscribe, aPing, kinds, reserved, isPing, formAt}
 use Rattle.grammar.specs.Record.{Val, num, str, PropOf, unlessEmpty, PublishProps, publishProps, Props, propsOf, Filter, PacketOf, kindOf, flagQos, mkPublish, mkAck, mkFilter, mkSubscribe, mkReply, mkUnsubscribe, mkPing}
-use Rattle.grammar.specs.Sentence.{duoOf, notThree, notZero, qosFine, ruleFine, someOf, Packet}
+use Rattle.grammar.specs.Sentence.{duoOf, met, notThree, notZero, qosFine, ruleFine, someOf, Packet}
 use Rattle.reading.specs.Refusal.{Refusal, nr, Answer, accepted, refusedAs, cut, crossed, lacking, passes, exceeds}
-use Rattle.reading.specs.Reader.{Fit, got, bad, Reader, Filler, _>>=_, _>>_, guard, noneOf, neverOf, mapOf, onlyOf, onlyByOf, thenOf, sizedOf, isFit, mapFit, handFit, onlyFit, thenFit, exactFit, manyFit, isGot}
+use Rattle.reading.specs.Reader.{Fit, got, bad, Reader, Filler, _>>=_, _>>_, guard, noneOf, neverOf, mapOf, onlyOf, onlyByOf, headOf, thenOf, sizedOf, isFit, mapFit, handFit, onlyFit, thenFit, exactFit, chainFit, manyFit, isGot}
 
 -- ---- numbers; c is given where the bytes end before the number does
 
@@ -135,7 +135,7 @@ module _ (h : Shape) where
   valueOf u8 end = mapOf num (byteOf cut)
   valueOf u16 end = mapOf num (bigOf cut 2)
   valueOf u32 end = mapOf num (bigOf cut 4)
-  valueOf number end = mapOf num (numOf cut 4)
+  valueOf number end = mapOf num (onlyOf notZero (λ _. nr 23 []) (numOf cut 4))
   valueOf text end = mapOf str (textOf end)
   valueOf bytes end = mapOf str (bytesOf end)
   valueOf pair end = mapOf duoOf (thenOf (textOf end) (λ _. textOf end))
@@ -150,11 +150,15 @@ module _ (h : Shape) where
   -- 01: "an identifier byte and a value"
   unfoldable pub propertyOf : Place → ℕ → Reader (PropOf (h .Str))
   propertyOf place end [] = bad cut
-  propertyOf place end (i ∷ s) = valueAt (lookup place i) i end s
+  propertyOf place end (i ∷ s) = valueAt (formAt place i) i end s
+
+  -- 02, P9: "when its identifier byte is met": σ were met and may not come again; they are in the row, so none of them gets 10
+  unfoldable pub onceOf : Place → ℕ → List ℕ → Reader (PropOf (h .Str))
+  onceOf place end σ = headOf (λ i. not (isIn i σ)) (λ i. nr 22 (i ∷ [])) (propertyOf place end)
 
   -- 01, grammar: "filled exactly by properties"
   unfoldable pub propertiesFit : Place → ℕ → Filler (List (PropOf (h .Str)))
-  propertiesFit place end = manyFit (propertyOf place end)
+  propertiesFit place end = chainFit (met place) (onceOf place end) []
 
   -- 01: "A property block is a variable length number L and L bytes"; f makes the record
   unfoldable pub blockOf : {A : Type 0} → Place → (List (PropOf (h .Str)) → List ℕ → ℕ → A) → ℕ → Reader A

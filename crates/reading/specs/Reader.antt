@@ -67,6 +67,13 @@ onlyByOf t k p s = do
   guard (t a (length s - length r)) (k a (length s - length r))
   got (a, r)
 
+-- p, and k i unless the first byte i passes the test
+unfoldable pub headOf : {A : Type 0} → (ℕ → Bool) → (ℕ → Refusal) → Reader A → Reader A
+headOf t k p [] = p []
+headOf t k p (i ∷ s) = do
+  guard (t i) (k i)
+  p (i ∷ s)
+
 -- p, then q
 unfoldable pub thenOf : {A B : Type 0} → Reader A → (A → Reader B) → Reader (A × B)
 thenOf p q s = do

@@ -55,11 +55,13 @@ rows =
     (18, λ m n. Error.StringTooLong m) ∷
     (19, λ m n. Error.NoRoom m) ∷
     (20, λ m n. Error.ListMismatch) ∷
+    (21, λ m n. Error.NoItem) ∷
+    (22, λ m n. Error.DuplicateProperty m) ∷
     []
 
--- row 21 where it is none of the others
+-- row 23 where it is none of the others
 pub backError : Refusal → Error
-backError (nr k vs) = orElse (λ m n. Error.NoItem) (lookup rows k) (getD vs 0 0) (getD vs 1 0)
+backError (nr k vs) = orElse (λ m n. Error.SubscriptionIdZero) (lookup rows k) (getD vs 0 0) (getD vs 1 0)
 
 pub back-error : (e : Error) → backError (toldError e) ≡ e
 unfolding rows backError
@@ -84,6 +86,8 @@ back-error (Error.StringTooLong n) = refl
 back-error (Error.NoRoom n) = refl
 back-error Error.ListMismatch = refl
 back-error Error.NoItem = refl
+back-error (Error.DuplicateProperty k) = refl
+back-error Error.SubscriptionIdZero = refl
 
 pub error-injective : {a b : Error} → toldError a ≡ toldError b → a ≡ b
 error-injective = injective-by toldError backError back-error

@@ -45,6 +45,8 @@ toldError (Error.StringTooLong n) = nr 18 (n ∷ [])
 toldError (Error.NoRoom n) = nr 19 (n ∷ [])
 toldError Error.ListMismatch = nr 20 []
 toldError Error.NoItem = nr 21 []
+toldError (Error.DuplicateProperty k) = nr 22 (k ∷ [])
+toldError Error.SubscriptionIdZero = nr 23 []
 
 -- 01, "When the desk says no": the column No.
 abbrev pub rowOf : Refusal → ℕ

@@ -2,7 +2,7 @@
 pub enum Error {
     // 1: how many bytes are lacking at least
     InsufficientBytes(usize),
-    // 2: the fourth byte of a variable length number has its top bit set
+    // 2: the fourth byte of a variable length number has its top bit set, or it uses more bytes than it needs
     MalformedRemainingLength,
     // 3: F, and the limit that it is above
     PayloadSizeLimitExceeded(usize, usize),
@@ -16,7 +16,7 @@ pub enum Error {
     MalformedPacket,
     // 8: the length of a string, or L of a block, that exceeds what is left around it
     BoundaryCrossed(usize),
-    // 9: text that is not UTF-8
+    // 9: text that is not UTF-8, or holds U+0000
     TopicNotUtf8,
     // 10: an identifier that is not in its place's row
     InvalidPropertyType(u8),
@@ -42,4 +42,8 @@ pub enum Error {
     ListMismatch,
     // 21: no block or run at the place, or n is past its last item
     NoItem,
+    // 22: a single-valued property met a second time
+    DuplicateProperty(u8),
+    // 23: property 11 with value 0
+    SubscriptionIdZero,
 }

@@ -30,6 +30,8 @@ pub fn number(e: Error) -> u8
         Error::NoRoom(_) => 19,
         Error::ListMismatch => 20,
         Error::NoItem => 21,
+        Error::DuplicateProperty(_) => 22,
+        Error::SubscriptionIdZero => 23,
     }
 }
 
@@ -59,5 +61,7 @@ pub fn values(e: Error) -> Values
         Error::NoRoom(n) => Values::One(n),
         Error::ListMismatch => Values::None,
         Error::NoItem => Values::None,
+        Error::DuplicateProperty(n) => Values::One(n as usize),
+        Error::SubscriptionIdZero => Values::None,
     }
 }

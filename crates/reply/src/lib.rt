@@ -7,7 +7,7 @@ use records::error::Error;
 use records::reply_record::Reply;
 use records::reply_record::ReplyKind;
 use records::span::Span;
-use tables::property::PropertyPlace;
+use tables::property::OtherPlace;
 use tables::reason::is_reply_reason;
 ghost use mathlib.Core.Path.{_≡_};
 ghost use Prim.Native.Nat.{ℕ};
@@ -59,7 +59,7 @@ pub fn read(kind: ReplyKind, s: &[u8], at: usize) -> GotReply
 {
     match fixed::read_u16(s, at) {
         GotU16::Refused(e) => GotReply::Refused(e),
-        GotU16::Value(pkid, next) => match place_block::read_block(PropertyPlace::Ack, s, next) {
+        GotU16::Value(pkid, next) => match place_block::read_block(OtherPlace::Ack, s, next) {
             GotBlock::Refused(e) => GotReply::Refused(e),
             GotBlock::Value(properties, start) => match read_reasons(kind, s, start) {
                 GotReasons::Refused(e) => GotReply::Refused(e),

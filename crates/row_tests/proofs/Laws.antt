@@ -3,14 +3,14 @@ use mathlib.Core.Path.{_≡_, refl, sym, ap, _∙_}
 use mathlib.Core.Bool.{true, false}
 use mathlib.Core.List.{List, [], _∷_, append-nil}
 use Prim.Native.Nat.{ℕ, _≤_, _<_}
-use borrow.Author.Tests.{le-leb, lt-leb}
+use borrow.Author.Tests.{le-leb, lt-leb, ne-eqb}
 use Rattle.reading.specs.Refusal.{Refusal, nr}
 use Rattle.reading.specs.Reader.{Fit, got, bad, _>>_}
 use Rattle.reading.specs.Read.{isText}
 use Rattle.reading.proofs.Reading.{bad-got}
 use Rattle.writing.specs.Lists.{flat}
 use Rattle.writing.specs.Size.{most}
-use Rattle.writing.specs.Order.{judge, Field, raw, word, reads, fieldTests, small}
+use Rattle.writing.specs.Order.{judge, Field, raw, word, reads, fieldTests, numberTests}
 use Rattle.writing.proofs.Judge.{judge-append, fields-more}
 
 -- ---- one field
@@ -63,10 +63,14 @@ module _ {whole left : List Field} (d : Deciding whole left) where
 
 -- ---- numbers
 
-pub number-large : (n : ℕ) → most < n → bad (nr 17 []) ≡ judge (small n ∷ [])
+pub number-large : (n : ℕ) → most < n → bad (nr 17 []) ≡ judge (flat numberTests (n ∷ []))
 unfolding judge
 number-large n h = rw (lt-leb n most h)
 
-pub number-fine : (n : ℕ) → n ≤ most → got tt ≡ judge (small n ∷ [])
+pub number-zero : (n : ℕ) → n ≡ 0 → bad (nr 23 []) ≡ judge (flat numberTests (n ∷ []))
 unfolding judge
-number-fine n h = rw (le-leb n most h)
+number-zero n z = rw z
+
+pub number-fine : (n : ℕ) → n ≤ most → (n ≡ 0 → ⊥) → got tt ≡ judge (flat numberTests (n ∷ []))
+unfolding judge
+number-fine n h z = rw (le-leb n most h, ne-eqb n 0 z)

@@ -11,7 +11,7 @@ ghost use mathlib.Core.List.{map};
 ghost use Rattle.grammar.specs.Tables.{text, bytes as bytesForm};
 ghost use Rattle.reading.specs.Reader.{_>>_ as first};
 ghost use Rattle.writing.specs.Lists.{flat};
-ghost use Rattle.writing.specs.Order.{judge, raw, word, fieldTests, givenFields, small, orNone};
+ghost use Rattle.writing.specs.Order.{judge, raw, word, fieldTests, givenFields, numberTests, orNone};
 ghost use Rattle.records.specs.Told.{numberU32};
 ghost use Rattle.rows.specs.Given.{givenLent};
 ghost use Rattle.row_tests.specs.Tested.{toldTested};
@@ -76,15 +76,18 @@ pub fn test_bytes(on: bool, s: &[u8]) -> Tested
     Tested::Fine
 }
 
-// A subscription identifier, if it is given: 17.
+// A subscription identifier, if it is given: 17, and 23 where it is 0.
 pub fn test_number(id: MaybeU32) -> Tested
-    ensures { λ r. ⌜ toldTested r ≡ judge (map small (orNone (numberU32 id))) ⌝ }
+    ensures { λ r. ⌜ toldTested r ≡ judge (flat numberTests (orNone (numberU32 id))) ⌝ }
 {
     match id {
         MaybeU32::Absent => Tested::Fine,
         MaybeU32::Present(n) => {
             if MOST < n as usize {
                 return Tested::Refused(Error::PayloadTooLong);
+            }
+            if n == 0 {
+                return Tested::Refused(Error::SubscriptionIdZero);
             }
             Tested::Fine
         }

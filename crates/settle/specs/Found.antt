@@ -10,7 +10,7 @@ use Rattle.reading.specs.Reader.{Fit, got, _>>_, guard}
 use Rattle.writing.specs.Lists.{flat}
 use Rattle.writing.specs.Handed.{Handed, belongs}
 use Rattle.writing.specs.Size.{most, withLength, restIs, cap}
-use Rattle.writing.specs.Order.{judge, fieldTests, fieldsOf, small, limitTests, numbersOf, named, asked}
+use Rattle.writing.specs.Order.{judge, fieldTests, fieldsOf, numberTests, limitTests, numbersOf, named, asked}
 
 -- 01, writing order: "20; then 18, and 9 for text, field by field as written, .."
 abbrev pub earlyOf : Handed → Fit (Unit {0})
@@ -18,7 +18,7 @@ earlyOf h = guard (belongs h) (nr 20 []) >> judge (flat fieldTests (fieldsOf h))
 
 -- 01, writing order: "12; 17 for identifiers in order; 13"
 abbrev pub lateOf : Handed → Fit (Unit {0})
-lateOf h = guard (named h) (nr 12 []) >> (judge (map small (numbersOf h)) >> guard (asked h) (nr 13 []))
+lateOf h = guard (named h) (nr 12 []) >> (judge (flat numberTests (numbersOf h)) >> guard (asked h) (nr 13 []))
 
 -- 01, writing order: "19", and else the size
 abbrev pub withinRoom : ℕ → ℕ → Fit ℕ

@@ -7,7 +7,7 @@ use properties::place_block;
 use properties::place_block::GotBlock;
 use records::error::Error;
 use records::subscribe_record::Subscribe;
-use tables::property::PropertyPlace;
+use tables::property::OtherPlace;
 ghost use mathlib.Core.Path.{_≡_};
 ghost use Prim.Native.Nat.{ℕ};
 ghost use lib.ListN.{length, drop};
@@ -27,7 +27,7 @@ pub fn read(s: &[u8], at: usize) -> GotSubscribe
 {
     match fixed::read_u16(s, at) {
         GotU16::Refused(e) => GotSubscribe::Refused(e),
-        GotU16::Value(pkid, next) => match place_block::read_block(PropertyPlace::Subscribe, s, next) {
+        GotU16::Value(pkid, next) => match place_block::read_block(OtherPlace::Subscribe, s, next) {
             GotBlock::Refused(e) => GotSubscribe::Refused(e),
             GotBlock::Value(properties, start) => match read_filters(s, start) {
                 GotFilters::Refused(e) => GotSubscribe::Refused(e),

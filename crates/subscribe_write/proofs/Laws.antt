@@ -14,7 +14,7 @@ use Rattle.writing.specs.Lists.{flat}
 use Rattle.writing.specs.Handed.{SubscribeHanded, subscribe, one, pairs, subscribeGiven, filtersOf, filters, filtersBelong, rowBelongs, belongs}
 use Rattle.writing.specs.Size.{most, withLength, givenSize, propsSize, filtersSize, restIs, cap}
 use Rattle.writing.specs.Spell.{wide, short, rowBytes, propsBytes, filterBytes}
-use Rattle.writing.specs.Order.{judge, fieldTests, filterField, small, orNone}
+use Rattle.writing.specs.Order.{judge, fieldTests, filterField, numberTests, orNone}
 use Rattle.writing.specs.Write.{firstByte, frameBytes}
 use Rattle.writing.proofs.ForCode.{judgeAll, subscribe-belongs, subscribe-tests, subscribe-sum, subscribe-frame, cap-small, cap-length}
 use Rattle.writing.proofs.Pins.{subscribe-props, first-bytes}
@@ -61,7 +61,7 @@ module _ (h : SubscribeHanded) where
 
   -- ---- 17 for the identifier, and 13
 
-  pub late-all : {x y r : Fit (Unit {0})} → x ≡ judge (map small (orNone (h .subscription)))
+  pub late-all : {x y r : Fit (Unit {0})} → x ≡ judge (flat numberTests (orNone (h .subscription)))
       → y ≡ guard (not (isEmpty (filtersOf (h .filters) (h .options)))) (nr 13 []) → r ≡ (x >> y) → r ≡ lateOf (subscribe h)
   unfolding filters
   late-all e f g = g ∙ rw (e, f)

@@ -3,6 +3,7 @@ use mathlib.Core.Option.{Option, none, some}
 use Rattle.grammar.specs.Tables as tables
 use Rattle.tables.specs.declared.property.PropertyPlace.{PropertyPlace}
 use Rattle.tables.specs.declared.property.PropertyPlace.the-variants.{Publish, Subscribe, Ack, Unsubscribe}
+use Rattle.tables.specs.declared.property.OtherPlace.{OtherPlace}
 use Rattle.tables.specs.declared.property.PropertyForm.{PropertyForm}
 use Rattle.tables.specs.declared.property.PropertyForm.the-variants.{U8, U16, U32, Number, Text, Bytes, Pair, NotHere}
 
@@ -12,6 +13,12 @@ placeOf Publish = tables.publishPlace
 placeOf Subscribe = tables.subscribePlace
 placeOf Ack = tables.ackPlace
 placeOf Unsubscribe = tables.unsubscribePlace
+
+-- 01, table of properties: the places beside Publish's
+abbrev pub otherOf : OtherPlace → PropertyPlace
+otherOf OtherPlace.Subscribe = Subscribe
+otherOf OtherPlace.Ack = Ack
+otherOf OtherPlace.Unsubscribe = Unsubscribe
 
 -- 01, table of properties: the form of a value, if the row has the identifier
 abbrev pub toldForm : PropertyForm → Option tables.Form

@@ -1,13 +1,19 @@
 // Which form a property's value has at a place: `property` of v5/mod.rs, with the rows of 01's table in place of the reads'
 // own matches.
 ghost use mathlib.Core.Path.{_≡_};
-ghost use Rattle.grammar.specs.Choice.{lookup};
-ghost use Rattle.grammar.specs.Tables.{publishPlace, subscribePlace, ackPlace, unsubscribePlace};
-ghost use Rattle.tables.specs.Property.{toldForm, placeOf};
+ghost use Rattle.grammar.specs.Tables.{publishPlace, subscribePlace, ackPlace, unsubscribePlace, formAt};
+ghost use Rattle.tables.specs.Property.{toldForm, placeOf, otherOf};
 
 // Where a block stands.
 pub enum PropertyPlace {
     Publish,
+    Subscribe,
+    Ack,
+    Unsubscribe,
+}
+
+// A place that is not Publish's.
+pub enum OtherPlace {
     Subscribe,
     Ack,
     Unsubscribe,
@@ -27,7 +33,7 @@ pub enum PropertyForm {
 
 // The form of a property of a Publish.
 fn publish_property(num: u8) -> PropertyForm
-    ensures { λ r. ⌜ toldForm r ≡ lookup publishPlace num ⌝ }
+    ensures { λ r. ⌜ toldForm r ≡ formAt publishPlace num ⌝ }
 {
     match num {
         1 => PropertyForm::U8,
@@ -44,7 +50,7 @@ fn publish_property(num: u8) -> PropertyForm
 
 // The form of a property of a Subscribe.
 fn subscribe_property(num: u8) -> PropertyForm
-    ensures { λ r. ⌜ toldForm r ≡ lookup subscribePlace num ⌝ }
+    ensures { λ r. ⌜ toldForm r ≡ formAt subscribePlace num ⌝ }
 {
     match num {
         11 => PropertyForm::Number,
@@ -55,7 +61,7 @@ fn subscribe_property(num: u8) -> PropertyForm
 
 // The form of a property of an acknowledgement: PubAck, PubRec, PubRel, PubComp, SubAck, UnsubAck.
 fn ack_property(num: u8) -> PropertyForm
-    ensures { λ r. ⌜ toldForm r ≡ lookup ackPlace num ⌝ }
+    ensures { λ r. ⌜ toldForm r ≡ formAt ackPlace num ⌝ }
 {
     match num {
         31 => PropertyForm::Text,
@@ -66,7 +72,7 @@ fn ack_property(num: u8) -> PropertyForm
 
 // The form of a property of an Unsubscribe.
 fn unsubscribe_property(num: u8) -> PropertyForm
-    ensures { λ r. ⌜ toldForm r ≡ lookup unsubscribePlace num ⌝ }
+    ensures { λ r. ⌜ toldForm r ≡ formAt unsubscribePlace num ⌝ }
 {
     match num {
         38 => PropertyForm::Pair,
@@ -74,9 +80,20 @@ fn unsubscribe_property(num: u8) -> PropertyForm
     }
 }
 
+// One of those places, as a place.
+pub fn as_place(other: OtherPlace) -> PropertyPlace
+    ensures { λ r. ⌜ r ≡ otherOf other ⌝ }
+{
+    match other {
+        OtherPlace::Subscribe => PropertyPlace::Subscribe,
+        OtherPlace::Ack => PropertyPlace::Ack,
+        OtherPlace::Unsubscribe => PropertyPlace::Unsubscribe,
+    }
+}
+
 // The form of a property at a place.
 pub fn property(place: PropertyPlace, num: u8) -> PropertyForm
-    ensures { λ r. ⌜ toldForm r ≡ lookup (placeOf place) num ⌝ }
+    ensures { λ r. ⌜ toldForm r ≡ formAt (placeOf place) num ⌝ }
 {
     match place {
         PropertyPlace::Publish => publish_property(num),

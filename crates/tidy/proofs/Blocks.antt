@@ -8,7 +8,7 @@ use native.Mathlib.Omega.{arith}
 use lib.Dec.{eqb, eqb-refl}
 use borrow.Author.Tests.{eqb-true, not-true}
 use Rattle.grammar.specs.Choice.{lookup, isEmpty, all}
-use Rattle.grammar.specs.Tables.{Form, Place}
+use Rattle.grammar.specs.Tables.{Form, Forms, Place}
 use Rattle.grammar.specs.Record.{allOf, unlessEmpty}
 use Rattle.grammar.specs.Sentence.{Value, Prop}
 use Rattle.grammar.specs.Octets.{Each, nil, _&_}
@@ -28,26 +28,26 @@ use Rattle.tidy.proofs.Rows.{RowGiven}
 
 -- ---- the bytes of all rows are no more than those of all properties
 
-abbrev allSize : Place → List Prop → ℕ
+abbrev allSize : Forms → List Prop → ℕ
 allSize rs ps = total (λ r. weigh (r .1) (allOf (r .0) ps)) rs
 
 -- no identifier stands twice in a place
-abbrev others : ℕ → Place → Bool
+abbrev others : ℕ → Forms → Bool
 others i rs = all (λ s. not (eqb i (s .0))) rs
 
-abbrev pub Distinct : Place → Type 0
+abbrev pub Distinct : Forms → Type 0
 Distinct [] = Unit {0}
 Distinct (r ∷ rs) = (others (r .0) rs ≡ true) × Distinct rs
 
 module _ (p : Prop) (ps : List Prop) where
   -- a property bears on no row but its own
-  other-rows : (rs : Place) → others (p .0) rs ≡ true → allSize rs (p ∷ ps) ≡ allSize rs ps
+  other-rows : (rs : Forms) → others (p .0) rs ≡ true → allSize rs (p ∷ ps) ≡ allSize rs ps
   unfolding allOf
   other-rows [] d = refl
   other-rows (r ∷ rs) d =
       rw (not-true (eqb (p .0) (r .0)) (and-left (not (eqb (p .0) (r .0))) (others (p .0) rs) d), other-rows rs (and-right (not (eqb (p .0) (r .0))) (others (p .0) rs) d))
 
-  add-row : (rs : Place) → Distinct rs → allSize rs (p ∷ ps) ≤ propSize rs p + allSize rs ps
+  add-row : (rs : Forms) → Distinct rs → allSize rs (p ∷ ps) ≤ propSize rs p + allSize rs ps
   unfolding allOf
   add-row [] d = omega arith
   add-row (r ∷ rs) d = go (eqb (p .0) (r .0)) refl (add-row rs (d .1))
@@ -62,21 +62,21 @@ module _ (p : Prop) (ps : List Prop) where
           let m : eqb (r .0) (p .0) ≡ false = eq-not (r .0) (p .0) .1 (λ i. eq-not (p .0) (r .0) .0 e (sym i)) in
           rw m (omega arith)
 
-no-rows : (rs : Place) → allSize rs [] ≡ 0
+no-rows : (rs : Forms) → allSize rs [] ≡ 0
 unfolding allOf
 no-rows [] = refl
 no-rows (r ∷ rs) = omega (arith, no-rows rs)
 
-rows-size : (place : Place) → Distinct place → (ps : List Prop) → allSize place ps ≤ total (propSize place) ps
-rows-size place d [] = omega (arith, no-rows place)
-rows-size place d (p ∷ ps) = omega (arith, add-row p ps place d, rows-size place d ps)
+rows-size : (rs : Forms) → Distinct rs → (ps : List Prop) → allSize rs ps ≤ total (propSize rs) ps
+rows-size rs d [] = omega (arith, no-rows rs)
+rows-size rs d (p ∷ ps) = omega (arith, add-row p ps rs d, rows-size rs d ps)
 
 -- ---- a property stands in some row
 
-no-row : (i : ℕ) (f : Form) (ps : List Prop) {place : Place} → Each (λ r. allOf (r .0) ps ≡ []) place → lookup place i ≡ some f → allOf i ps ≡ []
+no-row : (i : ℕ) (f : Form) (ps : List Prop) {rs : Forms} → Each (λ r. allOf (r .0) ps ≡ []) rs → lookup rs i ≡ some f → allOf i ps ≡ []
 no-row i f ps rows e = lookup-each (λ r. allOf (r .0) ps ≡ []) rows i f e
 
-some-row : (place : Place) (p : Prop) (ps : List Prop) → SuitsIn place p → Each (λ r. allOf (r .0) (p ∷ ps) ≡ []) place → ⊥
+some-row : (place : Place) (p : Prop) (ps : List Prop) → SuitsIn place p → Each (λ r. allOf (r .0) (p ∷ ps) ≡ []) (place .row) → ⊥
 unfolding allOf
 some-row place p ps (f, (e, _)) rows =
     let n = no-row (p .0) f (p ∷ ps) rows e in
@@ -85,7 +85,7 @@ some-row place p ps (f, (e, _)) rows =
     omega arith
 
 -- no entries, no items of any row
-no-items : (g : Givens) (rs : Place) → flat (λ r. tag r (items (g (r .0)))) rs ≡ [] → Each (λ r. items (g (r .0)) ≡ []) rs
+no-items : (g : Givens) (rs : Forms) → flat (λ r. tag r (items (g (r .0)))) rs ≡ [] → Each (λ r. items (g (r .0)) ≡ []) rs
 no-items g [] e = nil
 no-items g (r ∷ rs) e = go (no-items g rs) (items (g (r .0))) refl e
   where
@@ -100,9 +100,9 @@ total-le : {A : Type 0} (u w : A → ℕ) {l : List A} → Each (λ a. u a ≤ w
 total-le u w nil = omega arith
 total-le u w (p & ps) = omega (arith, total-le u w ps)
 
-module _ {place : Place} (g : Givens) (ps : List Prop) (rows : Each (λ r. RowGiven (r .0) (r .1) ps (g (r .0))) place) where
+module _ (place : Place) (g : Givens) (ps : List Prop) (rows : Each (λ r. RowGiven (r .0) (r .1) ps (g (r .0))) (place .row)) where
   -- nothing is handed over for a block that is absent
-  pub rows-belong : Each (InBlock (not (isEmpty ps)) g) place
+  pub rows-belong : Each (InBlock (not (isEmpty ps)) g) (place .row)
   rows-belong = each-imp (λ r w. (w .sorted, λ e. w .empty (go ps e))) rows
     where
       go : (ps : List Prop) → not (isEmpty ps) ≡ false → ps ≡ []
@@ -113,22 +113,22 @@ module _ {place : Place} (g : Givens) (ps : List Prop) (rows : Each (λ r. RowGi
   unfolding propsFields
   rows-sound = flat-each _ (each-imp (λ r w. w .sound) rows)
 
-  rows-lighter : propsSize place g ≤ allSize place ps
+  rows-lighter : propsSize place g ≤ allSize (place .row) ps
   unfolding propsSize
   rows-lighter = total-le _ _ (each-imp (λ r w. w .light) rows)
 
   -- what is written is no longer than what was read, which took n bytes with its length
-  pub rows-light : Distinct place → (n : ℕ) → withLength (total (propSize place) ps) ≤ n → n ≤ most → withLength (propsSize place g) ≤ n
+  pub rows-light : Distinct (place .row) → (n : ℕ) → withLength (total (propSize (place .row)) ps) ≤ n → n ≤ most → withLength (propsSize place g) ≤ n
   rows-light d n l h =
-      let k : propsSize place g ≤ total (propSize place) ps = omega (arith, rows-lighter, rows-size place d ps) in
-      omega (arith, withLength-mono (propsSize place g) (total (propSize place) ps) k (omega arith))
+      let k : propsSize place g ≤ total (propSize (place .row)) ps = omega (arith, rows-lighter, rows-size (place .row) d ps) in
+      omega (arith, withLength-mono (propsSize place g) (total (propSize (place .row)) ps) k (omega arith))
 
   -- a set that was read is written with some property
   pub rows-filled : Each (SuitsIn place) ps → Filled (not (isEmpty ps)) (isEmpty (entries place g))
   unfolding entries
-  rows-filled ss t e = go ps ss t (each-imp (λ r w. w .0 .whole (w .1)) (each-both rows (no-items g place (nil-when _ .0 e))))
+  rows-filled ss t e = go ps ss t (each-imp (λ r w. w .0 .whole (w .1)) (each-both rows (no-items g (place .row) (nil-when _ .0 e))))
     where
-      go : (qs : List Prop) → Each (SuitsIn place) qs → not (isEmpty qs) ≡ true → Each (λ r. allOf (r .0) qs ≡ []) place → ⊥
+      go : (qs : List Prop) → Each (SuitsIn place) qs → not (isEmpty qs) ≡ true → Each (λ r. allOf (r .0) qs ≡ []) (place .row) → ⊥
       go [] ss t w = false≢true t
       go (p ∷ qs) (s & ss) t w = some-row place p qs s w
 

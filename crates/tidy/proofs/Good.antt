@@ -16,7 +16,7 @@ use Rattle.writing.specs.Lists.{flat, total, beside}
 use Rattle.writing.specs.Handed.{PublishHanded, SubscribeHanded, AckHanded, ReplyHanded, UnsubscribeHanded, Lent, Run, Handed, publish, ack, subscribe, reply, unsubscribe, ping, publishGiven, subscribeGiven, ackGiven, unsubscribeGiven, strings, filters}
 use Rattle.writing.specs.Size.{most, withLength, propsSize, isPlain, restIs, sizeIs}
 use Rattle.writing.specs.Order.{word, code, stringField, filterField, fieldsOf, orNone, numbersOf}
-use Rattle.writing.specs.Refuse.{Writable, Small, Countable, Unnamed, Unasked, Accepts}
+use Rattle.writing.specs.Refuse.{Writable, Fine, Countable, Unnamed, Unasked, Accepts}
 use Rattle.writing.specs.Meant.{publishSet, subscribeSet, ackSet, unsubscribeSet, thePublish, theAck, theReply, meant, Below, Typed, Plain}
 use Rattle.writing.proofs.Each.{each-append, rows-of}
 use Rattle.writing.proofs.Values.{Suits, an-u8, an-u16, an-u32, a-number, a-text, a-bytes, low-qos, low-rule, low-filter}
@@ -40,7 +40,7 @@ u16-num _ (an-u16 {n} h) = (n, refl, h)
 u32-num : (v : Value) → Suits u32 v → Num 4294967296 v
 u32-num _ (an-u32 {n} h) = (n, refl, h)
 
-number-num : (v : Value) → Suits number v → (n : ℕ) × (v ≡ num n) × Small n
+number-num : (v : Value) → Suits number v → (n : ℕ) × (v ≡ num n) × Fine n
 number-num _ (a-number {n} h) = (n, refl, h)
 
 abbrev Str : Form → Value → Type 0
@@ -65,7 +65,7 @@ pub record Good (v : Packet) (h : Handed) : Type 0 where
   pub means : meant h ≡ v
 
 -- with no limit, and as much room as is needed
-fitting : (h : Handed) → Countable h → (Unnamed h → ⊥) → Each Small (numbersOf h) → (Unasked h → ⊥) → Accepts none (sizeIs h) h
+fitting : (h : Handed) → Countable h → (Unnamed h → ⊥) → Each Fine (numbersOf h) → (Unasked h → ⊥) → Accepts none (sizeIs h) h
 fitting h c i n s = record { countable = c; within = tt; named = i; numbers = n; asked = s; fits = omega arith }
 
 -- ---- Publish
@@ -98,9 +98,9 @@ module _ (p : Publish (List ℕ) List) (ps : List Prop) (ss : Each (SuitsIn publ
     content = last-suits publishPlace 3 text refl ss;
   }
 
-  publish-rows : PublishSet → Each (λ r. RowGiven (r .0) (r .1) ps (publishGiven publishIt (r .0))) publishPlace
+  publish-rows : PublishSet → Each (λ r. RowGiven (r .0) (r .1) ps (publishGiven publishIt (r .0))) (publishPlace .row)
   unfolding publishPlace publishGiven publishProps
-  publish-rows w = rows-of (λ r. RowGiven (r .0) (r .1) ps (publishGiven publishIt (r .0))) publishPlace
+  publish-rows w = rows-of (λ r. RowGiven (r .0) (r .1) ps (publishGiven publishIt (r .0))) (publishPlace .row)
       (row-one 1 u8 ps (num-back _ u8-num (w .format) .1)
       & (row-one 2 u32 ps (num-back _ u32-num (w .expiry) .1)
       & (row-one 35 u16 ps (num-back _ u16-num (w .alias) .1)
@@ -124,7 +124,7 @@ module _ (p : Publish (List ℕ) List) (ps : List Prop) (ss : Each (SuitsIn publ
     str-back text-str (w .content) .2,
   )
 
-publish-distinct : Distinct publishPlace
+publish-distinct : Distinct (publishPlace .row)
 unfolding publishPlace
 publish-distinct = (refl, (refl, (refl, (refl, (refl, (refl, (refl, (refl, tt))))))))
 
@@ -139,11 +139,11 @@ publish-good p w =
     let h : PublishHanded = publishIt p ps (w .props .suits) in
     let s = publish-rows-say p ps (w .props .suits) in
     let rows = publish-rows p ps (w .props .suits) s in
-    let l = rows-light (publishGiven h) ps rows publish-distinct (w .size) (w .props .light) (omega (arith, w .light)) in
+    let l = rows-light publishPlace (publishGiven h) ps rows publish-distinct (w .size) (w .props .light) (omega (arith, w .light)) in
     record {
       accepts = fitting (publish h) (record {
-        belongs = rows-belong (publishGiven h) ps rows;
-        fields = w .topic & rows-sound (publishGiven h) ps rows;
+        belongs = rows-belong publishPlace (publishGiven h) ps rows;
+        fields = w .topic & rows-sound publishPlace (publishGiven h) ps rows;
         rest = omega (arith, w .light);
       }) (λ t. w .named (t .0) (t .1)) (numbers-back (s .subscriptions) .0) (λ f. f);
       typed = record {
@@ -161,7 +161,7 @@ publish-good p w =
         content = str-back text-str (s .content) .0;
         payload = w .payload;
       };
-      plain = (w .unnamed, rows-filled (publishGiven h) ps rows (w .props .suits));
+      plain = (w .unnamed, rows-filled publishPlace (publishGiven h) ps rows (w .props .suits));
       means = ap (λ (o : Option (PublishProps (List ℕ) List)). thePublish h (p .ident) o) (set-list (publishProps (List ℕ) List asList) ps (publishSet h) (publish-set-back p ps (w .props .suits) s) ∙ sym (w .props .is));
     }
 
@@ -184,9 +184,9 @@ module _ (ps : List Prop) (ss : Each (SuitsIn ackPlace) ps) where
   unfolding ackPlace
   ack-user = all-suits ackPlace 38 pair refl ss
 
-  ack-rows : Each (λ r. RowGiven (r .0) (r .1) ps (ackGiven (textIt ps) (userIt ps) (r .0))) ackPlace
+  ack-rows : Each (λ r. RowGiven (r .0) (r .1) ps (ackGiven (textIt ps) (userIt ps) (r .0))) (ackPlace .row)
   unfolding ackPlace ackGiven
-  ack-rows = rows-of (λ r. RowGiven (r .0) (r .1) ps (ackGiven (textIt ps) (userIt ps) (r .0))) ackPlace
+  ack-rows = rows-of (λ r. RowGiven (r .0) (r .1) ps (ackGiven (textIt ps) (userIt ps) (r .0))) (ackPlace .row)
       (row-lent 31 text ps (str-back text-str ack-text .1) (str-back text-str ack-text .2)
       & (row-pairs 38 ps ack-user
       & nil))
@@ -202,7 +202,7 @@ module _ (ps : List Prop) (ss : Each (SuitsIn ackPlace) ps) where
 abbrev ackIt : Ack (List ℕ) List → List Prop → AckHanded
 ackIt p ps = ackFrom p (not (isEmpty ps)) (propsOf (List ℕ) List asList ps)
 
-ack-distinct : Distinct ackPlace
+ack-distinct : Distinct (ackPlace .row)
 unfolding ackPlace
 ack-distinct = (refl, (refl, tt))
 
@@ -220,11 +220,11 @@ ack-good k p w =
     let ps : List Prop = w .props .list in
     let h : AckHanded = ackIt p ps in
     let rows = ack-rows ps (w .props .suits) in
-    let l = rows-light (ackGiven (h .text) (h .user)) ps rows ack-distinct (w .size) (w .props .light) (omega (arith, w .light)) in
+    let l = rows-light ackPlace (ackGiven (h .text) (h .user)) ps rows ack-distinct (w .size) (w .props .light) (omega (arith, w .light)) in
     record {
       accepts = fitting (ack k h) (record {
-        belongs = rows-belong (ackGiven (h .text) (h .user)) ps rows;
-        fields = w .reason & rows-sound (ackGiven (h .text) (h .user)) ps rows;
+        belongs = rows-belong ackPlace (ackGiven (h .text) (h .user)) ps rows;
+        fields = w .reason & rows-sound ackPlace (ackGiven (h .text) (h .user)) ps rows;
         rest = plain-small (isPlain h) (withLength (propsSize ackPlace (ackGiven (h .text) (h .user)))) (omega (arith, w .light));
       }) (λ f. f) nil (λ f. f);
       typed = record {
@@ -234,7 +234,7 @@ ack-good k p w =
         text = str-back text-str (ack-text ps (w .props .suits)) .0;
         user = users-octets (ack-user ps (w .props .suits));
       };
-      plain = rows-filled (ackGiven (h .text) (h .user)) ps rows (w .props .suits);
+      plain = rows-filled ackPlace (ackGiven (h .text) (h .user)) ps rows (w .props .suits);
       means = ap (λ (o : Option (Props (List ℕ) List)). theAck k h o) (set-list (propsOf (List ℕ) List asList) ps (ackSet (h .text) (h .user)) (ack-set-back ps (w .props .suits)) ∙ sym (w .props .is));
     }
 
@@ -265,11 +265,11 @@ reply-good k p w =
     let ps : List Prop = w .props .list in
     let h : ReplyHanded = replyIt p ps in
     let rows = ack-rows ps (w .props .suits) in
-    let l = rows-light (ackGiven (h .text) (h .user)) ps rows ack-distinct (w .size) (w .props .light) (omega (arith, w .light)) in
+    let l = rows-light ackPlace (ackGiven (h .text) (h .user)) ps rows ack-distinct (w .size) (w .props .light) (omega (arith, w .light)) in
     record {
       accepts = fitting (reply k h) (record {
-        belongs = rows-belong (ackGiven (h .text) (h .user)) ps rows;
-        fields = each-append (rows-sound (ackGiven (h .text) (h .user)) ps rows) (reasons-sound (reasonsOf k) (w .reasons));
+        belongs = rows-belong ackPlace (ackGiven (h .text) (h .user)) ps rows;
+        fields = each-append (rows-sound ackPlace (ackGiven (h .text) (h .user)) ps rows) (reasons-sound (reasonsOf k) (w .reasons));
         rest = omega (arith, w .light, reasons-size (p .reasons));
       }) (λ f. f) nil (some-there (p .reasons) (w .asked));
       typed = record {
@@ -279,7 +279,7 @@ reply-good k p w =
         user = users-octets (ack-user ps (w .props .suits));
         reasons = reasons-octets (reasonsOf k) (w .reasons);
       };
-      plain = rows-filled (ackGiven (h .text) (h .user)) ps rows (w .props .suits);
+      plain = rows-filled ackPlace (ackGiven (h .text) (h .user)) ps rows (w .props .suits);
       means = ap (λ (o : Option (Props (List ℕ) List)). theReply k h o) (set-list (propsOf (List ℕ) List asList) ps (ackSet (h .text) (h .user)) (ack-set-back ps (w .props .suits)) ∙ sym (w .props .is));
     }
 
@@ -290,9 +290,9 @@ module _ (ps : List Prop) (ss : Each (SuitsIn unsubscribePlace) ps) where
   unfolding unsubscribePlace
   unsubscribe-user = all-suits unsubscribePlace 38 pair refl ss
 
-  unsubscribe-rows : Each (λ r. RowGiven (r .0) (r .1) ps (unsubscribeGiven (userIt ps) (r .0))) unsubscribePlace
+  unsubscribe-rows : Each (λ r. RowGiven (r .0) (r .1) ps (unsubscribeGiven (userIt ps) (r .0))) (unsubscribePlace .row)
   unfolding unsubscribePlace unsubscribeGiven
-  unsubscribe-rows = rows-of (λ r. RowGiven (r .0) (r .1) ps (unsubscribeGiven (userIt ps) (r .0))) unsubscribePlace (row-pairs 38 ps unsubscribe-user & nil)
+  unsubscribe-rows = rows-of (λ r. RowGiven (r .0) (r .1) ps (unsubscribeGiven (userIt ps) (r .0))) (unsubscribePlace .row) (row-pairs 38 ps unsubscribe-user & nil)
 
   unsubscribe-nothing : (lastOf 31 ps ≡ none) × (lastOf 11 ps ≡ none)
   unfolding unsubscribePlace
@@ -302,9 +302,10 @@ module _ (ps : List Prop) (ss : Each (SuitsIn unsubscribePlace) ps) where
   unfolding propsOf
   unsubscribe-set-back = rw (unsubscribe-nothing .0, unsubscribe-nothing .1, users-back unsubscribe-user)
 
-unsubscribe-distinct : Distinct unsubscribePlace
+unsubscribe-distinct : Distinct (unsubscribePlace .row)
 unfolding unsubscribePlace
 unsubscribe-distinct = (refl, tt)
+
 abbrev unsubscribeIt : Unsubscribe (List ℕ) List → List Prop → UnsubscribeHanded
 unsubscribeIt p ps = unsubscribeFrom p (not (isEmpty ps)) (propsOf (List ℕ) List asList ps)
 
@@ -331,17 +332,17 @@ unsubscribe-good p w =
     let ps : List Prop = w .props .list in
     let h : UnsubscribeHanded = unsubscribeIt p ps in
     let rows = unsubscribe-rows ps (w .props .suits) in
-    let l = rows-light (unsubscribeGiven (h .user)) ps rows unsubscribe-distinct (w .size) (w .props .light) (omega (arith, w .light)) in
+    let l = rows-light unsubscribePlace (unsubscribeGiven (h .user)) ps rows unsubscribe-distinct (w .size) (w .props .light) (omega (arith, w .light)) in
     let b = topics-back (w .topics) in
     let e : strings (h .topics) ≡ p .topics = run-back (p .topics) in
     record {
       accepts = fitting (unsubscribe h) (record {
-        belongs = (rows-belong (unsubscribeGiven (h .user)) ps rows, run-adds (p .topics));
-        fields = each-append (rows-sound (unsubscribeGiven (h .user)) ps rows) (rw e (b .sound));
+        belongs = (rows-belong unsubscribePlace (unsubscribeGiven (h .user)) ps rows, run-adds (p .topics));
+        fields = each-append (rows-sound unsubscribePlace (unsubscribeGiven (h .user)) ps rows) (rw e (b .sound));
         rest = omega (arith, w .light, b .sum);
       }) (λ f. f) nil (λ q. some-there (p .topics) (w .asked) (sym e ∙ q));
       typed = record { ident = w .ident; user = users-octets (unsubscribe-user ps (w .props .suits)); topics = run-octets (b .octets) };
-      plain = rows-filled (unsubscribeGiven (h .user)) ps rows (w .props .suits);
+      plain = rows-filled unsubscribePlace (unsubscribeGiven (h .user)) ps rows (w .props .suits);
       means =
           ap (λ (ts : List (List ℕ)). g.unsubscribe (record { ident = p .ident; props = cond (not (isEmpty ps)) (some (unsubscribeSet (h .user))) none; topics = ts })) e
           ∙ ap (λ (o : Option (Props (List ℕ) List)). g.unsubscribe (record { ident = p .ident; props = o; topics = p .topics })) (set-list (propsOf (List ℕ) List asList) ps (unsubscribeSet (h .user)) (unsubscribe-set-back ps (w .props .suits)) ∙ sym (w .props .is));
@@ -361,10 +362,10 @@ module _ (p : Subscribe (List ℕ) List) (ps : List Prop) (ss : Each (SuitsIn su
   unfolding subscribePlace
   subscribe-user = all-suits subscribePlace 38 pair refl ss
 
-  subscribe-rows : Each (λ r. RowGiven (r .0) (r .1) ps (subscribeGiven subscribeIt (r .0))) subscribePlace
+  subscribe-rows : Each (λ r. RowGiven (r .0) (r .1) ps (subscribeGiven subscribeIt (r .0))) (subscribePlace .row)
   unfolding subscribePlace subscribeGiven propsOf
-  subscribe-rows = rows-of (λ r. RowGiven (r .0) (r .1) ps (subscribeGiven subscribeIt (r .0))) subscribePlace
-      (row-one 11 number ps (num-back Small number-num subscribe-ident .1)
+  subscribe-rows = rows-of (λ r. RowGiven (r .0) (r .1) ps (subscribeGiven subscribeIt (r .0))) (subscribePlace .row)
+      (row-one 11 number ps (num-back Fine number-num subscribe-ident .1)
       & (row-pairs 38 ps subscribe-user
       & nil))
 
@@ -374,11 +375,12 @@ module _ (p : Subscribe (List ℕ) List) (ps : List Prop) (ss : Each (SuitsIn su
 
   subscribe-set-back : subscribeSet subscribeIt ≡ propsOf (List ℕ) List asList ps
   unfolding propsOf
-  subscribe-set-back = rw (subscribe-no-reason, num-back Small number-num subscribe-ident .1, users-back subscribe-user)
+  subscribe-set-back = rw (subscribe-no-reason, num-back Fine number-num subscribe-ident .1, users-back subscribe-user)
 
-subscribe-distinct : Distinct subscribePlace
+subscribe-distinct : Distinct (subscribePlace .row)
 unfolding subscribePlace
 subscribe-distinct = (refl, (refl, tt))
+
 -- the options that a filter is handed over with are those that were read, with the two high bits 0
 bits-3 : (o : ℕ) → o % 4 + 4 * (o / 4 % 2) ≡ o % 8
 bits-3 o = omega arith
@@ -436,18 +438,18 @@ subscribe-good p w =
     let ps : List Prop = w .props .list in
     let h : SubscribeHanded = subscribeIt p ps (w .props .suits) in
     let rows = subscribe-rows p ps (w .props .suits) in
-    let l = rows-light (subscribeGiven h) ps rows subscribe-distinct (w .size) (w .props .light) (omega (arith, w .light)) in
+    let l = rows-light subscribePlace (subscribeGiven h) ps rows subscribe-distinct (w .size) (w .props .light) (omega (arith, w .light)) in
     let b = filters-back (w .filters) in
     let e : filters h ≡ beside (pathsOf (p .filters)) (map optionsByte (p .filters)) = ap (λ (ss : List (List ℕ)). beside ss (map optionsByte (p .filters))) (run-back (pathsOf (p .filters))) in
     let c : length (map length (pathsOf (p .filters))) ≡ length (map optionsByte (p .filters)) = simp length-map in
     record {
       accepts = fitting (subscribe h) (record {
-        belongs = (rows-belong (subscribeGiven h) ps rows, (run-adds (pathsOf (p .filters)), c));
-        fields = each-append (rows-sound (subscribeGiven h) ps rows) (rw e (b .sound));
+        belongs = (rows-belong subscribePlace (subscribeGiven h) ps rows, (run-adds (pathsOf (p .filters)), c));
+        fields = each-append (rows-sound subscribePlace (subscribeGiven h) ps rows) (rw e (b .sound));
         rest = omega (arith, w .light, b .sum);
-      }) (λ f. f) (num-back Small number-num (subscribe-ident p ps (w .props .suits)) .0) (λ q. some-filters (p .filters) (w .asked) (sym e ∙ q));
+      }) (λ f. f) (num-back Fine number-num (subscribe-ident p ps (w .props .suits)) .0) (λ q. some-filters (p .filters) (w .asked) (sym e ∙ q));
       typed = record { ident = w .ident; user = users-octets (subscribe-user p ps (w .props .suits)); filters = run-octets (b .octets) };
-      plain = rows-filled (subscribeGiven h) ps rows (w .props .suits);
+      plain = rows-filled subscribePlace (subscribeGiven h) ps rows (w .props .suits);
       means =
           ap (λ (fs : List (Filter (List ℕ))). g.subscribe (record { ident = p .ident; props = cond (not (isEmpty ps)) (some (subscribeSet h)) none; filters = fs })) (ap (map mkFilter) e ∙ b .back)
           ∙ ap (λ (o : Option (Props (List ℕ) List)). g.subscribe (record { ident = p .ident; props = o; filters = p .filters })) (set-list (propsOf (List ℕ) List asList) ps (subscribeSet h) (subscribe-set-back p ps (w .props .suits)) ∙ sym (w .props .is));

@@ -6,11 +6,11 @@ use Prim.Native.Nat.{ℕ, suc, _+_, _*_, _^_, _≤_, _<_}
 use native.Mathlib.Omega.{arith}
 use native.Mathlib.Nat.{pow-suc, mul-assoc, mul-comm, mul-le-mul-right}
 use lib.ListN.{length, length-append}
-use Rattle.grammar.specs.Choice.{lookup}
-use Rattle.grammar.specs.Gram.{Gram, mapped, both, Sized, sized, done, more, Many, Is, is}
+use Rattle.grammar.specs.Gram.{Gram, mapped, only, both, Sized, sized, done, more, Many, Is, is}
 use Rattle.grammar.specs.Number.{Byte, byte, bigFrom, Big, big, Spells}
 use Rattle.grammar.specs.Text.{Utf8}
-use Rattle.grammar.specs.Tables.{Form, u8, u16, u32, number, text, bytes, pair, Place}
+use Rattle.grammar.specs.Choice.{lookup}
+use Rattle.grammar.specs.Tables.{Form, u8, u16, u32, number, text, bytes, pair, Forms, Place, formAt}
 use Rattle.grammar.specs.Sentence.{Any, Value, Prop, Spelt, Property, property, Block}
 use Rattle.grammar.proofs.Numbers.{spells-small}
 use Rattle.grammar.specs.Octets.{Each, nil, _&_, Octet, Octets}
@@ -75,7 +75,7 @@ unfolding value numeral
 has-value u8 _ b (mapped {a = n} g) o = let (h, e) = has-byte n b g o in (an-u8 h, omega arith)
 has-value u16 _ b (mapped {a = n} g) o = let (h, e) = has-big 2 n b g o in (an-u16 {n = n} (omega arith), omega (arith, length-wide 2 n))
 has-value u32 _ b (mapped {a = n} g) o = let (h, e) = has-big 4 n b g o in (an-u32 {n = n} (omega arith), omega (arith, length-wide 4 n))
-has-value number _ b (mapped {a = n} g) o = let (h, l) = has-number n b g o in (a-number h, omega (arith, length-short n))
+has-value number _ b (mapped (only {a = n} z g)) o = let (h, l) = has-number n b g o in (a-number (h, z), omega (arith, length-short n))
 has-value text _ b (mapped {a = s} g) o = let (h, u, q, e) = has-string Utf8 s b g o in (a-text q (h, u), omega (arith, length-string s))
 has-value bytes _ b (mapped {a = s} g) o = let (h, u, q, e) = has-string Any s b g o in (a-bytes q h, omega (arith, length-string s))
 has-value pair _ _ (mapped (both {a = s} {c = t} {b = b} {d = d} g g′)) o =
@@ -87,17 +87,17 @@ has-value pair _ _ (mapped (both {a = s} {c = t} {b = b} {d = d} g g′)) o =
 
 -- a property of the place, whose value can be written
 abbrev pub SuitsIn : Place → Prop → Type 0
-SuitsIn place p = (f : Form) × ((lookup place (p .0) ≡ some f) × Suits f (p .1))
+SuitsIn place p = (f : Form) × ((formAt place (p .0) ≡ some f) × Suits f (p .1))
 
 -- its identifier byte and its value
 abbrev pub sizeBy : Option Form → Value → ℕ
 sizeBy none v = 0
 sizeBy (some f) v = suc (length (value f v))
 
-abbrev pub propSize : Place → Prop → ℕ
-propSize place p = sizeBy (lookup place (p .0)) (p .1)
+abbrev pub propSize : Forms → Prop → ℕ
+propSize row p = sizeBy (lookup row (p .0)) (p .1)
 
-has-property : (place : Place) → Has (Property place) (λ p n. SuitsIn place p × (propSize place p ≤ n))
+has-property : (place : Place) → Has (Property place) (λ p n. SuitsIn place p × (propSize (place .row) p ≤ n))
 has-property place _ _ (property {f = f} {v = v} {b = b} e g) o = let (s, l) = has-value f v b g (each-tail o) in ((f, (e, s)), rw e (omega arith))
 
 -- the properties that a block comes from
@@ -105,11 +105,11 @@ pub record FromList {A : Type 0} (place : Place) (f : List Prop → A) (a : A) (
   pub list : List Prop
   pub is : a ≡ f list
   pub suits : Each (SuitsIn place) list
-  pub light : withLength (total (propSize place) list) ≤ n
+  pub light : withLength (total (propSize (place .row)) list) ≤ n
 
 pub has-block : {A : Type 0} (place : Place) (f : List Prop → A) → Has (Block place f) (FromList place f)
-has-block place f _ _ (sized {b = b} {c = c} n (mapped {a = ps} m)) o =
+has-block place f _ _ (sized {b = b} {c = c} n (mapped {a = ps} (only d m))) o =
     let (s, l) = has-number (length b) c n (each-left c b o) in
-    let (ss, t) = has-many (SuitsIn place) (propSize place) (has-property place) ps b m (each-right c b o) in
-    let k = withLength-mono (total (propSize place) ps) (length b) t s in
+    let (ss, t) = has-many (SuitsIn place) (propSize (place .row)) (has-property place) ps b m (each-right c b o) in
+    let k = withLength-mono (total (propSize (place .row)) ps) (length b) t s in
     record { list = ps; is = refl; suits = ss; light = omega (arith, length-append c b) }

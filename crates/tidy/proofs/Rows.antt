@@ -10,8 +10,7 @@ use lib.Dec.{eqb}
 use lib.ListN.{length, length-append}
 use lib.Seq.{take-append-seam, drop-append-seam}
 use borrow.Author.Tests.{eqb-true}
-use Rattle.grammar.specs.Choice.{lookup}
-use Rattle.grammar.specs.Tables.{Form, number, bytes, pair, Place}
+use Rattle.grammar.specs.Tables.{Form, number, bytes, pair, Place, formAt}
 use Rattle.grammar.specs.Record.{num, str, duo, lastFrom, lastOf, allOf}
 use Rattle.grammar.specs.Sentence.{Value, Prop}
 use Rattle.grammar.specs.Octets.{Each, nil, _&_, Octets}
@@ -19,7 +18,7 @@ use Rattle.writing.specs.Lists.{flat}
 use Rattle.writing.specs.Handed.{Given, one, lent, pairs, several, strings, duos, items}
 use Rattle.writing.specs.Size.{givenSize}
 use Rattle.writing.specs.Order.{word, stringField, givenFields, orNone}
-use Rattle.writing.specs.Refuse.{AddsUp, Sorted, NothingGiven, Writable, Small}
+use Rattle.writing.specs.Refuse.{AddsUp, Sorted, NothingGiven, Writable, Fine}
 use Rattle.writing.specs.Meant.{numeralOf, stringOf}
 use Rattle.writing.proofs.Each.{flat-each}
 use Rattle.writing.proofs.Values.{Suits, a-number, a-pair}
@@ -34,7 +33,7 @@ pub data Perhaps {A : Type 0} (P : A → Type 0) : Option A → Type 0 where
   absent : Perhaps P none
   present : {a : A} → P a → Perhaps P (some a)
 
-module _ (place : Place) (i : ℕ) (f : Form) (e : lookup place i ≡ some f) where
+module _ (place : Place) (i : ℕ) (f : Form) (e : formAt place i ≡ some f) where
   of-row : (p : Prop) → SuitsIn place p → eqb (p .0) i ≡ true → Suits f (p .1)
   of-row p (f′, (e′, s)) q =
       let j : p .0 ≡ i = eqb-true (p .0) i q in
@@ -63,7 +62,7 @@ module _ (place : Place) (i : ℕ) (f : Form) (e : lookup place i ≡ some f) wh
       go r false q = r
 
 -- what is not in the row does not stand in the block
-pub last-absent : (place : Place) (i : ℕ) → lookup place i ≡ none → {ps : List Prop} → Each (SuitsIn place) ps → lastOf i ps ≡ none
+pub last-absent : (place : Place) (i : ℕ) → formAt place i ≡ none → {ps : List Prop} → Each (SuitsIn place) ps → lastOf i ps ≡ none
 unfolding lastOf
 last-absent place i e nil = refl
 last-absent place i e (_&_ {a = p} {l = ps} s ss) = go (eqb (p .0) i) refl (last-absent place i e ss)
@@ -73,7 +72,7 @@ last-absent place i e (_&_ {a = p} {l = ps} s ss) = go (eqb (p .0) i) refl (last
     go true q h =
         let (f, (e′, _)) = s in
         let j : p .0 ≡ i = eqb-true (p .0) i q in
-        let z : none ≡ some f = sym e ∙ ap (lookup place) (sym j) ∙ e′ in
+        let z : none ≡ some f = sym e ∙ ap (formAt place) (sym j) ∙ e′ in
         cc
 
 -- ---- values there and back
@@ -87,11 +86,11 @@ pub str-back : {f : Form} → ((v : Value) → Suits f v → (s : List ℕ) × (
 str-back s absent = (nil, nil, refl)
 str-back s (present {a = v} w) = let (b, e, o, h) = s v w in rw e (o, h & nil, refl)
 
-pub numbers-back : {vs : List Value} → Each (Suits number) vs → Each Small (numsIn vs) × (map num (numsIn vs) ≡ vs)
+pub numbers-back : {vs : List Value} → Each (Suits number) vs → Each Fine (numsIn vs) × (map num (numsIn vs) ≡ vs)
 numbers-back nil = (nil, refl)
 numbers-back (_&_ {l = vs} s ss) = go s (numbers-back ss)
   where
-    go : {v : Value} → Suits number v → Each Small (numsIn vs) × (map num (numsIn vs) ≡ vs) → Each Small (numsIn (v ∷ vs)) × (map num (numsIn (v ∷ vs)) ≡ v ∷ vs)
+    go : {v : Value} → Suits number v → Each Fine (numsIn vs) × (map num (numsIn vs) ≡ vs) → Each Fine (numsIn (v ∷ vs)) × (map num (numsIn (v ∷ vs)) ≡ v ∷ vs)
     go (a-number {n} h) (p, e) = (h & p, ap (λ (l : List Value). num n ∷ l) e)
 
 -- keys and values of pairs, one after the other, are the pairs again

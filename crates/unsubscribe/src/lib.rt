@@ -6,7 +6,7 @@ use properties::place_block::GotBlock;
 use records::error::Error;
 use records::span::Span;
 use records::unsubscribe_record::Unsubscribe;
-use tables::property::PropertyPlace;
+use tables::property::OtherPlace;
 use wire::got::GotSpan;
 use wire::string;
 ghost use mathlib.Core.Path.{_≡_};
@@ -55,7 +55,11 @@ pub fn read(s: &[u8], at: usize) -> GotUnsubscribe
 {
     match fixed::read_u16(s, at) {
         GotU16::Refused(e) => GotUnsubscribe::Refused(e),
-        GotU16::Value(pkid, next) => match place_block::read_block(PropertyPlace::Unsubscribe, s, next) {
+        GotU16::Value(pkid, next) => match place_block::read_block(
+            OtherPlace::Unsubscribe,
+            s,
+            next,
+        ) {
             GotBlock::Refused(e) => GotUnsubscribe::Refused(e),
             GotBlock::Value(properties, start) => match read_topics(s, start) {
                 GotTopics::Refused(e) => GotUnsubscribe::Refused(e),

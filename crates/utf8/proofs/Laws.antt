@@ -20,7 +20,7 @@ use Rattle.reading.specs.Read.{byteOf, followOf, restOf, charOf, isText}
 use Rattle.reading.proofs.Reading.{less, solid-map, solid-then}
 use Rattle.reading.proofs.Fields.{byte-solid, reads-char}
 use Rattle.positions.proofs.Walk.{Less, chain-nil, chain-bad, chain-next}
-use Rattle.utf8.specs.Text.{dueOf, textAfter, Followed, Passed, allAscii}
+use Rattle.utf8.specs.Text.{plain, dueOf, textAfter, Followed, Passed, allAscii}
 
 -- ---- a row of the table
 
@@ -238,9 +238,9 @@ module _ (s : List ℕ) (at : ℕ) where
       char-broken t = stuck (omega arith) (first-at (some (dueOf n low high)) e ∙ f .no t)
 
     -- an ASCII byte
-    pub ascii : getD s at 0 < 128 → isText (drop at s) ≡ isText (drop (at + 1) s)
+    pub ascii : 0 < getD s at 0 → getD s at 0 < 128 → isText (drop at s) ≡ isText (drop (at + 1) s)
     unfolding rows
-    ascii l = first-at (some []) (row-at 0 (getD s at 0) tt (omega arith)) ∙ after-none (drop (at + 1) s)
+    ascii z l = first-at (some []) (row-at 0 (getD s at 0) tt (omega arith)) ∙ after-none (drop (at + 1) s)
 
 -- the text from index `at` goes on at i
 pub record Going (s : List ℕ) (at i : ℕ) : Type 0 where
@@ -271,6 +271,18 @@ going-end {s} {i = i} g h = g .rest ∙ text-over s i h
 pub both-low : (a b : ℕ) → bitOr a b < 128 → (a < 128) × (b < 128)
 both-low a b h = (omega (arith, or-add-and a b, and-le-r a b), omega (arith, or-add-and a b, and-le-l a b))
 
+-- ---- the lesser of two bytes
+
+pub lesser-second : (a b : ℕ) → b < a → ltb 0 b ≡ (ltb 0 a && ltb 0 b)
+lesser-second a b h = rw (le-leb 1 a (omega arith))
+
+pub lesser-first : (a b : ℕ) → a ≤ b → ltb 0 a ≡ (ltb 0 a && ltb 0 b)
+lesser-first a b h = go (ltb 0 a) refl
+  where
+    go : (t : Bool) → ltb 0 a ≡ t → t ≡ (t && ltb 0 b)
+    go true e = sym (le-leb 1 b (omega (arith, leb-true 1 a e)))
+    go false e = refl
+
 -- ---- bytes that are all ASCII
 
 pub and-both : (a b : Bool) → (a && b) ≡ true → (a ≡ true) × (b ≡ true)
@@ -279,7 +291,7 @@ and-both false b e = absurd (false≢true e)
 
 ascii-append : (xs ys : List ℕ) → allAscii (xs ++ ys) ≡ (allAscii xs && allAscii ys)
 ascii-append [] ys = refl
-ascii-append (x ∷ xs) ys = rw (ascii-append xs ys) (sym (and-assoc (ltb x 128) (allAscii xs) (allAscii ys)))
+ascii-append (x ∷ xs) ys = rw (ascii-append xs ys) (sym (and-assoc (plain x) (allAscii xs) (allAscii ys)))
 
 -- the first n, and the others
 pub ascii-split : (n : ℕ) (s : List ℕ) → allAscii s ≡ (allAscii (take n s) && allAscii (drop n s))
@@ -295,18 +307,38 @@ or-low a b = go (ltb a 128) refl (ltb b 128) refl
 
 module _ (s : List ℕ) (at i : ℕ) (h : at ≤ i) (l : i < length s) where
   -- one byte more
-  pub ascii-more : allAscii (take (i + 1 - at) (drop at s)) ≡ (allAscii (take (i - at) (drop at s)) && ltb (getD s i 0) 128)
+  pub ascii-more : allAscii (take (i + 1 - at) (drop at s)) ≡ (allAscii (take (i - at) (drop at s)) && plain (getD s i 0))
   ascii-more =
       let e : i + 1 - at ≡ i - at + 1 = omega arith in
       let f : at + (i - at) ≡ i = omega arith in
-      rw (e, take-add (i - at) 1 (drop at s), ascii-append (take (i - at) (drop at s)) (take 1 (drop (i - at) (drop at s))), drop-drop (i - at) at s, f, drop-cons s i 0 l, and-true (ltb (getD s i 0) 128))
+      rw (e, take-add (i - at) 1 (drop at s), ascii-append (take (i - at) (drop at s)) (take 1 (drop (i - at) (drop at s))), drop-drop (i - at) at s, f, drop-cons s i 0 l, and-true (plain (getD s i 0)))
+
+plain-first : (x : ℕ) (s : List ℕ) → plain x ≡ true → isText (x ∷ s) ≡ isText s
+plain-first x s e =
+    let (z, b) = and-both (ltb 0 x) (ltb x 128) e in
+    ascii (x ∷ s) 0 (omega arith) (leb-true 1 x z) (leb-true (suc x) 128 b)
+
+-- two bytes, of which one or both are so
+pub plain-both : (p q r t : Bool) → ((p && q) && (r && t)) ≡ ((p && r) && (q && t))
+plain-both true true r t = refl
+plain-both true false true t = refl
+plain-both true false false t = refl
+plain-both false q r t = refl
 
 -- text, whatever part of it
 pub ascii-text : (s : List ℕ) → allAscii s ≡ true → isText s ≡ true
 ascii-text [] e = text-end
 ascii-text (x ∷ s) e =
-    let (b, t) = and-both (ltb x 128) (allAscii s) e in
-    ascii (x ∷ s) 0 (omega arith) (leb-true (suc x) 128 b) ∙ ascii-text s t
+    let (b, t) = and-both (plain x) (allAscii s) e in
+    plain-first x s b ∙ ascii-text s t
+
+-- so many of them, and the text goes on behind them
+pub plain-front : (n : ℕ) (s : List ℕ) → n ≤ length s → allAscii (take n s) ≡ true → isText s ≡ isText (drop n s)
+plain-front zero s h e = refl
+plain-front (suc n) [] h e = refl
+plain-front (suc n) (x ∷ s) h e =
+    let (b, t) = and-both (plain x) (allAscii (take n s)) e in
+    plain-first x s b ∙ plain-front n s (omega arith) t
 
 -- those from the i-th on decide: n of them at once
 module _ (s : List ℕ) (i n : ℕ) (d : allAscii s ≡ allAscii (drop i s)) where
@@ -321,3 +353,16 @@ module _ (s : List ℕ) (i n : ℕ) (d : allAscii s ≡ allAscii (drop i s)) whe
 
   pub chunk-last : length s ≤ i + n → allAscii (take n (drop i s)) ≡ allAscii s
   chunk-last h = ap allAscii (take-all n (drop i s) (omega (arith, length-drop i s))) ∙ sym d
+
+-- what a loop over the bytes from `at` on has found when it comes to the end
+module _ (s : List ℕ) (at end all low : ℕ) where
+  pub ascii-none : {i : ℕ} → (ltb 0 low && ltb all 128) ≡ allAscii (take (i - at) (drop at s)) → i ≡ end → low ≡ 0
+      → (false ≡ true → isText (drop at s) ≡ isText (drop end s)) × (false ≡ allAscii (take (end - at) (drop at s)))
+  ascii-none e j z = (λ t. absurd (false≢true t), rw (z, j) at e)
+
+  pub ascii-all : {i : ℕ} → (ltb 0 low && ltb all 128) ≡ allAscii (take (i - at) (drop at s)) → i ≡ end → (low ≡ 0 → ⊥) → at ≤ end → end ≤ length s
+      → (ltb all 128 ≡ true → isText (drop at s) ≡ isText (drop end s)) × (ltb all 128 ≡ allAscii (take (end - at) (drop at s)))
+  ascii-all e j z h o =
+      let f : ltb all 128 ≡ allAscii (take (end - at) (drop at s)) = rw (le-leb 1 low (omega (arith, z)), j) at e in
+      let n : at + (end - at) ≡ end = omega arith in
+      (λ t. rw (drop-drop (end - at) at s, n) at (plain-front (end - at) (drop at s) (rw length-drop (omega arith)) (sym f ∙ t)), f)

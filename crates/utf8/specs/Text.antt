@@ -1,6 +1,6 @@
 -- What the steps of the validator tell of the text that is left. Assumes nothing.
 use mathlib.Core.Path.{_≡_}
-use mathlib.Core.Bool.{Bool, true, false}
+use mathlib.Core.Bool.{Bool, true, false, _&&_}
 use mathlib.Core.Option.{Option, none, some}
 use mathlib.Core.List.{List, [], _∷_}
 use Prim.Native.Nat.{ℕ, zero, suc, _+_, _≤_, _<_}
@@ -40,6 +40,10 @@ pub record Passed (s : List ℕ) (at r : ℕ) : Type 0 where
   pub yes : at < r → isText (drop at s) ≡ isText (drop r s)
   pub no : r ≡ at → isText (drop at s) ≡ false
 
--- whether every byte is ASCII
+-- an ASCII byte that is not 0 (02, P9)
+abbrev pub plain : ℕ → Bool
+plain b = ltb 0 b && ltb b 128
+
+-- whether every byte is so
 abbrev pub allAscii : List ℕ → Bool
-allAscii = all (λ b. ltb b 128)
+allAscii = all plain

@@ -1,8 +1,9 @@
 // UTF-8: the validator in place of `String::from_utf8` of v5/mod.rs, after the Unicode table of well-formed sequences. It goes by
 // chunks: one whose bytes are all ASCII is passed at once, any other character by character.
 ghost use mathlib.Core.Path.{_≡_};
-ghost use mathlib.Core.Bool.{true, false};
+ghost use mathlib.Core.Bool.{true, false, _&&_};
 ghost use Prim.Native.Nat.{_+_, _-_, _≤_, _<_};
+ghost use lib.Dec.{ltb};
 ghost use lib.ListN.{length, take, drop};
 ghost use Rattle.grammar.specs.Text.{rows, rowAt};
 ghost use Rattle.reading.specs.Read.{isText};
@@ -20,7 +21,7 @@ fn begin(b: u8) -> Lead
     ensures { λ r. ⌜ toldLead r ≡ rowAt rows b ⌝ }
 {
     match b {
-        0..=0x7F => Lead::More(0, 0x80, 0xBF),
+        0x01..=0x7F => Lead::More(0, 0x80, 0xBF),
         0xC2..=0xDF => Lead::More(1, 0x80, 0xBF),
         0xE0 => Lead::More(2, 0xA0, 0xBF),
         0xE1..=0xEC => Lead::More(2, 0x80, 0xBF),
@@ -29,7 +30,7 @@ fn begin(b: u8) -> Lead
         0xF0 => Lead::More(3, 0x90, 0xBF),
         0xF1..=0xF3 => Lead::More(3, 0x80, 0xBF),
         0xF4 => Lead::More(3, 0x80, 0x8F),
-        0x80..=0xC1 | 0xF5..=0xFF => Lead::Nowhere,
+        0 | 0x80..=0xC1 | 0xF5..=0xFF => Lead::Nowhere,
     }
 }
 
@@ -92,16 +93,32 @@ fn pass_chars(s: &[u8], at: usize, end: usize) -> usize
     i
 }
 
-// Is each byte from index `at` to `end` ASCII?
+// The lesser of two bytes, so far as whether it is 0.
+fn lesser(a: u8, b: u8) -> u8
+    ensures { λ r. ⌜ ltb 0 r ≡ (ltb 0 a && ltb 0 b) ⌝ }
+{
+    if b < a {
+        return b;
+    }
+    a
+}
+
+// Is each byte from index `at` to `end` ASCII, and none of them 0?
 fn is_ascii(s: &[u8], at: usize, end: usize) -> bool
     requires { ⌜ (at ≤ end) × (end ≤ length (now s)) ⌝ }
     ensures { λ r. ⌜ (r ≡ true → isText (drop at (now (s .entry))) ≡ isText (drop end (now (s .entry)))) × (r ≡ allAscii (take (end - at) (drop at (now (s .entry))))) ⌝ }
 {
     let mut all: u8 = 0;
+    let mut low: u8 = 255;
     let mut i = at;
     while i < end {
-        all = all | s[i];
+        let b = s[i];
+        all = all | b;
+        low = lesser(low, b);
         i = i + 1;
+    }
+    if low == 0 {
+        return false;
     }
     all < 128
 }
@@ -166,7 +183,7 @@ pub fn is_utf8(s: &[u8]) -> bool
     by_chunks(s)
 }
 
-// Is every byte of `s` ASCII? Then any part of it is text.
+// Is every byte of `s` ASCII, and none of them 0? Then any part of it is text.
 pub fn is_all_ascii(s: &[u8]) -> bool
     ensures { λ r. ⌜ r ≡ allAscii (now (s .entry)) ⌝ }
 {

@@ -9,7 +9,7 @@ use lib.Dec.{eqb}
 use lib.ListN.{length}
 use borrow.Author.Tests.{eqb-true}
 use Rattle.grammar.specs.Choice.{isEmpty}
-use Rattle.grammar.specs.Tables.{Place, publishPlace, subscribePlace, ackPlace, unsubscribePlace}
+use Rattle.grammar.specs.Tables.{Forms, Place, publishPlace, subscribePlace, ackPlace, unsubscribePlace}
 use Rattle.grammar.specs.Octets.{Each, nil, _&_}
 use Rattle.writing.specs.Lists.{flat, sum}
 use Rattle.writing.specs.Handed.{AckHanded, Handed, publish, ack, subscribe, reply, unsubscribe, ping, Given, one, lent, pairs, several, Givens, publishGiven, subscribeGiven, ackGiven, unsubscribeGiven, strings, items, tag, entries, filters, addsUp, sorted, nothingGiven, blockBelongs, filtersBelong, belongs}
@@ -34,9 +34,9 @@ nothing-when (lent l) = and-when (not (l .on)) (isEmpty (l .bytes)) (not-when (l
 nothing-when (pairs r) = and-when (isEmpty (r .bytes)) (isEmpty (r .lengths)) (nil-when (r .bytes)) (nil-when (r .lengths))
 nothing-when (several ns) = nil-when ns
 
-block-when : (place : Place) (block : Bool) (g : Givens) → (blockBelongs place block g ≡ true) ↔ Each (InBlock block g) place
+block-when : (place : Place) (block : Bool) (g : Givens) → (blockBelongs place block g ≡ true) ↔ Each (InBlock block g) (place .row)
 unfolding blockBelongs
-block-when place block g = all-when _ (λ r. and-when (sorted (g (r .0))) (block || nothingGiven (g (r .0))) (sorted-when (g (r .0))) (or-when block (nothingGiven (g (r .0))) (nothing-when (g (r .0))))) place
+block-when place block g = all-when _ (λ r. and-when (sorted (g (r .0))) (block || nothingGiven (g (r .0))) (sorted-when (g (r .0))) (or-when block (nothingGiven (g (r .0))) (nothing-when (g (r .0))))) (place .row)
 
 -- 01, row 20
 pub belongs-when : (h : Handed) → (belongs h ≡ true) ↔ Belongs h
@@ -100,10 +100,10 @@ nothing-items (lent l) (e, _) = rw e
 nothing-items (pairs r) (_, e) = rw e
 nothing-items (several ns) e = rw e
 
-nothing-rows : {block : Bool} → block ≡ false → (g : Givens) {place : Place} → Each (InBlock block g) place → flat (λ r. tag r (items (g (r .0)))) place ≡ []
+nothing-rows : {block : Bool} → block ≡ false → (g : Givens) {rs : Forms} → Each (InBlock block g) rs → flat (λ r. tag r (items (g (r .0)))) rs ≡ []
 nothing-rows e g nil = refl
 nothing-rows e g (_&_ {a = r} p ps) = rw (nothing-items (g (r .0)) (p .1 e), nothing-rows e g ps)
 
-pub nothing-entries : (place : Place) (block : Bool) (g : Givens) → Each (InBlock block g) place → block ≡ false → entries place g ≡ []
+pub nothing-entries : (place : Place) (block : Bool) (g : Givens) → Each (InBlock block g) (place .row) → block ≡ false → entries place g ≡ []
 unfolding entries
 nothing-entries place block g rows e = nothing-rows e g rows

@@ -66,7 +66,7 @@ ident-same q i f = go (eqb q 0) refl
     go true e = sym (f (eqb-true q 0 e))
     go false e = refl
 
-set-same : {A : Type 0} (place : Place) (block : Bool) (g : Givens) → Each (InBlock block g) place → Filled block (isEmpty (entries place g)) → (a : A)
+set-same : {A : Type 0} (place : Place) (block : Bool) (g : Givens) → Each (InBlock block g) (place .row) → Filled block (isEmpty (entries place g)) → (a : A)
     → cond (isEmpty (entries place g)) none (some a) ≡ cond block (some a) none
 set-same place true g w f a = go (isEmpty (entries place g)) refl
   where

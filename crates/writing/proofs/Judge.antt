@@ -15,8 +15,8 @@ use Rattle.reading.specs.Read.{isText}
 use Rattle.reading.proofs.Fields.{text-fine}
 use Rattle.writing.specs.Lists.{flat}
 use Rattle.writing.specs.Size.{most}
-use Rattle.writing.specs.Order.{Test, judge, Field, raw, word, filter, code, fieldTests, small, limitTests}
-use Rattle.writing.specs.Refuse.{Writable, Faulty, long-raw, long-word, long-filter, bad-word, bad-filter, bad-rule, bad-qos, unlisted, FirstFault, Small, TooLarge, Within}
+use Rattle.writing.specs.Order.{Test, judge, Field, raw, word, filter, code, fieldTests, numberTests, limitTests}
+use Rattle.writing.specs.Refuse.{Writable, Faulty, long-raw, long-word, long-filter, bad-word, bad-filter, bad-rule, bad-qos, unlisted, FirstFault, Fine, Unfit, large, nought, FirstUnfit, Within}
 use Rattle.writing.proofs.Tests.{fails-when}
 use Rattle.writing.specs.Refuse as r
 
@@ -68,19 +68,20 @@ fields-fault (r.FirstFault.later {f = f} {fs = fs} p ps) = rw (fields-more f fs,
 
 -- ---- numbers and the limit
 
-pub numbers-pass : {ns : List ℕ} → Each Small ns → judge (map small ns) ≡ got tt
+pub numbers-pass : {ns : List ℕ} → Each Fine ns → judge (flat numberTests ns) ≡ got tt
 unfolding judge
 numbers-pass nil = refl
-numbers-pass (_&_ {a = n} p ps) = rw (le-leb n most p) (numbers-pass ps)
+numbers-pass (_&_ {a = n} (p, q) ps) = rw (le-leb n most p, q) (numbers-pass ps)
 
-pub numbers-fault : {ns : List ℕ} → TooLarge ns → judge (map small ns) ≡ bad (nr 17 [])
+pub number-unfit : {n : ℕ} {k : Refusal} → Unfit n k → judge (numberTests n) ≡ bad k
 unfolding judge
-numbers-fault (r.TooLarge.here {n = n} p) = rw (lt-leb n most p)
-numbers-fault (r.TooLarge.later {n = n} {ns = ns} p) = go (leb n most) (numbers-fault p)
-  where
-    go : (t : Bool) → judge (map small ns) ≡ bad (nr 17 []) → (guard t (nr 17 []) >> judge (map small ns)) ≡ bad (nr 17 [])
-    go true e = e
-    go false e = refl
+number-unfit (large {n = n} p) = rw (lt-leb n most p)
+number-unfit nought = refl
+
+pub numbers-fault : {ns : List ℕ} {k : Refusal} → FirstUnfit k ns → judge (flat numberTests ns) ≡ bad k
+unfolding judge
+numbers-fault (r.FirstUnfit.here {n = n} {ns = ns} p) = rw (judge-append (numberTests n) (flat numberTests ns), number-unfit p)
+numbers-fault (r.FirstUnfit.later {n = n} (p, q) ps) = rw (le-leb n most p, q) (numbers-fault ps)
 
 pub limit-pass : (limit : Option ℕ) (n : ℕ) → Within limit n → judge (limitTests limit n) ≡ got tt
 unfolding judge

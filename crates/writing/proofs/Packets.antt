@@ -1,5 +1,5 @@
 -- What each kind writes fills a frame as its grammar says. Assumes nothing.
-use mathlib.Core.Path.{_≡_, refl, ap, _∙_}
+use mathlib.Core.Path.{_≡_, refl, sym, ap, _∙_}
 use mathlib.Core.Bool.{Bool, true, false, not, _&&_, _||_, cond, false≢true}
 use mathlib.Core.Option.{Option, some}
 use mathlib.Core.List.{List, [], _∷_, map}
@@ -22,12 +22,12 @@ use Rattle.writing.specs.Spell.{wide, propsBytes, counted, block}
 use Rattle.writing.specs.Size.{most, isPlain}
 use Rattle.writing.specs.Order.{Field, word, code, givenFields, propsFields, filterField, fieldsOf, numbersOf, named, asked}
 use Rattle.writing.specs.Write.{firsts, firstOf, firstByte, identBytes, bodyBytes, frameBytes}
-use Rattle.writing.specs.Refuse.{InBlock, Belongs, Writable, Small, Accepts}
+use Rattle.writing.specs.Refuse.{InBlock, Belongs, Writable, Fine, Accepts}
 use Rattle.writing.specs.Meant.{said, PublishTyped, AckTyped, SubscribeTyped, ReplyTyped, UnsubscribeTyped, Typed}
 use Rattle.writing.proofs.Each.{each-head, each-tail, each-append, each-left, each-right, each-flat, each-piece, rows-of}
 use Rattle.writing.proofs.Tests.{and-left, and-right, all-when, passes-when}
 use Rattle.writing.proofs.Says.{Says, says-nothing, says-map, says-only, says-then, says-is, says-wide, says-short}
-use Rattle.writing.proofs.Values.{says-bytes, an-u8, an-u16, an-u32, a-number, a-text, a-bytes, RightRow, says-block, one-suits, below-each, lent-suits, pairs-suit, several-suit, says-filters, says-reasons, says-topics}
+use Rattle.writing.proofs.Values.{says-bytes, an-u8, an-u16, an-u32, a-number, a-text, a-bytes, Apart, RightRow, says-block, one-once, lent-once, one-suits, below-each, lent-suits, pairs-suit, several-suit, says-filters, says-reasons, says-topics}
 use Rattle.writing.proofs.Sets.{publish-says, ack-says, subscribe-says, unsubscribe-says}
 use Rattle.writing.proofs.Belong.{unnamed-when, unasked-when, plain-when, nothing-entries}
 use Rattle.writing.proofs.Sizes.{length-body}
@@ -83,19 +83,37 @@ block-fits : (b : List ℕ) → length (counted b) ≤ most → length b ≤ mos
 unfolding counted
 block-fits b h = omega (arith, simp length-append at h)
 
+-- ---- no place has an identifier twice
+
+publish-apart : Apart [] (publishPlace .row)
+unfolding publishPlace
+publish-apart = (refl, (refl, (refl, (refl, (refl, (refl, (refl, (refl, tt))))))))
+
+subscribe-apart : Apart [] (subscribePlace .row)
+unfolding subscribePlace
+subscribe-apart = (refl, (refl, tt))
+
+ack-apart : Apart [] (ackPlace .row)
+unfolding ackPlace
+ack-apart = (refl, (refl, tt))
+
+unsubscribe-apart : Apart [] (unsubscribePlace .row)
+unfolding unsubscribePlace
+unsubscribe-apart = (refl, tt)
+
 -- ---- Publish
 
-publish-rows : (h : PublishHanded) → PublishTyped h → Each (λ r. Each Writable (givenFields (r .1) (publishGiven h (r .0)))) publishPlace → Each Small (h .subscriptions) → Each (RightRow publishPlace (publishGiven h)) publishPlace
+publish-rows : (h : PublishHanded) → PublishTyped h → Each (λ r. Each Writable (givenFields (r .1) (publishGiven h (r .0)))) (publishPlace .row) → Each Fine (h .subscriptions) → Each (RightRow publishPlace (publishGiven h)) (publishPlace .row)
 unfolding publishPlace publishGiven
-publish-rows h t (_ & (_ & (_ & (a & (b & (c & (_ & (d & nil)))))))) q = rows-of (RightRow publishPlace (publishGiven h)) publishPlace
-    (record { known = refl; small = omega arith; suits = one-suits _ (λ n b. an-u8 b) (h .format) (below-each 256 (h .format) (t .format)) }
-    & (record { known = refl; small = omega arith; suits = one-suits _ (λ n b. an-u32 b) (h .expiry) (below-each 4294967296 (h .expiry) (t .expiry)) }
-    & (record { known = refl; small = omega arith; suits = one-suits _ (λ n b. an-u16 b) (h .alias) (below-each 65536 (h .alias) (t .alias)) }
-    & (record { known = refl; small = omega arith; suits = lent-suits (h .response) (a-text (t .response)) a }
-    & (record { known = refl; small = omega arith; suits = lent-suits (h .correlation) (a-bytes (t .correlation)) b }
-    & (record { known = refl; small = omega arith; suits = pairs-suit (h .user) (t .user) c }
-    & (record { known = refl; small = omega arith; suits = several-suit q }
-    & (record { known = refl; small = omega arith; suits = lent-suits (h .content) (a-text (t .content)) d }
+publish-rows h t (_ & (_ & (_ & (a & (b & (c & (_ & (d & nil)))))))) q = rows-of (RightRow publishPlace (publishGiven h)) (publishPlace .row)
+    (record { known = refl; small = omega arith; suits = one-suits _ (λ n b. an-u8 b) (h .format) (below-each 256 (h .format) (t .format)); once = λ _. one-once (h .format) }
+    & (record { known = refl; small = omega arith; suits = one-suits _ (λ n b. an-u32 b) (h .expiry) (below-each 4294967296 (h .expiry) (t .expiry)); once = λ _. one-once (h .expiry) }
+    & (record { known = refl; small = omega arith; suits = one-suits _ (λ n b. an-u16 b) (h .alias) (below-each 65536 (h .alias) (t .alias)); once = λ _. one-once (h .alias) }
+    & (record { known = refl; small = omega arith; suits = lent-suits (h .response) (a-text (t .response)) a; once = λ _. lent-once (h .response) }
+    & (record { known = refl; small = omega arith; suits = lent-suits (h .correlation) (a-bytes (t .correlation)) b; once = λ _. lent-once (h .correlation) }
+    & (record { known = refl; small = omega arith; suits = pairs-suit (h .user) (t .user) c; once = λ e. absurd (false≢true (sym e)) }
+    & (record { known = refl; small = omega arith; suits = several-suit q; once = λ e. absurd (false≢true (sym e)) }
+    & (record { known = refl; small = omega arith; suits = lent-suits (h .content) (a-text (t .content)) d; once = λ _. lent-once (h .content) }
     & nil))))))))
 
 says-ident : (q i : ℕ) → i < 65536 → (eqb q 0 || notZero i) ≡ true → Says (Ident q) (cond (eqb q 0) 0 i) (identBytes q i)
@@ -130,7 +148,7 @@ module _ (d q r : ℕ) (hd : d < 2) (hq : q < 3) (hr : r < 2) where
   flags-retain : flags % 2 ≡ r
   flags-retain = omega arith
 
-publish-fields : (h : PublishHanded) → PublishTyped h → Each Writable (fieldsOf (publish h)) → named (publish h) ≡ true → Each Small (h .subscriptions) → length (bodyBytes (publish h)) ≤ most
+publish-fields : (h : PublishHanded) → PublishTyped h → Each Writable (fieldsOf (publish h)) → named (publish h) ≡ true → Each Fine (h .subscriptions) → length (bodyBytes (publish h)) ≤ most
     → Says (Fields aPublish (firstByte (publish h))) (said (publish h)) (bodyBytes (publish h))
 unfolding firstByte bodyBytes fieldsOf propsFields said block
 publish-fields h t p i q l =
@@ -140,7 +158,7 @@ publish-fields h t p i q l =
     let s₁ = says-bytes (t .topic) (each-head p) in
     let s₂ : Says (Ident (flagQos x)) j (identBytes (h .qos) (h .ident)) = rw eq (says-ident (h .qos) (h .ident) (t .ident) i) in
     let m : length (counted (propsBytes publishPlace (publishGiven h))) ≤ most = omega (arith, simp length-append at l) in
-    let s₃ = says-block publishPlace publishOf (publishGiven h) (publish-rows h t (each-flat _ publishPlace (each-tail p)) q) (block-fits (propsBytes publishPlace (publishGiven h)) m) in
+    let s₃ = says-block publishPlace publishOf (publishGiven h) publish-apart (publish-rows h t (each-flat _ (publishPlace .row) (each-tail p)) q) (block-fits (propsBytes publishPlace (publishGiven h)) m) in
     let s₄ = says-is Any (h .payload) tt (t .payload) in
     let same : mkPublish x (h .topic, (j, (publishOf (map propOf (entries publishPlace (publishGiven h))), h .payload))) ≡ said (publish h) =
     rw (
@@ -158,20 +176,20 @@ publish-kind h t = (rw (flags-kind (h .dup) (h .qos) (h .retain) (t .dup) (t .qo
 
 -- ---- acknowledgements
 
-ack-rows : (t : Lent) (u : Run) → Octets (t .bytes) → Octets (u .bytes) → Each (λ r. Each Writable (givenFields (r .1) (ackGiven t u (r .0)))) ackPlace → Each (RightRow ackPlace (ackGiven t u)) ackPlace
+ack-rows : (t : Lent) (u : Run) → Octets (t .bytes) → Octets (u .bytes) → Each (λ r. Each Writable (givenFields (r .1) (ackGiven t u (r .0)))) (ackPlace .row) → Each (RightRow ackPlace (ackGiven t u)) (ackPlace .row)
 unfolding ackPlace ackGiven
-ack-rows t u o o′ (a & (b & nil)) = rows-of (RightRow ackPlace (ackGiven t u)) ackPlace
-    (record { known = refl; small = omega arith; suits = lent-suits t (a-text o) a }
-    & (record { known = refl; small = omega arith; suits = pairs-suit u o′ b }
+ack-rows t u o o′ (a & (b & nil)) = rows-of (RightRow ackPlace (ackGiven t u)) (ackPlace .row)
+    (record { known = refl; small = omega arith; suits = lent-suits t (a-text o) a; once = λ _. lent-once t }
+    & (record { known = refl; small = omega arith; suits = pairs-suit u o′ b; once = λ e. absurd (false≢true (sym e)) }
     & nil))
 
 -- the block of every acknowledgement
 ack-block : (t : Lent) (u : Run) → Octets (t .bytes) → Octets (u .bytes) → Each Writable (propsFields ackPlace (ackGiven t u)) → length (block ackPlace (ackGiven t u)) ≤ most
     → Says (Block ackPlace propsIf) (propsIf (map propOf (entries ackPlace (ackGiven t u)))) (block ackPlace (ackGiven t u))
 unfolding propsFields block
-ack-block t u o o′ p l = says-block ackPlace propsIf (ackGiven t u) (ack-rows t u o o′ (each-flat _ ackPlace p)) (block-fits (propsBytes ackPlace (ackGiven t u)) l)
+ack-block t u o o′ p l = says-block ackPlace propsIf (ackGiven t u) ack-apart (ack-rows t u o o′ (each-flat _ (ackPlace .row) p)) (block-fits (propsBytes ackPlace (ackGiven t u)) l)
 
-ack-rest : (k : ℕ) (h : AckHanded) (t : AckTyped k h) → Each (InBlock (h .block) (ackGiven (h .text) (h .user))) ackPlace → isIn (h .reason) (reasonsOf k) ≡ true
+ack-rest : (k : ℕ) (h : AckHanded) (t : AckTyped k h) → Each (InBlock (h .block) (ackGiven (h .text) (h .user))) (ackPlace .row) → isIn (h .reason) (reasonsOf k) ≡ true
     → Each Writable (propsFields ackPlace (ackGiven (h .text) (h .user)))
     → (b : Bool) → isPlain h ≡ b → length (cond b [] (h .reason ∷ block ackPlace (ackGiven (h .text) (h .user)))) ≤ most
     → Says (AckRest (reasonsOf k)) (h .reason, propsIf (map propOf (entries ackPlace (ackGiven (h .text) (h .user))))) (cond b [] (h .reason ∷ block ackPlace (ackGiven (h .text) (h .user))))
@@ -205,30 +223,30 @@ reply-fields k h t f p a l =
 
 -- ---- Unsubscribe
 
-unsubscribe-rows : (u : Run) → Octets (u .bytes) → Each (λ r. Each Writable (givenFields (r .1) (unsubscribeGiven u (r .0)))) unsubscribePlace → Each (RightRow unsubscribePlace (unsubscribeGiven u)) unsubscribePlace
+unsubscribe-rows : (u : Run) → Octets (u .bytes) → Each (λ r. Each Writable (givenFields (r .1) (unsubscribeGiven u (r .0)))) (unsubscribePlace .row) → Each (RightRow unsubscribePlace (unsubscribeGiven u)) (unsubscribePlace .row)
 unfolding unsubscribePlace unsubscribeGiven
-unsubscribe-rows u o (b & nil) = rows-of (RightRow unsubscribePlace (unsubscribeGiven u)) unsubscribePlace
-    (record { known = refl; small = omega arith; suits = pairs-suit u o b } & nil)
+unsubscribe-rows u o (b & nil) = rows-of (RightRow unsubscribePlace (unsubscribeGiven u)) (unsubscribePlace .row)
+    (record { known = refl; small = omega arith; suits = pairs-suit u o b; once = λ e. absurd (false≢true (sym e)) } & nil)
 
 unsubscribe-fields : (h : UnsubscribeHanded) → UnsubscribeTyped h → Each Writable (fieldsOf (unsubscribe h)) → asked (unsubscribe h) ≡ true → length (bodyBytes (unsubscribe h)) ≤ most
     → Says (Fields anUnsubscribe (firstOf 10)) (said (unsubscribe h)) (bodyBytes (unsubscribe h))
 unfolding fieldsOf propsFields bodyBytes said block
 unsubscribe-fields h t p a l =
-    let ps : List Field = flat (λ r. givenFields (r .1) (unsubscribeGiven (h .user) (r .0))) unsubscribePlace in
+    let ps : List Field = flat (λ r. givenFields (r .1) (unsubscribeGiven (h .user) (r .0))) (unsubscribePlace .row) in
     let m : length (counted (propsBytes unsubscribePlace (unsubscribeGiven (h .user)))) ≤ most = omega (arith, simp length-append at l) in
-    let s₂ = says-block unsubscribePlace propsIf (unsubscribeGiven (h .user)) (unsubscribe-rows (h .user) (t .user) (each-flat _ unsubscribePlace (each-left ps (map word (strings (h .topics))) p)))
-        (block-fits (propsBytes unsubscribePlace (unsubscribeGiven (h .user))) m) in
+    let s₂ = says-block unsubscribePlace propsIf (unsubscribeGiven (h .user)) unsubscribe-apart (unsubscribe-rows (h .user) (t .user) (each-flat _ (unsubscribePlace .row) (each-left ps (map word (strings (h .topics))) p)))
+    (block-fits (propsBytes unsubscribePlace (unsubscribeGiven (h .user))) m) in
     let s₃ = says-topics (strings (h .topics)) (each-piece (h .topics .lengths) (t .topics)) (each-right ps (map word (strings (h .topics))) p) in
     let same : mkUnsubscribe (h .ident, (propsIf (map propOf (entries unsubscribePlace (unsubscribeGiven (h .user)))), strings (h .topics))) ≡ said (unsubscribe h) = rw (unsubscribe-says (h .user)) in
     rw (← same) (says-map mkUnsubscribe (says-then (says-wide 2 (h .ident) (omega (arith, t .ident))) (says-then s₂ (says-only someOf a s₃))))
 
 -- ---- Subscribe
 
-subscribe-rows : (h : SubscribeHanded) → SubscribeTyped h → Each (λ r. Each Writable (givenFields (r .1) (subscribeGiven h (r .0)))) subscribePlace → Each Small (numbersOf (subscribe h)) → Each (RightRow subscribePlace (subscribeGiven h)) subscribePlace
+subscribe-rows : (h : SubscribeHanded) → SubscribeTyped h → Each (λ r. Each Writable (givenFields (r .1) (subscribeGiven h (r .0)))) (subscribePlace .row) → Each Fine (numbersOf (subscribe h)) → Each (RightRow subscribePlace (subscribeGiven h)) (subscribePlace .row)
 unfolding subscribePlace subscribeGiven
-subscribe-rows h t (_ & (b & nil)) q = rows-of (RightRow subscribePlace (subscribeGiven h)) subscribePlace
-    (record { known = refl; small = omega arith; suits = one-suits Small (λ n s. a-number s) (h .subscription) q }
-    & (record { known = refl; small = omega arith; suits = pairs-suit (h .user) (t .user) b }
+subscribe-rows h t (_ & (b & nil)) q = rows-of (RightRow subscribePlace (subscribeGiven h)) (subscribePlace .row)
+    (record { known = refl; small = omega arith; suits = one-suits Fine (λ n s. a-number s) (h .subscription) q; once = λ _. one-once (h .subscription) }
+    & (record { known = refl; small = omega arith; suits = pairs-suit (h .user) (t .user) b; once = λ e. absurd (false≢true (sym e)) }
     & nil))
 
 each-beside : {ss : List (List ℕ)} (os : List ℕ) → Each Octets ss → Each (λ f. Octets (f .0)) (beside ss os)
@@ -240,15 +258,15 @@ some-mapped : (fs : List (List ℕ × ℕ)) → not (isEmpty fs) ≡ true → so
 some-mapped [] e = e
 some-mapped (f ∷ fs) e = refl
 
-subscribe-fields : (h : SubscribeHanded) → SubscribeTyped h → Each Writable (fieldsOf (subscribe h)) → Each Small (numbersOf (subscribe h)) → asked (subscribe h) ≡ true → length (bodyBytes (subscribe h)) ≤ most
+subscribe-fields : (h : SubscribeHanded) → SubscribeTyped h → Each Writable (fieldsOf (subscribe h)) → Each Fine (numbersOf (subscribe h)) → asked (subscribe h) ≡ true → length (bodyBytes (subscribe h)) ≤ most
     → Says (Fields aSubscribe (firstOf 8)) (said (subscribe h)) (bodyBytes (subscribe h))
 unfolding fieldsOf propsFields bodyBytes said filters block
 subscribe-fields h t p q a l =
     let fs : List (List ℕ × ℕ) = beside (strings (h .filters)) (h .options) in
-    let ps : List Field = flat (λ r. givenFields (r .1) (subscribeGiven h (r .0))) subscribePlace in
+    let ps : List Field = flat (λ r. givenFields (r .1) (subscribeGiven h (r .0))) (subscribePlace .row) in
     let m : length (counted (propsBytes subscribePlace (subscribeGiven h))) ≤ most = omega (arith, simp length-append at l) in
     let s₁ = says-wide 2 (h .ident) (omega (arith, t .ident)) in
-    let s₂ = says-block subscribePlace propsIf (subscribeGiven h) (subscribe-rows h t (each-flat _ subscribePlace (each-left ps (map filterField fs) p)) q) (block-fits (propsBytes subscribePlace (subscribeGiven h)) m) in
+    let s₂ = says-block subscribePlace propsIf (subscribeGiven h) subscribe-apart (subscribe-rows h t (each-flat _ (subscribePlace .row) (each-left ps (map filterField fs) p)) q) (block-fits (propsBytes subscribePlace (subscribeGiven h)) m) in
     let s₃ = says-filters fs (each-beside (h .options) (each-piece (h .filters .lengths) (t .filters))) (each-right ps (map filterField fs) p) in
     let same : mkSubscribe (h .ident, (propsIf (map propOf (entries subscribePlace (subscribeGiven h))), map mkFilter fs)) ≡ said (subscribe h) = rw (subscribe-says h) in
     rw (← same) (says-map mkSubscribe (says-then s₁ (says-then s₂ (says-only someOf (some-mapped fs a) s₃))))

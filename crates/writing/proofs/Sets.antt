@@ -6,7 +6,7 @@ use mathlib.Core.List.{List, [], _∷_, _++_, map, append-nil}
 use Prim.Native.Nat.{ℕ}
 use lib.Dec.{eqb}
 use Rattle.grammar.specs.Choice.{isEmpty}
-use Rattle.grammar.specs.Tables.{Form, Place, publishPlace, subscribePlace, ackPlace, unsubscribePlace}
+use Rattle.grammar.specs.Tables.{Form, Forms, Place, publishPlace, subscribePlace, ackPlace, unsubscribePlace}
 use Rattle.grammar.specs.Record.{str, lastFrom, lastOf, allOf, unlessEmpty, publishProps, propsOf}
 use Rattle.grammar.specs.Sentence.{Value, Prop, asList, publishOf, propsIf}
 use Rattle.writing.specs.Lists.{flat}
@@ -19,11 +19,11 @@ abbrev lastVal : Option Value → List Value → Option Value
 lastVal o [] = o
 lastVal o (v ∷ vs) = lastVal (some v) vs
 
-abbrev lastRow : Option Value → ℕ → Place → Givens → Option Value
+abbrev lastRow : Option Value → ℕ → Forms → Givens → Option Value
 lastRow o i [] g = o
 lastRow o i (r ∷ rs) g = lastRow (cond (eqb (r .0) i) (lastVal o (items (g (r .0)))) o) i rs g
 
-abbrev allRow : ℕ → Place → Givens → List Value
+abbrev allRow : ℕ → Forms → Givens → List Value
 allRow i [] g = []
 allRow i (r ∷ rs) g = cond (eqb (r .0) i) (items (g (r .0))) [] ++ allRow i rs g
 
@@ -36,15 +36,15 @@ last-tag r i true e o (v ∷ vs) es =
 last-tag r i false e o (v ∷ vs) es =
     ap (λ (p : Bool). lastFrom (cond p (some v) o) i (map propOf (tag r vs ++ es))) e ∙ last-tag r i false e o vs es
 
-last-rows : (i : ℕ) (g : Givens) (o : Option Value) (place : Place) → lastFrom o i (map propOf (flat (λ r. tag r (items (g (r .0)))) place)) ≡ lastRow o i place g
+last-rows : (i : ℕ) (g : Givens) (o : Option Value) (rs : Forms) → lastFrom o i (map propOf (flat (λ r. tag r (items (g (r .0)))) rs)) ≡ lastRow o i rs g
 last-rows i g o [] = refl
 last-rows i g o (r ∷ rs) =
     last-tag r i (eqb (r .0) i) refl o (items (g (r .0))) (flat (λ r. tag r (items (g (r .0)))) rs)
     ∙ last-rows i g (cond (eqb (r .0) i) (lastVal o (items (g (r .0)))) o) rs
 
-last-entries : (i : ℕ) (place : Place) (g : Givens) → lastOf i (map propOf (entries place g)) ≡ lastRow none i place g
+last-entries : (i : ℕ) (place : Place) (g : Givens) → lastOf i (map propOf (entries place g)) ≡ lastRow none i (place .row) g
 unfolding lastOf entries
-last-entries i place g = last-rows i g none place
+last-entries i place g = last-rows i g none (place .row)
 
 all-tag : (r : ℕ × Form) (i : ℕ) (t : Bool) → eqb (r .0) i ≡ t → (vs : List Value) (es : List Entry)
     → allOf i (map propOf (tag r vs ++ es)) ≡ cond t vs [] ++ allOf i (map propOf es)
@@ -54,16 +54,16 @@ all-tag r i false e [] es = refl
 all-tag r i true e (v ∷ vs) es = rw e (ap (λ (l : List Value). v ∷ l) (all-tag r i true e vs es))
 all-tag r i false e (v ∷ vs) es = rw e (all-tag r i false e vs es)
 
-all-rows : (i : ℕ) (g : Givens) (place : Place) → allOf i (map propOf (flat (λ r. tag r (items (g (r .0)))) place)) ≡ allRow i place g
+all-rows : (i : ℕ) (g : Givens) (rs : Forms) → allOf i (map propOf (flat (λ r. tag r (items (g (r .0)))) rs)) ≡ allRow i rs g
 unfolding allOf
 all-rows i g [] = refl
 all-rows i g (r ∷ rs) =
     all-tag r i (eqb (r .0) i) refl (items (g (r .0))) (flat (λ r. tag r (items (g (r .0)))) rs)
     ∙ ap (λ (l : List Value). cond (eqb (r .0) i) (items (g (r .0))) [] ++ l) (all-rows i g rs)
 
-all-entries : (i : ℕ) (place : Place) (g : Givens) → allOf i (map propOf (entries place g)) ≡ allRow i place g
+all-entries : (i : ℕ) (place : Place) (g : Givens) → allOf i (map propOf (entries place g)) ≡ allRow i (place .row) g
 unfolding entries
-all-entries i place g = all-rows i g place
+all-entries i place g = all-rows i g (place .row)
 
 -- ---- a row with one value at most
 
@@ -93,10 +93,10 @@ publish-set h = rw (
   last 3 ∙ last-lent (h .content),
 )
   where
-    last : (i : ℕ) → lastOf i (map propOf (entries publishPlace (publishGiven h))) ≡ lastRow none i publishPlace (publishGiven h)
+    last : (i : ℕ) → lastOf i (map propOf (entries publishPlace (publishGiven h))) ≡ lastRow none i (publishPlace .row) (publishGiven h)
     last i = last-entries i publishPlace (publishGiven h)
 
-    every : (i : ℕ) → allOf i (map propOf (entries publishPlace (publishGiven h))) ≡ allRow i publishPlace (publishGiven h)
+    every : (i : ℕ) → allOf i (map propOf (entries publishPlace (publishGiven h))) ≡ allRow i (publishPlace .row) (publishGiven h)
     every i = all-entries i publishPlace (publishGiven h)
 
 ack-set : (t : Lent) (u : Run) → propsOf (List ℕ) List asList (map propOf (entries ackPlace (ackGiven t u))) ≡ ackSet t u

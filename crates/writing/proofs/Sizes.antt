@@ -9,7 +9,7 @@ use lib.Dec.{eqb, ltb, ltb→lt}
 use lib.ListN.{length, take, drop, length-append, length-drop}
 use lib.Seq.{length-take-le}
 use borrow.Author.Tests.{lt-ltb, ltb-false, le-ltb}
-use Rattle.grammar.specs.Tables.{Form, u8, u16, u32, number, text, bytes, pair, Place, publishPlace, subscribePlace, ackPlace, unsubscribePlace}
+use Rattle.grammar.specs.Tables.{Form, u8, u16, u32, number, text, bytes, pair, Forms, Place, publishPlace, subscribePlace, ackPlace, unsubscribePlace}
 use Rattle.grammar.specs.Record.{str}
 use Rattle.grammar.specs.Sentence.{Value}
 use Rattle.grammar.specs.Octets.{Each, nil, _&_}
@@ -130,7 +130,7 @@ weigh-given f (pairs r) (a, e) =
     omega arith
 weigh-given f (several ns) w = weigh-several f ns
 
-length-rows : {b : Bool} (g : Givens) {place : Place} → Each (InBlock b g) place → length (flat (λ r. rowBytes r (g (r .0))) place) ≡ total (λ r. givenSize (r .1) (g (r .0))) place
+length-rows : {b : Bool} (g : Givens) {rs : Forms} → Each (InBlock b g) rs → length (flat (λ r. rowBytes r (g (r .0))) rs) ≡ total (λ r. givenSize (r .1) (g (r .0))) rs
 length-rows g nil = refl
 length-rows g (_&_ {a = r} {l = rs} p ps) =
     let ih = length-rows g ps in
@@ -138,11 +138,11 @@ length-rows g (_&_ {a = r} {l = rs} p ps) =
     omega (arith, length-append (rowBytes r (g (r .0))) (flat (λ r. rowBytes r (g (r .0))) rs))
 
 -- L
-pub length-props : (place : Place) (b : Bool) (g : Givens) → Each (InBlock b g) place → length (propsBytes place g) ≡ propsSize place g
+pub length-props : (place : Place) (b : Bool) (g : Givens) → Each (InBlock b g) (place .row) → length (propsBytes place g) ≡ propsSize place g
 unfolding propsBytes propsSize
 length-props place b g rows = length-rows g rows
 
-length-block : (place : Place) (b : Bool) (g : Givens) → Each (InBlock b g) place → length (block place g) ≡ withLength (propsSize place g)
+length-block : (place : Place) (b : Bool) (g : Givens) → Each (InBlock b g) (place .row) → length (block place g) ≡ withLength (propsSize place g)
 unfolding block
 length-block place b g rows = length-counted (propsBytes place g) ∙ ap withLength (length-props place b g rows)
 

@@ -1,25 +1,26 @@
 -- Strings, values, properties, blocks and filters that pass their tests say what was handed over. Assumes nothing.
-use mathlib.Core.Path.{_≡_, refl}
-use mathlib.Core.Bool.{Bool, true, false, cond}
+use mathlib.Core.Path.{_≡_, refl, sym, _∙_}
+use mathlib.Core.Bool.{Bool, true, false, _||_, cond, false≢true}
 use mathlib.Core.Option.{Option, none, some}
-use mathlib.Core.List.{List, [], _∷_, map}
+use mathlib.Core.List.{List, [], _∷_, _++_, map}
+use lib.Dec.{eqb}
 use Prim.Native.Nat.{ℕ, _/_, _%_, _≤_, _<_}
 use native.Mathlib.Omega.{arith}
 use lib.ListN.{length}
-use Rattle.grammar.specs.Choice.{isIn, lookup}
-use Rattle.grammar.specs.Gram.{done, more, only, Sized, Many, Is}
+use Rattle.grammar.specs.Choice.{isIn}
+use Rattle.grammar.specs.Gram.{done, more, only, Sized, Many, allFrom, Is}
 use Rattle.grammar.specs.Number.{byte, Big}
 use Rattle.grammar.specs.Text.{Utf8}
-use Rattle.grammar.specs.Tables.{Form, u8, u16, u32, number, text, bytes, pair, Place}
+use Rattle.grammar.specs.Tables.{Form, u8, u16, u32, number, text, bytes, pair, Forms, Place, isList, formAt}
 use Rattle.grammar.specs.Record.{num, str, duo, mkFilter}
-use Rattle.grammar.specs.Sentence.{Any, Bytes, Text, Value, Prop, duoOf, Spelt, Property, property, Block, qosFine, ruleFine, FilterOf, ReasonOf}
+use Rattle.grammar.specs.Sentence.{Any, Bytes, Text, Value, Prop, duoOf, notZero, Spelt, Property, property, met, fresh, noneTwice, Block, qosFine, ruleFine, FilterOf, ReasonOf}
 use Rattle.grammar.specs.Octets.{Each, nil, _&_, Octets}
 use Rattle.writing.specs.Lists.{flat}
 use Rattle.writing.specs.Handed.{Lent, Run, one, lent, pairs, several, Givens, strings, duos, items, Entry, propOf, tag, entries}
 use Rattle.writing.specs.Spell.{string, numeral, value, entry, rowBytes, propsBytes, block, filterBytes}
 use Rattle.writing.specs.Size.{most}
 use Rattle.writing.specs.Order.{word, code, stringField, filterField, orNone}
-use Rattle.writing.specs.Refuse.{Short, Writable, Small}
+use Rattle.writing.specs.Refuse.{Short, Writable, Fine}
 use Rattle.writing.specs.Meant.{Below}
 use Rattle.writing.proofs.Each.{each-append, each-imp, each-both, map-each, flat-each, each-piece, flat-append}
 use Rattle.writing.proofs.Says.{Says, says-map, says-only, says-then, says-sized, says-is, says-many, says-byte, says-wide, says-short, says-counted}
@@ -44,7 +45,7 @@ pub data Suits : Form → Value → Type 0 where
   an-u8 : {n : ℕ} → n < 256 → Suits u8 (num n)
   an-u16 : {n : ℕ} → n < 65536 → Suits u16 (num n)
   an-u32 : {n : ℕ} → n < 4294967296 → Suits u32 (num n)
-  a-number : {n : ℕ} → Small n → Suits number (num n)
+  a-number : {n : ℕ} → Fine n → Suits number (num n)
   a-text : {s : List ℕ} → Octets s → Writable (word s) → Suits text (str s)
   a-bytes : {s : List ℕ} → Octets s → Short s → Suits bytes (str s)
   a-pair : {a b : List ℕ} → Octets a → Writable (word a) → Octets b → Writable (word b) → Suits pair (duo a b)
@@ -54,17 +55,22 @@ unfolding value numeral
 says-value (an-u8 {n} h) = says-map num (says-byte n h)
 says-value (an-u16 {n} h) = says-map num (says-wide 2 n (omega arith))
 says-value (an-u32 {n} h) = says-map num (says-wide 4 n (omega arith))
-says-value (a-number {n} h) = says-map num (says-short n h)
+says-value (a-number {n} (h, z)) = says-map num (says-only notZero z (says-short n h))
 says-value (a-text o h) = says-map str (says-text o h)
 says-value (a-bytes o h) = says-map str (says-bytes o h)
 says-value (a-pair o h o′ h′) = says-map duoOf (says-then (says-text o h) (says-text o′ h′))
 
 -- ---- blocks
 
+-- no identifier of the rows is among those before, or stands in two of them
+abbrev pub Apart : List ℕ → Forms → Type 0
+Apart σ [] = Unit {0}
+Apart σ (r ∷ rs) = (isIn (r .0) σ ≡ false) × Apart (r .0 ∷ σ) rs
+
 module _ (place : Place) where
   -- a row of the place, with a value that its form can write
   record Right (e : Entry) : Type 0 where
-    pub known : lookup place (e .0 .0) ≡ some (e .0 .1)
+    pub known : formAt place (e .0 .0) ≡ some (e .0 .1)
     pub small : e .0 .0 < 256
     pub suits : Suits (e .0 .1) (e .1)
 
@@ -75,15 +81,16 @@ module _ (place : Place) where
 
   -- what is handed over for a row
   pub record RightRow (g : Givens) (r : ℕ × Form) : Type 0 where
-    pub known : lookup place (r .0) ≡ some (r .1)
+    pub known : formAt place (r .0) ≡ some (r .1)
     pub small : r .0 < 256
     pub suits : Each (Suits (r .1)) (items (g (r .0)))
+    pub once : isList place (r .0) ≡ false → length (items (g (r .0))) ≤ 1
 
-  entries-right : (g : Givens) → Each (RightRow g) place → Each Right (entries place g)
+  entries-right : (g : Givens) → Each (RightRow g) (place .row) → Each Right (entries place g)
   unfolding entries
   entries-right g rows = flat-each (λ r. tag r (items (g (r .0)))) (each-imp right-row rows)
     where
-      right-tag : (r : ℕ × Form) → lookup place (r .0) ≡ some (r .1) → r .0 < 256 → {vs : List Value} → Each (Suits (r .1)) vs → Each Right (tag r vs)
+      right-tag : (r : ℕ × Form) → formAt place (r .0) ≡ some (r .1) → r .0 < 256 → {vs : List Value} → Each (Suits (r .1)) vs → Each Right (tag r vs)
       right-tag r k h nil = nil
       right-tag r k h (s & ss) = record { known = k; small = h; suits = s } & right-tag r k h ss
 
@@ -91,15 +98,72 @@ module _ (place : Place) where
       right-row r w = right-tag r (w .known) (w .small) (w .suits)
 
   -- the bytes of a block are its properties, one after the other
-  rows-entries : (g : Givens) (rs : Place) → flat (λ r. rowBytes r (g (r .0))) rs ≡ flat entry (flat (λ r. tag r (items (g (r .0)))) rs)
+  rows-entries : (g : Givens) (rs : Forms) → flat (λ r. rowBytes r (g (r .0))) rs ≡ flat entry (flat (λ r. tag r (items (g (r .0)))) rs)
   rows-entries g [] = refl
   rows-entries g (r ∷ rs) = rw (flat-append entry (tag r (items (g (r .0)))) (flat (λ r. tag r (items (g (r .0)))) rs), rows-entries g rs)
 
-  pub says-block : {A : Type 0} (f : List Prop → A) (g : Givens) → Each (RightRow g) place → length (propsBytes place g) ≤ most → Says (Block place f) (f (map propOf (entries place g))) (block place g)
+  -- ---- 02, P9: a row that is no list has one value at most, so no property is written twice
+
+  -- what was met is among the rows before
+  abbrev Among : List ℕ → List ℕ → Type 0
+  Among σ ρ = (i : ℕ) → isIn i ρ ≡ false → isIn i σ ≡ false
+
+  abbrev freshFrom : List ℕ → List Entry → Bool
+  freshFrom σ es = allFrom (met place) fresh σ (map propOf es)
+
+  tag-list : (r : ℕ × Form) (σ : List ℕ) → isList place (r .0) ≡ true → isIn (r .0) σ ≡ false → (vs : List Value) (es : List Entry) → freshFrom σ (tag r vs ++ es) ≡ freshFrom σ es
+  tag-list r σ h n [] es = refl
+  tag-list r σ h n (v ∷ vs) es = rw (h, n) (tag-list r σ h n vs es)
+
+  among-more : (σ ρ : List ℕ) (j : ℕ) → Among σ ρ → Among σ (j ∷ ρ)
+  among-more σ ρ j a i e = a i (go (eqb i j) e)
+    where
+      go : (t : Bool) → (t || isIn i ρ) ≡ false → isIn i ρ ≡ false
+      go true e = absurd (false≢true (sym e))
+      go false e = e
+
+  among-both : (σ ρ : List ℕ) (j : ℕ) → Among σ ρ → Among (j ∷ σ) (j ∷ ρ)
+  among-both σ ρ j a i e = go (eqb i j) e
+    where
+      go : (t : Bool) → (t || isIn i ρ) ≡ false → (t || isIn i σ) ≡ false
+      go true e = absurd (false≢true (sym e))
+      go false e = a i e
+
+  tag-one : (r : ℕ × Form) (σ ρ : List ℕ) → isList place (r .0) ≡ false → isIn (r .0) σ ≡ false → Among σ ρ → (vs : List Value) → length vs ≤ 1 → (es : List Entry)
+      → ((σ′ : List ℕ) → Among σ′ (r .0 ∷ ρ) → freshFrom σ′ es ≡ true) → freshFrom σ (tag r vs ++ es) ≡ true
+  tag-one r σ ρ h n a [] l es k = k σ (among-more σ ρ (r .0) a)
+  tag-one r σ ρ h n a (v ∷ []) l es k = rw (h, n) (k (r .0 ∷ σ) (among-both σ ρ (r .0) a))
+  tag-one r σ ρ h n a (v ∷ w ∷ vs) l es k = absurd (omega arith)
+
+  rows-fresh : (g : Givens) (σ ρ : List ℕ) → Among σ ρ → {rs : Forms} → Apart ρ rs → Each (RightRow g) rs → freshFrom σ (flat (λ r. tag r (items (g (r .0)))) rs) ≡ true
+  rows-fresh g σ ρ a d nil = refl
+  rows-fresh g σ ρ a (n, d) (_&_ {a = r} {l = rs} w ws) = go (isList place (r .0)) refl (λ σ′ a′. rows-fresh g σ′ (r .0 ∷ ρ) a′ d ws)
+    where
+      go : (t : Bool) → isList place (r .0) ≡ t → ((σ′ : List ℕ) → Among σ′ (r .0 ∷ ρ) → freshFrom σ′ (flat (λ r. tag r (items (g (r .0)))) rs) ≡ true)
+          → freshFrom σ (flat (λ r. tag r (items (g (r .0)))) (r ∷ rs)) ≡ true
+      go true h k = tag-list r σ h (a (r .0) n) (items (g (r .0))) _ ∙ k σ (among-more σ ρ (r .0) a)
+      go false h k = tag-one r σ ρ h (a (r .0) n) a (items (g (r .0))) (w .once h) _ k
+
+  entries-once : (g : Givens) → Apart [] (place .row) → Each (RightRow g) (place .row) → noneTwice place (map propOf (entries place g)) ≡ true
+  unfolding entries
+  entries-once g d ws = rows-fresh g [] [] (λ i e. e) d ws
+
+  pub says-block : {A : Type 0} (f : List Prop → A) (g : Givens) → Apart [] (place .row) → Each (RightRow g) (place .row) → length (propsBytes place g) ≤ most → Says (Block place f) (f (map propOf (entries place g))) (block place g)
   unfolding block propsBytes entries
-  says-block f g rows h = says-counted h (rw (rows-entries g place) (says-map f (says-many propOf entry (entries place g) (each-imp says-entry (entries-right g rows)))))
+  says-block f g d rows h = says-counted h (rw (rows-entries g (place .row)) (says-map f (says-only (noneTwice place) (entries-once g d rows) (says-many propOf entry (entries place g) (each-imp says-entry (entries-right g rows))))))
 
 -- ---- what is handed over can be written
+
+pub one-once : (o : Option ℕ) → length (items (one o)) ≤ 1
+one-once none = omega arith
+one-once (some n) = omega arith
+
+pub lent-once : (l : Lent) → length (items (lent l)) ≤ 1
+lent-once l = go (l .on)
+  where
+    go : (t : Bool) → length (cond t (str (l .bytes) ∷ []) []) ≤ 1
+    go true = omega arith
+    go false = omega arith
 
 pub one-suits : {f : Form} (P : ℕ → Type 0) → ((n : ℕ) → P n → Suits f (num n)) → (o : Option ℕ) → Each P (orNone o) → Each (Suits f) (items (one o))
 one-suits P s none p = nil
@@ -124,7 +188,7 @@ duos-suit (a ∷ b ∷ l) (o & (o′ & os)) (p & (p′ & ps)) = a-pair o p o′ 
 pub pairs-suit : (r : Run) → Octets (r .bytes) → Each Writable (map word (strings r)) → Each (Suits pair) (items (pairs r))
 pairs-suit r o p = duos-suit (strings r) (each-piece (r .lengths) o) p
 
-pub several-suit : {ns : List ℕ} → Each Small ns → Each (Suits number) (items (several ns))
+pub several-suit : {ns : List ℕ} → Each Fine ns → Each (Suits number) (items (several ns))
 several-suit nil = nil
 several-suit (p & ps) = a-number p & several-suit ps
 

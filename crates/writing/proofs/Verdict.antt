@@ -4,7 +4,8 @@ use mathlib.Core.Bool.{Bool, true, false, false≢true}
 use mathlib.Core.Option.{Option, none, some}
 use mathlib.Core.Logic.{_↔_, _⊎_, inl, inr}
 use mathlib.Core.List.{List, [], _∷_}
-use Prim.Native.Nat.{ℕ, _≤_, _<_}
+use Prim.Native.Nat.{ℕ, zero, suc, _≤_, _<_}
+use lib.Dec.{eqb·suc-zero}
 use lib.ListN.{length}
 use borrow.Author.Tests.{le-leb, lt-leb}
 use Rattle.grammar.specs.Choice.{isIn}
@@ -20,7 +21,7 @@ use Rattle.writing.specs.Handed.{Handed, belongs}
 use Rattle.writing.specs.Size.{most, restIs, sizeIs}
 use Rattle.writing.specs.Order.{Field, raw, word, filter, code, fieldsOf, numbersOf, named, asked, permitSized, permit}
 use Rattle.writing.specs.Write.{frameBytes, sizeOf, writeOf, answerOf}
-use Rattle.writing.specs.Refuse.{Belongs, Short, Writable, Faulty, long-raw, long-word, long-filter, bad-word, bad-filter, bad-rule, bad-qos, unlisted, FirstFault, Small, TooLarge, Unnamed, Unasked, Within, Countable, Refuses, field, too-large, no-name, number, none-asked, no-room, Accepts, Unsized, HasSize}
+use Rattle.writing.specs.Refuse.{Belongs, Short, Writable, Faulty, long-raw, long-word, long-filter, bad-word, bad-filter, bad-rule, bad-qos, unlisted, FirstFault, Small, Fine, Unfit, large, nought, FirstUnfit, Unnamed, Unasked, Within, Countable, Refuses, field, too-large, no-name, number, none-asked, no-room, Accepts, Unsized, HasSize}
 use Rattle.writing.proofs.Tests.{passes-when, fails-when, decide-by, le-or}
 use Rattle.writing.proofs.Belong.{belongs-when, unnamed-when, unasked-when}
 use Rattle.writing.proofs.Judge.{fields-pass, fields-fault, numbers-pass, numbers-fault, limit-pass, limit-fault}
@@ -68,7 +69,6 @@ decide-field (filter s o) = go (decide-word s) (either (ruleFine o)) (either (qo
     go (inl t) (inr p) q = inr (nr 14 (3 ∷ []), bad-rule (t .0) (t .1) p)
     go (inl t) (inl p) (inr q) = inr (nr 11 (3 ∷ []), bad-qos (t .0) (t .1) p q)
     go (inl t) (inl p) (inl q) = inl (t .0, t .1, p, q)
-
 decide-field (code rs c) = go (either (isIn c rs))
   where
     go : ((isIn c rs ≡ true) ⊎ (isIn c rs ≡ false)) → Writable (code rs c) ⊎ ((k : Refusal) × Faulty (code rs c) k)
@@ -84,14 +84,22 @@ decide-fields (f ∷ fs) = go (decide-field f) (decide-fields fs)
     go (inl p) (inl ps) = inl (p & ps)
     go (inl p) (inr t) = inr (t .0, r.FirstFault.later p (t .1))
 
-decide-numbers : (ns : List ℕ) → Each Small ns ⊎ TooLarge ns
-decide-numbers [] = inl nil
-decide-numbers (n ∷ ns) = go (le-or n most) (decide-numbers ns)
+decide-number : (n : ℕ) → Fine n ⊎ ((k : Refusal) × Unfit n k)
+decide-number zero = inr (nr 23 [], nought)
+decide-number (suc n) = go (le-or (suc n) most)
   where
-    go : (Small n ⊎ (most < n)) → (Each Small ns ⊎ TooLarge ns) → Each Small (n ∷ ns) ⊎ TooLarge (n ∷ ns)
-    go (inr p) m = inr (r.TooLarge.here p)
+    go : (Small (suc n) ⊎ (most < suc n)) → Fine (suc n) ⊎ ((k : Refusal) × Unfit (suc n) k)
+    go (inl p) = inl (p, rw (eqb·suc-zero n))
+    go (inr p) = inr (nr 17 [], large p)
+
+decide-numbers : (ns : List ℕ) → Each Fine ns ⊎ ((k : Refusal) × FirstUnfit k ns)
+decide-numbers [] = inl nil
+decide-numbers (n ∷ ns) = go (decide-number n) (decide-numbers ns)
+  where
+    go : (Fine n ⊎ ((k : Refusal) × Unfit n k)) → (Each Fine ns ⊎ ((k : Refusal) × FirstUnfit k ns)) → Each Fine (n ∷ ns) ⊎ ((k : Refusal) × FirstUnfit k (n ∷ ns))
+    go (inr t) m = inr (t .0, r.FirstUnfit.here (t .1))
     go (inl p) (inl ps) = inl (p & ps)
-    go (inl p) (inr t) = inr (r.TooLarge.later t)
+    go (inl p) (inr t) = inr (t .0, r.FirstUnfit.later p (t .1))
 
 decide-limit : (limit : Option ℕ) (n : ℕ) → Within limit n ⊎ ((m : ℕ) × (limit ≡ some m) × (m < n))
 decide-limit none n = inl tt
@@ -110,14 +118,14 @@ module _ (limit : Option ℕ) (room : ℕ) (h : Handed) where
       (decide-numbers (numbersOf h)) (fails-or (asked h) (unasked-when h)) (le-or (sizeIs h) room)
     where
       go : (Belongs h ⊎ (Belongs h → ⊥)) → (Each Writable (fieldsOf h) ⊎ ((k : Refusal) × FirstFault k (fieldsOf h))) → (Small (restIs h) ⊎ (most < restIs h))
-          → (Within limit (sizeIs h) ⊎ ((m : ℕ) × (limit ≡ some m) × (m < sizeIs h))) → ((Unnamed h → ⊥) ⊎ Unnamed h) → (Each Small (numbersOf h) ⊎ TooLarge (numbersOf h))
+          → (Within limit (sizeIs h) ⊎ ((m : ℕ) × (limit ≡ some m) × (m < sizeIs h))) → ((Unnamed h → ⊥) ⊎ Unnamed h) → (Each Fine (numbersOf h) ⊎ ((k : Refusal) × FirstUnfit k (numbersOf h)))
           → ((Unasked h → ⊥) ⊎ Unasked h) → ((sizeIs h ≤ room) ⊎ (room < sizeIs h)) → Accepts limit room h ⊎ ((k : Refusal) × Refuses limit room h k)
       go (inr w) f l m i n s o = inr (nr 20 [], r.Refuses.mismatch w)
       go (inl w) (inr f) l m i n s o = inr (f .0, field w (f .1))
       go (inl w) (inl f) (inr l) m i n s o = inr (nr 17 [], r.Refuses.too-long w f l)
       go (inl w) (inl f) (inl l) (inr m) i n s o = inr (nr 16 (sizeIs h ∷ m .0 ∷ []), too-large (record { belongs = w; fields = f; rest = l }) (m .1) (m .2))
       go (inl w) (inl f) (inl l) (inl m) (inr i) n s o = inr (nr 12 [], no-name (record { belongs = w; fields = f; rest = l }) m i)
-      go (inl w) (inl f) (inl l) (inl m) (inl i) (inr n) s o = inr (nr 17 [], number (record { belongs = w; fields = f; rest = l }) m i n)
+      go (inl w) (inl f) (inl l) (inl m) (inl i) (inr n) s o = inr (n .0, number (record { belongs = w; fields = f; rest = l }) m i (n .1))
       go (inl w) (inl f) (inl l) (inl m) (inl i) (inl n) (inr s) o = inr (nr 13 [], none-asked (record { belongs = w; fields = f; rest = l }) m i n s)
       go (inl w) (inl f) (inl l) (inl m) (inl i) (inl n) (inl s) (inr o) = inr (nr 19 (sizeIs h ∷ []), no-room (record { belongs = w; fields = f; rest = l }) m i n s o)
       go (inl w) (inl f) (inl l) (inl m) (inl i) (inl n) (inl s) (inl o) =

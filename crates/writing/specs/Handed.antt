@@ -160,7 +160,7 @@ tag r (v ∷ vs) = (r, v) ∷ tag r vs
 
 -- 01, table of properties: the properties of a block, row by row, and the values of a row in their order
 unfoldable pub entries : Place → Givens → List Entry
-entries place g = flat (λ r. tag r (items (g (r .0)))) place
+entries place g = flat (λ r. tag r (items (g (r .0)))) (place .row)
 
 -- 01, "What must change shape": "an options byte for each filter"
 abbrev pub filtersOf : Run → List ℕ → List (List ℕ × ℕ)
@@ -197,7 +197,7 @@ rowBelongs block g = sorted g && (block || nothingGiven g)
 
 -- the rows of a block
 unfoldable pub blockBelongs : Place → Bool → Givens → Bool
-blockBelongs place block g = all (λ r. rowBelongs block (g (r .0))) place
+blockBelongs place block g = all (λ r. rowBelongs block (g (r .0))) (place .row)
 
 -- "options bytes and filter lengths differ in number"
 unfoldable pub filtersBelong : Run → List ℕ → Bool

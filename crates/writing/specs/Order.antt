@@ -70,7 +70,7 @@ givenFields f (several ns) = []
 
 -- 01, writing order: "field by field as written": the rows of the table in their order
 unfoldable pub propsFields : Place → Givens → List Field
-propsFields place g = flat (λ r. givenFields (r .1) (g (r .0))) place
+propsFields place g = flat (λ r. givenFields (r .1) (g (r .0))) (place .row)
 
 -- a filter's text and options byte
 abbrev pub filterField : List ℕ × ℕ → Field
@@ -90,6 +90,10 @@ fieldsOf (ping k) = []
 -- 01, row 17: "written R, or a subscription identifier, above 268,435,455"
 abbrev pub small : ℕ → Test
 small n = (leb n most, nr 17 [])
+
+-- 02, P9: "The writer also refuses a subscription identifier 0, in the place where 17 for identifiers stands"
+abbrev pub numberTests : ℕ → List Test
+numberTests n = small n ∷ (notZero n, nr 23 []) ∷ []
 
 -- what is present, as a list
 abbrev pub orNone : {A : Type 0} → Option A → List A
@@ -128,12 +132,12 @@ abbrev pub limitTests : Option ℕ → ℕ → List Test
 limitTests none n = []
 limitTests (some m) n = (leb n m, nr 16 (n ∷ m ∷ [])) ∷ []
 
--- 01, writing order: "..; 16; 12; 17 for identifiers in order; 13; 19"
+-- 01, writing order: "..; 16; 12; 17 for identifiers in order; 13; 19"; 02, P9: 23 beside that 17
 abbrev pub permitSized : Option ℕ → ℕ → Handed → Fit (Unit {0})
 permitSized limit room h = do
   judge (limitTests limit (sizeIs h))
   guard (named h) (nr 12 [])
-  judge (map small (numbersOf h))
+  judge (flat numberTests (numbersOf h))
   guard (asked h) (nr 13 [])
   guard (leb (sizeIs h) room) (nr 19 (sizeIs h ∷ []))
 

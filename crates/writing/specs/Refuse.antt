@@ -8,7 +8,7 @@ use lib.ListN.{length}
 use Rattle.grammar.specs.Choice.{isIn}
 use Rattle.grammar.specs.Text.{Utf8}
 use Rattle.grammar.specs.Tables.{Form, publishPlace, subscribePlace, ackPlace, unsubscribePlace}
-use Rattle.grammar.specs.Sentence.{qosFine, ruleFine}
+use Rattle.grammar.specs.Sentence.{notZero, qosFine, ruleFine}
 use Rattle.grammar.specs.Octets.{Each}
 use Rattle.reading.specs.Refusal.{Refusal, nr}
 use Rattle.writing.specs.Lists.{sum}
@@ -42,11 +42,11 @@ InBlock block g r = Sorted (g (r .0)) × (block ≡ false → NothingGiven (g (r
 
 -- 01, row 20, does not apply
 abbrev pub Belongs : Handed → Type 0
-Belongs (publish h) = Each (InBlock (h .block) (publishGiven h)) publishPlace
-Belongs (ack k h) = Each (InBlock (h .block) (ackGiven (h .text) (h .user))) ackPlace
-Belongs (subscribe h) = Each (InBlock (h .block) (subscribeGiven h)) subscribePlace × (AddsUp (h .filters) × (length (h .filters .lengths) ≡ length (h .options)))
-Belongs (reply k h) = Each (InBlock (h .block) (ackGiven (h .text) (h .user))) ackPlace
-Belongs (unsubscribe h) = Each (InBlock (h .block) (unsubscribeGiven (h .user))) unsubscribePlace × AddsUp (h .topics)
+Belongs (publish h) = Each (InBlock (h .block) (publishGiven h)) (publishPlace .row)
+Belongs (ack k h) = Each (InBlock (h .block) (ackGiven (h .text) (h .user))) (ackPlace .row)
+Belongs (subscribe h) = Each (InBlock (h .block) (subscribeGiven h)) (subscribePlace .row) × (AddsUp (h .filters) × (length (h .filters .lengths) ≡ length (h .options)))
+Belongs (reply k h) = Each (InBlock (h .block) (ackGiven (h .text) (h .user))) (ackPlace .row)
+Belongs (unsubscribe h) = Each (InBlock (h .block) (unsubscribeGiven (h .user))) (unsubscribePlace .row) × AddsUp (h .topics)
 Belongs (ping k) = Unit {0}
 
 -- ---- one field (18, 9, 14, 11, 15)
@@ -84,10 +84,19 @@ pub data FirstFault (k : Refusal) : List Field → Type 0 where
 abbrev pub Small : ℕ → Type 0
 Small n = n ≤ most
 
--- 01, row 17, of subscription identifiers: one of the numbers is too large
-pub data TooLarge : List ℕ → Type 0 where
-  here : {n : ℕ} {ns : List ℕ} → most < n → TooLarge (n ∷ ns)
-  later : {n : ℕ} {ns : List ℕ} → TooLarge ns → TooLarge (n ∷ ns)
+-- a subscription identifier that can be written: not too large (01, row 17), and not 0 (02, P9)
+abbrev pub Fine : ℕ → Type 0
+Fine n = Small n × (notZero n ≡ true)
+
+-- one that cannot, and its refusal
+pub data Unfit : ℕ → Refusal → Type 0 where
+  large : {n : ℕ} → most < n → Unfit n (nr 17 [])
+  nought : Unfit 0 (nr 23 [])
+
+-- 01, writing order: "17 for identifiers in order"; 02, P9: "a subscription identifier 0, in the place where 17 for identifiers stands": the first that cannot be written is given k
+pub data FirstUnfit (k : Refusal) : List ℕ → Type 0 where
+  here : {n : ℕ} {ns : List ℕ} → Unfit n k → FirstUnfit k (n ∷ ns)
+  later : {n : ℕ} {ns : List ℕ} → Fine n → FirstUnfit k ns → FirstUnfit k (n ∷ ns)
 
 -- 01, row 12: "Publish, QoS 1 or 2, identifier 0"
 abbrev pub Unnamed : Handed → Type 0
@@ -127,16 +136,16 @@ pub data Refuses (limit : Option ℕ) (room : ℕ) (h : Handed) : Refusal → Ty
   too-long : Belongs h → Each Writable (fieldsOf h) → most < restIs h → Refuses limit room h (nr 17 [])
   too-large : {m : ℕ} → Countable h → limit ≡ some m → m < sizeIs h → Refuses limit room h (nr 16 (sizeIs h ∷ m ∷ []))
   no-name : Countable h → Within limit (sizeIs h) → Unnamed h → Refuses limit room h (nr 12 [])
-  number : Countable h → Within limit (sizeIs h) → (Unnamed h → ⊥) → TooLarge (numbersOf h) → Refuses limit room h (nr 17 [])
-  none-asked : Countable h → Within limit (sizeIs h) → (Unnamed h → ⊥) → Each Small (numbersOf h) → Unasked h → Refuses limit room h (nr 13 [])
-  no-room : Countable h → Within limit (sizeIs h) → (Unnamed h → ⊥) → Each Small (numbersOf h) → (Unasked h → ⊥) → room < sizeIs h → Refuses limit room h (nr 19 (sizeIs h ∷ []))
+  number : {k : Refusal} → Countable h → Within limit (sizeIs h) → (Unnamed h → ⊥) → FirstUnfit k (numbersOf h) → Refuses limit room h k
+  none-asked : Countable h → Within limit (sizeIs h) → (Unnamed h → ⊥) → Each Fine (numbersOf h) → Unasked h → Refuses limit room h (nr 13 [])
+  no-room : Countable h → Within limit (sizeIs h) → (Unnamed h → ⊥) → Each Fine (numbersOf h) → (Unasked h → ⊥) → room < sizeIs h → Refuses limit room h (nr 19 (sizeIs h ∷ []))
 
 -- what is accepted: no row applies
 pub record Accepts (limit : Option ℕ) (room : ℕ) (h : Handed) : Type 0 where
   pub countable : Countable h
   pub within : Within limit (sizeIs h)
   pub named : Unnamed h → ⊥
-  pub numbers : Each Small (numbersOf h)
+  pub numbers : Each Fine (numbersOf h)
   pub asked : Unasked h → ⊥
   pub fits : sizeIs h ≤ room
 

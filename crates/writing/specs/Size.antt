@@ -43,7 +43,7 @@ givenSize f (several ns) = total (λ n. 1 + numSize f n) ns
 
 -- L
 unfoldable pub propsSize : Place → Givens → ℕ
-propsSize place g = total (λ r. givenSize (r .1) (g (r .0))) place
+propsSize place g = total (λ r. givenSize (r .1) (g (r .0))) (place .row)
 
 -- ---- R
 

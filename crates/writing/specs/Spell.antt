@@ -61,7 +61,7 @@ rowBytes r g = flat entry (tag r (items g))
 
 -- 01, grammar: "The writer emits the properties in the order of the table above": what fills a place's block
 unfoldable pub propsBytes : Place → Givens → List ℕ
-propsBytes place g = flat (λ r. rowBytes r (g (r .0))) place
+propsBytes place g = flat (λ r. rowBytes r (g (r .0))) (place .row)
 
 -- the number of bytes, and the bytes: R and what fills a frame, L and what fills a block
 unfoldable pub counted : List ℕ → List ℕ

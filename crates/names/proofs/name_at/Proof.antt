@@ -6,15 +6,17 @@ use Rattle.names.proofs.Laws.{past-places}
 use Rattle.names.proofs.name_at.Statement.{statement}
 use Rattle.names.proofs.name_at.Tie as tie
 
-left-over : tie.Need-returns-23
+left-over : tie.Need-returns-25
 unfolding names nameAt
-left-over c = rw (past-places ("" ∷ names) "" (c .before .before .args .number) (c .before .match .rest)) (c .named23 .ensures)
+left-over c = rw (past-places ("" ∷ names) "" (c .before .before .args .number) (c .before .match .rest)) (c .named25 .ensures)
 
 pub name-at-spec : {M : Type 1} → statement M
 unfolding names nameAt
 name-at-spec =
     tie.close
     (tie.spec
+    (λ c κs. search needs)
+    (λ c κs. search needs)
     (λ c κs. search needs)
     (λ c κs. search needs)
     (λ c κs. search needs)
@@ -60,4 +62,6 @@ name-at-spec =
     (λ c. rw (c .before .before .before .match .keys20) (c .named20 .ensures))
     (λ c. rw (c .before .before .before .match .keys21) (c .named21 .ensures))
     (λ c. rw (c .before .before .before .match .keys22) (c .named22 .ensures))
+    (λ c. rw (c .before .before .before .match .keys23) (c .named23 .ensures))
+    (λ c. rw (c .before .before .before .match .keys24) (c .named24 .ensures))
     left-over)

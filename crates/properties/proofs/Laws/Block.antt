@@ -131,5 +131,5 @@ module _ (s : List ℕ) (at : ℕ) where
         sym (
         sized-within (handFit (blockAs w) (propertiesFit asPlaces (w .place))) s at (z .0 .len) (z .0 .start) (h .size) o
         ∙ rw (block-some w W (z .0 .start + z .0 .len) (take (z .0 .len) (drop (z .0 .start) s)) i, span-at s (z .0 .len) (z .0 .start) o, part-slice s (z .0 .len) (z .0 .start) o, h .ends, n)
-        (then-end (z .0 .start + z .0 .len) (loopOn w (z .0 .start + z .0 .len) (w .made (z .0) []) (drop (z .0 .start) (take (z .0 .start + z .0 .len) s))))
+        (then-end (z .0 .start + z .0 .len) (loopOn w (z .0 .start + z .0 .len) (w .made (z .0) []) [] (drop (z .0 .start) (take (z .0 .start + z .0 .len) s))))
         )

@@ -46,8 +46,8 @@ enum-known-e-3 c = search needs
 enum-told-4 : tie.Need-enum-told-4
 enum-told-4 c = search needs
 
-read-length-requires : tie.Need-read-length-requires
-read-length-requires c κs = search needs
+read-identifier-requires : tie.Need-read-identifier-requires
+read-identifier-requires c κs = search needs
 
 enum-known-x-4 : tie.Need-enum-known-x-4
 enum-known-x-4 c = search needs
@@ -107,10 +107,10 @@ returns-6 : tie.Need-returns-6
 returns-6 c = rw (c .before .before .before .before .enum-told3 .given .1) (refused (of-u32 _) (rw (c .before .e3 .given .1) at (c .before .before .before .read-u32 .ensures)))
 
 returns-7 : tie.Need-returns-7
-returns-7 c = rw (c .before .before .before .before .enum-told4 .given .1) (found (of-number _) (rw (c .before .x4 .given .1) at (c .before .before .before .read-length .ensures)) refl refl)
+returns-7 c = rw (c .before .before .before .before .enum-told4 .given .1) (found (of-number _) (rw (c .before .x4 .given .1) at (c .before .before .before .read-identifier .ensures)) refl refl)
 
 returns-8 : tie.Need-returns-8
-returns-8 c = rw (c .before .before .before .before .enum-told4 .given .1) (refused (of-number _) (rw (c .before .e4 .given .1) at (c .before .before .before .read-length .ensures)))
+returns-8 c = rw (c .before .before .before .before .enum-told4 .given .1) (refused (of-number _) (rw (c .before .e4 .given .1) at (c .before .before .before .read-identifier .ensures)))
 
 returns-9 : tie.Need-returns-9
 returns-9 c = rw (c .before .before .before .before .enum-told5 .given .1) (found (of-text _) (rw (c .before .x5 .given .1) at (c .before .before .before .read-mqtt-string .ensures)) refl refl)
@@ -148,7 +148,7 @@ read-value-spec =
     enum-known-x-3
     enum-known-e-3
     enum-told-4
-    read-length-requires
+    read-identifier-requires
     enum-known-x-4
     enum-known-e-4
     enum-told-5

@@ -45,11 +45,15 @@ returns-9 c = sym (row-at 7 (c .before .before .before .before .before .before .
 
 returns-10 : tie.Need-returns-10
 unfolding rows
-returns-10 c = sym (no-row 1 (c .before .before .before .args .b) (omega arith) (omega arith))
+returns-10 c = sym (no-row 0 (c .before .args .b) tt (omega arith))
 
 returns-11 : tie.Need-returns-11
 unfolding rows
-returns-11 c = sym (no-row 9 (c .before .before .before .before .before .before .before .args .b) (omega arith) (omega arith))
+returns-11 c = sym (no-row 1 (c .before .before .before .args .b) (omega arith) (omega arith))
+
+returns-12 : tie.Need-returns-12
+unfolding rows
+returns-12 c = sym (no-row 9 (c .before .before .before .before .before .before .before .args .b) (omega arith) (omega arith))
 
 pub begin-spec : {M : Type 1} → statement M
-begin-spec = tie.close (tie.spec returns returns-2 returns-3 returns-4 returns-5 returns-6 returns-7 returns-8 returns-9 returns-10 returns-11)
+begin-spec = tie.close (tie.spec returns returns-2 returns-3 returns-4 returns-5 returns-6 returns-7 returns-8 returns-9 returns-10 returns-11 returns-12)

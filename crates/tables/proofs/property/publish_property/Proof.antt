@@ -44,7 +44,7 @@ returns-9 c = ⊎-elim (λ h. rw h) (λ h. rw h) (c .match .keys9)
 
 returns-10 : tie.Need-returns-10
 unfolding publishPlace
-returns-10 c = sym (lookup-absent publishPlace (c .before .args .num) (c .match .rest .0))
+returns-10 c = sym (lookup-absent (publishPlace .row) (c .before .args .num) (c .match .rest .0))
 
 pub publish-property-spec : {M : Type 1} → statement M
 publish-property-spec = tie.close (tie.spec returns returns-2 returns-3 returns-4 returns-5 returns-6 returns-7 returns-8 returns-9 returns-10)

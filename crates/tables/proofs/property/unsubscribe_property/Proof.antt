@@ -11,7 +11,7 @@ returns c = rw (c .match .keys1)
 
 returns-2 : tie.Need-returns-2
 unfolding unsubscribePlace
-returns-2 c = sym (lookup-absent unsubscribePlace (c .before .args .num) (c .match .rest))
+returns-2 c = sym (lookup-absent (unsubscribePlace .row) (c .before .args .num) (c .match .rest))
 
 pub unsubscribe-property-spec : {M : Type 1} → statement M
 unsubscribe-property-spec = tie.close (tie.spec returns returns-2)
