@@ -11,5 +11,6 @@ pub mod Packets
 pub mod Demand
 pub mod Back
 pub mod Shortest
+pub mod Once
 pub mod Pins
 pub mod ForCode
