@@ -1,9 +1,9 @@
 -- UTF-8: how a byte finds its row of the Unicode table, and how a text goes on after bytes that fit a row. Assumes nothing.
 use mathlib.Core.Path.{_≡_, refl, ap, sym, _∙_}
-use mathlib.Core.Bool.{Bool, true, false, _&&_, true≢false, false≢true, cond, and-assoc, and-true}
+use mathlib.Core.Bool.{Bool, true, false, _&&_, true≢false, false≢true, cond, and-assoc, and-true, and-false}
 use mathlib.Core.Option.{Option, none, some}
 use mathlib.Core.List.{List, [], _∷_, _++_}
-use Prim.Native.Nat.{ℕ, zero, suc, _+_, _-_, _≤_, _<_}
+use Prim.Native.Nat.{ℕ, zero, suc, _+_, _-_, _≤_, _<_, _%_}
 use native.Mathlib.Omega.{arith}
 use native.Mathlib.Numerals.{add-one}
 use native.Mathlib.Nat.{add-zero, sub-zero}
@@ -271,18 +271,6 @@ going-end {s} {i = i} g h = g .rest ∙ text-over s i h
 pub both-low : (a b : ℕ) → bitOr a b < 128 → (a < 128) × (b < 128)
 both-low a b h = (omega (arith, or-add-and a b, and-le-r a b), omega (arith, or-add-and a b, and-le-l a b))
 
--- ---- the lesser of two bytes
-
-pub lesser-second : (a b : ℕ) → b < a → ltb 0 b ≡ (ltb 0 a && ltb 0 b)
-lesser-second a b h = rw (le-leb 1 a (omega arith))
-
-pub lesser-first : (a b : ℕ) → a ≤ b → ltb 0 a ≡ (ltb 0 a && ltb 0 b)
-lesser-first a b h = go (ltb 0 a) refl
-  where
-    go : (t : Bool) → ltb 0 a ≡ t → t ≡ (t && ltb 0 b)
-    go true e = sym (le-leb 1 b (omega (arith, leb-true 1 a e)))
-    go false e = refl
-
 -- ---- bytes that are all ASCII
 
 pub and-both : (a b : Bool) → (a && b) ≡ true → (a ≡ true) × (b ≡ true)
@@ -318,13 +306,6 @@ plain-first x s e =
     let (z, b) = and-both (ltb 0 x) (ltb x 128) e in
     ascii (x ∷ s) 0 (omega arith) (leb-true 1 x z) (leb-true (suc x) 128 b)
 
--- two bytes, of which one or both are so
-pub plain-both : (p q r t : Bool) → ((p && q) && (r && t)) ≡ ((p && r) && (q && t))
-plain-both true true r t = refl
-plain-both true false true t = refl
-plain-both true false false t = refl
-plain-both false q r t = refl
-
 -- text, whatever part of it
 pub ascii-text : (s : List ℕ) → allAscii s ≡ true → isText s ≡ true
 ascii-text [] e = text-end
@@ -355,14 +336,20 @@ module _ (s : List ℕ) (i n : ℕ) (d : allAscii s ≡ allAscii (drop i s)) whe
   chunk-last h = ap allAscii (take-all n (drop i s) (omega (arith, length-drop i s))) ∙ sym d
 
 -- what a loop over the bytes from `at` on has found when it comes to the end
-module _ (s : List ℕ) (at end all low : ℕ) where
-  pub ascii-none : {i : ℕ} → (ltb 0 low && ltb all 128) ≡ allAscii (take (i - at) (drop at s)) → i ≡ end → low ≡ 0
-      → (false ≡ true → isText (drop at s) ≡ isText (drop end s)) × (false ≡ allAscii (take (end - at) (drop at s)))
-  ascii-none e j z = (λ t. absurd (false≢true t), rw (z, j) at e)
+pub ascii-all : (s : List ℕ) (at end all : ℕ) {i : ℕ} → ltb all 128 ≡ allAscii (take (i - at) (drop at s)) → i ≡ end → at ≤ end → end ≤ length s
+    → (ltb all 128 ≡ true → isText (drop at s) ≡ isText (drop end s)) × (ltb all 128 ≡ allAscii (take (end - at) (drop at s)))
+ascii-all s at end all e j h o =
+    let f : ltb all 128 ≡ allAscii (take (end - at) (drop at s)) = rw j at e in
+    let n : at + (end - at) ≡ end = omega arith in
+    (λ t. rw (drop-drop (end - at) at s, n) at (plain-front (end - at) (drop at s) (rw length-drop (omega arith)) (sym f ∙ t)), f)
 
-  pub ascii-all : {i : ℕ} → (ltb 0 low && ltb all 128) ≡ allAscii (take (i - at) (drop at s)) → i ≡ end → (low ≡ 0 → ⊥) → at ≤ end → end ≤ length s
-      → (ltb all 128 ≡ true → isText (drop at s) ≡ isText (drop end s)) × (ltb all 128 ≡ allAscii (take (end - at) (drop at s)))
-  ascii-all e j z h o =
-      let f : ltb all 128 ≡ allAscii (take (end - at) (drop at s)) = rw (le-leb 1 low (omega (arith, z)), j) at e in
-      let n : at + (end - at) ≡ end = omega arith in
-      (λ t. rw (drop-drop (end - at) at s, n) at (plain-front (end - at) (drop at s) (rw length-drop (omega arith)) (sym f ∙ t)), f)
+-- x is b - 1, wrapped
+pub flaw-none : (b x : ℕ) → (x + 1) % 256 ≡ b → x < 127 → true ≡ plain b
+flaw-none b x e h = let i : b ≡ x + 1 = omega arith in rw (le-leb 1 b (omega arith), le-leb (suc b) 128 (omega arith))
+
+pub flaw-some : (b x : ℕ) → (x + 1) % 256 ≡ b → x < 256 → 127 ≤ x → false ≡ plain b
+flaw-some b x e l h = go (ltb b 128) refl
+  where
+    go : (t : Bool) → ltb b 128 ≡ t → false ≡ (ltb 0 b && t)
+    go true m = let i : b ≡ 0 = omega (arith, leb-true (suc b) 128 m) in rw i
+    go false m = sym (and-false (ltb 0 b))

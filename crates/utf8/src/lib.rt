@@ -1,13 +1,14 @@
 // UTF-8: the validator in place of `String::from_utf8` of v5/mod.rs, after the Unicode table of well-formed sequences. It goes by
 // chunks: one whose bytes are all ASCII is passed at once, any other character by character.
+use std::num;
 ghost use mathlib.Core.Path.{_≡_};
-ghost use mathlib.Core.Bool.{true, false, _&&_};
+ghost use mathlib.Core.Bool.{true, false};
 ghost use Prim.Native.Nat.{_+_, _-_, _≤_, _<_};
 ghost use lib.Dec.{ltb};
 ghost use lib.ListN.{length, take, drop};
 ghost use Rattle.grammar.specs.Text.{rows, rowAt};
 ghost use Rattle.reading.specs.Read.{isText};
-ghost use Rattle.utf8.specs.Text.{toldLead, Followed, Passed, allAscii};
+ghost use Rattle.utf8.specs.Text.{toldLead, Followed, Passed, plain, allAscii};
 
 // What is to follow a byte that begins a character.
 enum Lead {
@@ -93,14 +94,15 @@ fn pass_chars(s: &[u8], at: usize, end: usize) -> usize
     i
 }
 
-// The lesser of two bytes, so far as whether it is 0.
-fn lesser(a: u8, b: u8) -> u8
-    ensures { λ r. ⌜ ltb 0 r ≡ (ltb 0 a && ltb 0 b) ⌝ }
+// A byte whose top bit is set just where b is 0 or not ASCII. b is in 1..=127 just where b - 1, wrapped, is below 127: one comparison,
+// which the compiler makes for sixteen bytes at once.
+fn flaw(b: u8) -> u8
+    ensures { λ r. ⌜ ltb r 128 ≡ plain b ⌝ }
 {
-    if b < a {
-        return b;
+    if num::wrapping_sub_u8(b, 1) < 127 {
+        return 0;
     }
-    a
+    128
 }
 
 // Is each byte from index `at` to `end` ASCII, and none of them 0?
@@ -109,16 +111,10 @@ fn is_ascii(s: &[u8], at: usize, end: usize) -> bool
     ensures { λ r. ⌜ (r ≡ true → isText (drop at (now (s .entry))) ≡ isText (drop end (now (s .entry)))) × (r ≡ allAscii (take (end - at) (drop at (now (s .entry))))) ⌝ }
 {
     let mut all: u8 = 0;
-    let mut low: u8 = 255;
     let mut i = at;
     while i < end {
-        let b = s[i];
-        all = all | b;
-        low = lesser(low, b);
+        all = all | flaw(s[i]);
         i = i + 1;
-    }
-    if low == 0 {
-        return false;
     }
     all < 128
 }
