@@ -81,7 +81,7 @@ static void refusals(void) {
 /* Numbers in more bytes than they need, in every place where one is read. */
 static void spellings(void) {
     static const uint8_t firsts[] = {0x40, 0x50, 0x62, 0x70};
-    static const uint8_t others_[] = {0x82, 0x90, 0xA2, 0xB0};
+    static const uint8_t blocks[] = {0x82, 0x90, 0xA2, 0xB0};
     size_t i;
     refused(BYTES(0x30, 0x80, 0x00), FREE, ECCH_MALFORMED_REMAINING_LENGTH, 0, 0, 0);
     refused(BYTES(0x30, 0x80, 0x80, 0x00), FREE, ECCH_MALFORMED_REMAINING_LENGTH, 0, 0, 0);
@@ -94,7 +94,7 @@ static void spellings(void) {
     refused(BYTES(0x30, 0x08, 0x00, 0x01, 'a', 0x03, 11, 0x81, 0x00, 'h'), FREE, ECCH_MALFORMED_REMAINING_LENGTH, 0, 0, 10);
     refused(BYTES(0x82, 0x0A, 0x00, 0x01, 0x03, 11, 0x81, 0x00, 0x00, 0x01, 'a', 0x00), FREE, ECCH_MALFORMED_REMAINING_LENGTH, 0, 0, 12);
     for (i = 0; i < sizeof firsts; i++) refused(BYTES(firsts[i], 0x05, 0x00, 0x01, 0x00, 0x80, 0x00), FREE, ECCH_MALFORMED_REMAINING_LENGTH, 0, 0, 7);
-    for (i = 0; i < sizeof others_; i++) refused(BYTES(others_[i], 0x05, 0x00, 0x01, 0x80, 0x00, 0x00), FREE, ECCH_MALFORMED_REMAINING_LENGTH, 0, 0, 7);
+    for (i = 0; i < sizeof blocks; i++) refused(BYTES(blocks[i], 0x05, 0x00, 0x01, 0x80, 0x00, 0x00), FREE, ECCH_MALFORMED_REMAINING_LENGTH, 0, 0, 7);
     CHECK(reads(BYTES(0x30, 0x85, 0x01, 0x00, 0x01, 'a', 0x80, 0x01), FREE) == ECCH_INSUFFICIENT_BYTES && rec[ECCH_VALUE_1] == 128);
 }
 
