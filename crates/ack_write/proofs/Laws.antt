@@ -7,14 +7,14 @@ use native.Mathlib.Omega.{arith}
 use lib.Dec.{eqb}
 use lib.ListN.{length}
 use lib.Seq.{sets}
-use Rattle.grammar.specs.Tables.{ackPlace, reasonsOf}
+use Rattle.grammar.specs.Tables.{ackPlace, reasonsOf, firstOf}
 use Rattle.reading.specs.Reader.{Fit, got, _>>_}
 use Rattle.writing.specs.Lists.{flat}
 use Rattle.writing.specs.Handed.{AckHanded, ack, ackGiven, blockBelongs, belongs}
 use Rattle.writing.specs.Size.{most, withLength, propsSize, isPlain, restIs, cap}
 use Rattle.writing.specs.Spell.{wide, short, propsBytes}
 use Rattle.writing.specs.Order.{judge, code, fieldTests, propsFields, fieldsOf}
-use Rattle.writing.specs.Write.{firstOf, firstByte, frameBytes}
+use Rattle.writing.specs.Write.{firstByte, frameBytes}
 use Rattle.writing.proofs.ForCode.{ack-frame, cap-small, cap-length}
 use Rattle.writing.proofs.Judge.{fields-more}
 use Rattle.writing.proofs.Says.{length-wide}

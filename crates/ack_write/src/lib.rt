@@ -1,5 +1,8 @@
 // The publish acknowledgements, written, after `write` and `size` of puback.rs to pubcomp.rs: first every refusal and the size, touching nothing, then the bytes. A plain
 // success is four bytes.
+use kinds;
+use kinds::Kind;
+use kinds::number_of;
 use number_puts::fixed;
 use records::ack_record::AckKind;
 use records::answer::Limit;
@@ -14,12 +17,12 @@ ghost use mathlib.Core.Bool.{true};
 ghost use mathlib.Core.List.{[], _∷_, _++_};
 ghost use Prim.Native.Nat.{_≤_};
 ghost use lib.Seq.{sets};
-ghost use Rattle.grammar.specs.Tables.{ackPlace, reasonsOf};
+ghost use Rattle.grammar.specs.Tables.{ackPlace, reasonsOf, firstOf};
 ghost use Rattle.writing.specs.Handed.{ack, belongs as belongsOf};
 ghost use Rattle.writing.specs.Spell.{short, propsBytes};
 ghost use Rattle.writing.specs.Size.{most, propsSize, isPlain, restIs, cap};
 ghost use Rattle.writing.specs.Order.{judge, code, fieldTests};
-ghost use Rattle.writing.specs.Write.{firstOf, frameBytes, sizeOf, Written as WrittenOf};
+ghost use Rattle.writing.specs.Write.{frameBytes, sizeOf, Written as WrittenOf};
 ghost use Rattle.records.specs.Told.{limitOf, toldAckKind};
 ghost use Rattle.records.specs.Answered.{toldSized, toldWritten};
 ghost use Rattle.row_tests.specs.Tested.{toldTested};
@@ -88,12 +91,7 @@ fn test_reason(kind: AckKind, reason: u8) -> Tested
 fn first_byte(kind: AckKind) -> u8
     ensures { λ r. ⌜ r ≡ firstOf (toldAckKind kind) ⌝ }
 {
-    match kind {
-        AckKind::PubAck => 0x40,
-        AckKind::PubRec => 0x50,
-        AckKind::PubRel => 0x62,
-        AckKind::PubComp => 0x70,
-    }
+    kinds::first_byte(number_of(Kind::Ack(kind)))
 }
 
 // 20, then the fields.

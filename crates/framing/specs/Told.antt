@@ -1,44 +1,18 @@
 -- What the answers of framing tell, in 01's numbers and values. Assumes nothing.
-use mathlib.Core.Bool.{Bool, true, false}
-use mathlib.Core.Option.{Option, none, some}
+use mathlib.Core.Option.{Option}
 use mathlib.Core.List.{List, [], _∷_}
 use Prim.Native.Nat.{ℕ, _+_, _<_}
 use lib.Dec.{leb}
 use lib.ListN.{length}
-use Rattle.grammar.specs.Choice.{isIn, lookup}
-use Rattle.grammar.specs.Tables.{Layout, aPublish, anAck, aSubscribe, aReply, anUnsubscribe, aPing, kinds, reserved, reasonsOf}
-use Rattle.grammar.specs.Record.{kindOf}
 use Rattle.reading.specs.Refusal.{nr, missing, within, over}
 use Rattle.reading.specs.Reader.{Fit, got, bad, _>>_, guard, Reader, thenOf}
 use Rattle.reading.specs.Read.{byteOf, numOf, frameOf}
 use Rattle.reading.specs.Place.{partOf}
 use Rattle.positions.specs.Position.{fromAt}
-use Rattle.records.specs.Told.{toldError, toldAckKind, toldReplyKind}
+use Rattle.records.specs.Told.{toldError}
 use Rattle.framing.specs.declared.check.Checked.{Checked}
 use Rattle.framing.specs.declared.check.Checked.the-variants.{Header, Refused}
 use Rattle.framing.specs.declared.header.FixedHeader.{FixedHeader}
-use Rattle.framing.specs.declared.header.Kind.{Kind}
-use Rattle.framing.specs.declared.header.Kind.the-variants as kind
-
--- ---- kinds
-
--- the number of a kind, whether it is reserved (01, row 4), and the layout of a kind that is carried
-abbrev pub toldKind : Kind → ℕ × Bool × Option Layout
-toldKind kind.Publish = (3, false, some aPublish)
-toldKind (kind.Ack k) = (toldAckKind k, false, some (anAck (reasonsOf (toldAckKind k))))
-toldKind kind.Subscribe = (8, false, some aSubscribe)
-toldKind (kind.Reply k) = (toldReplyKind k, false, some (aReply (reasonsOf (toldReplyKind k))))
-toldKind kind.Unsubscribe = (10, false, some anUnsubscribe)
-toldKind kind.PingReq = (12, false, some aPing)
-toldKind kind.PingResp = (13, false, some aPing)
-toldKind (kind.Reserved k) = (k, true, none)
-toldKind (kind.NotCarried k) = (k, false, none)
-
--- 01, grammar: "kind in the high four bits"; what the tables say of the first byte x
-abbrev pub kindAt : ℕ → ℕ × Bool × Option Layout
-kindAt x = (kindOf x, isIn (kindOf x) reserved, lookup kinds (kindOf x))
-
--- ---- frames
 
 -- 01, grammar: "A frame is one byte .., a variable length number R": what `frameOf` reads before the limit is looked at
 abbrev pub headerOf : Reader (ℕ × ℕ)

@@ -1,11 +1,11 @@
 -- What C asks by the number of a kind. Assumes nothing.
 use mathlib.Core.Path.{_≡_}
 use mathlib.Core.Option.{Option, none, some}
-use mathlib.Core.List.{List, [], _∷_}
+use mathlib.Core.List.{List}
 use Prim.Native.Nat.{ℕ}
 use lib.ListN.{length}
 use Rattle.grammar.specs.Choice.{lookup}
-use Rattle.grammar.specs.Tables.{Form, Place, publishPlace, subscribePlace, ackPlace, unsubscribePlace, reasonsOf}
+use Rattle.grammar.specs.Tables.{Form, Place, formAt, Layout, aPublish, anAck, aSubscribe, aReply, anUnsubscribe, aPing, kinds, placeAt}
 use Rattle.grammar.specs.Record.{Val, PropOf}
 use Rattle.reading.specs.Reader.{Fit, bad}
 use Rattle.reading.specs.Read.{propertyOf}
@@ -13,17 +13,6 @@ use Rattle.reading.specs.Place.{Span, asPlaces, noItem, userAt, reasonAt}
 use Rattle.positions.specs.Position.{fromAt}
 use Rattle.property_value.specs.Told.{toldProperty, OfForm}
 use Rattle.property_value.specs.declared.GotProperty.{GotProperty}
-use Rattle.tables.specs.Property.{placeOf}
-use Rattle.given.specs.declared.kind.Row.{Row}
-
--- 01, table of properties; 02, P1: the kinds that have a block with user properties
-unfoldable pub blocks : List (ℕ × Place)
-blocks = (3, publishPlace) ∷ (4, ackPlace) ∷ (5, ackPlace) ∷ (6, ackPlace) ∷ (7, ackPlace) ∷ (8, subscribePlace) ∷ (9, ackPlace) ∷ (10, unsubscribePlace) ∷ (11, ackPlace) ∷ []
-
--- the row that a kind's block has, if it has one
-abbrev pub toldRow : Row → Option Place
-toldRow (Row.Of place) = some (placeOf place)
-toldRow Row.NoRow = none
 
 -- of the kind's row, if it has one
 abbrev pub userIn : Option Place → List ℕ → Span → ℕ → Fit (Val Span)
@@ -32,7 +21,7 @@ userIn (some place) s p n = userAt asPlaces s p place n
 
 -- header: "`kind` is 3 to 11; any other is 21"
 abbrev pub userOf : ℕ → List ℕ → Span → ℕ → Fit (Val Span)
-userOf kind = userIn (lookup blocks kind)
+userOf kind = userIn (placeAt kind)
 
 -- the property at index `at` of s in a kind's row, if it has one
 abbrev pub propertyIn : Option Place → List ℕ → ℕ → Fit (PropOf Span × ℕ)
@@ -41,21 +30,27 @@ propertyIn (some row) s at = fromAt (propertyOf asPlaces row (length s)) s at
 
 -- header: "`kind` is 3 to 11; any other is 21"
 abbrev pub propertyAt : ℕ → List ℕ → ℕ → Fit (PropOf Span × ℕ)
-propertyAt kind = propertyIn (lookup blocks kind)
+propertyAt kind = propertyIn (placeAt kind)
 
 -- 01, table of properties: the form of property k in a kind's row, if it has one
 abbrev pub formIn : Option Place → ℕ → Option Form
 formIn none k = none
-formIn (some row) k = lookup row k
+formIn (some place) k = formAt place k
 
 -- the contract of `property_at`: as `PropertyRead`, in the row of the kind
 pub record PropertyGiven (kind : ℕ) (s : List ℕ) (at : ℕ) (r : GotProperty) : Type 0 where
   pub says : toldProperty r ≡ propertyAt kind s at
-  pub typed : OfForm (formIn (lookup blocks kind)) r
+  pub typed : OfForm (formIn (placeAt kind)) r
 
--- 02, P1: the kinds that have reasons as entries, and those that each may give
-unfoldable pub replies : List (ℕ × List ℕ)
-replies = (9, reasonsOf 9) ∷ (11, reasonsOf 11) ∷ []
+-- 02, P1: the reasons that a layout has as entries, if it has them
+abbrev pub entriesIn : Option Layout → Option (List ℕ)
+entriesIn none = none
+entriesIn (some aPublish) = none
+entriesIn (some (anAck rs)) = none
+entriesIn (some aSubscribe) = none
+entriesIn (some (aReply rs)) = some rs
+entriesIn (some anUnsubscribe) = none
+entriesIn (some aPing) = none
 
 -- the n-th reason, where the kind's reasons are rs
 abbrev pub reasonAmong : Option (List ℕ) → List ℕ → Span → ℕ → Fit ℕ
@@ -64,4 +59,4 @@ reasonAmong (some rs) s p n = reasonAt s p rs n
 
 -- header, `ecch_reason`: "`kind` is 9 or 11; any other is 21"
 abbrev pub reasonGiven : ℕ → List ℕ → Span → ℕ → Fit ℕ
-reasonGiven kind = reasonAmong (lookup replies kind)
+reasonGiven kind = reasonAmong (entriesIn (lookup kinds kind))

@@ -5,7 +5,7 @@ use mathlib.Core.Option.{Option, none, some}
 use mathlib.Core.List.{List, [], _∷_}
 use Prim.Native.Nat.{ℕ, zero, suc}
 use Rattle.grammar.specs.Choice.{isIn, lookup}
-use Rattle.grammar.specs.Tables.{u8, u16, u32, number, text, bytes, pair, isList, publishPlace, subscribePlace, ackPlace, unsubscribePlace, reasons, releaseReasons, subAckReasons, unsubAckReasons, Layout, aPublish, anAck, aSubscribe, aReply, anUnsubscribe, aPing, kinds, reserved, isPing, formAt}
+use Rattle.grammar.specs.Tables.{u8, u16, u32, number, text, bytes, pair, isList, publishPlace, subscribePlace, ackPlace, unsubscribePlace, reasons, releaseReasons, subAckReasons, unsubAckReasons, Layout, aPublish, anAck, aSubscribe, aReply, anUnsubscribe, aPing, kinds, reserved, isPing, formAt, placeAt, firsts, firstOf}
 
 -- k numbers from n on
 abbrev pub count : ℕ → ℕ → List ℕ
@@ -26,6 +26,11 @@ known f (i ∷ l) = entry i (f i) (known f l)
 abbrev pub chosen : (ℕ → Bool) → List ℕ → List ℕ
 chosen t [] = []
 chosen t (i ∷ l) = cond (t i) (i ∷ chosen t l) (chosen t l)
+
+-- what f says of each of the numbers
+abbrev each : (ℕ → ℕ) → List ℕ → List ℕ
+each f [] = []
+each f (i ∷ l) = f i ∷ each f l
 
 -- nothing is said
 abbrev isNone : Option Layout → Bool
@@ -103,3 +108,15 @@ zero-and-last = refl
 two-pings : chosen (λ k. isPing (lookup kinds k)) (count 16 0) ≡ 12 ∷ 13 ∷ []
 unfolding kinds
 two-pings = refl
+
+-- 01, table of properties; 02, P1: of all 16 kinds, those that have a block, and its place
+nine-blocks : known placeAt (count 16 0)
+    ≡ (3, publishPlace) ∷ (4, ackPlace) ∷ (5, ackPlace) ∷ (6, ackPlace) ∷ (7, ackPlace) ∷ (8, subscribePlace) ∷ (9, ackPlace) ∷ (10, unsubscribePlace)
+    ∷ (11, ackPlace) ∷ []
+unfolding placeAt kinds
+nine-blocks = refl
+
+-- 01, grammar, and 02, P1: the first bytes of all 16 kinds; 0 where the table has none
+ten-firsts : each firstOf (count 16 0) ≡ 0 ∷ 0 ∷ 0 ∷ 0 ∷ 64 ∷ 80 ∷ 98 ∷ 112 ∷ 130 ∷ 144 ∷ 162 ∷ 176 ∷ 192 ∷ 208 ∷ 0 ∷ 0 ∷ []
+unfolding firstOf firsts
+ten-firsts = refl

@@ -102,3 +102,31 @@ listed (some aPing) = []
 -- 02, P1: the reasons that a kind may give
 unfoldable pub reasonsOf : ℕ → List ℕ
 reasonsOf k = listed (lookup kinds k)
+
+-- 01, table of properties; 02, P1: the place whose row the block of a layout has; a ping has no block
+abbrev pub placeFor : Option Layout → Option Place
+placeFor none = none
+placeFor (some aPublish) = some publishPlace
+placeFor (some (anAck rs)) = some ackPlace
+placeFor (some aSubscribe) = some subscribePlace
+placeFor (some (aReply rs)) = some ackPlace
+placeFor (some anUnsubscribe) = some unsubscribePlace
+placeFor (some aPing) = none
+
+-- the same of a kind
+unfoldable pub placeAt : ℕ → Option Place
+placeAt k = placeFor (lookup kinds k)
+
+-- 01, grammar: "first byte 0x82 for Subscribe, 0x40 for PubAck, `C0 00` and `D0 00` for pings"; 02, P1, and MQTT 3.5 to 3.7, 3.9 to 3.11: PubRec 50,
+-- PubRel 62, PubComp 70, SubAck 90, Unsubscribe A2, UnsubAck B0
+unfoldable pub firsts : List (ℕ × ℕ)
+firsts = (4, 0x40) ∷ (5, 0x50) ∷ (6, 0x62) ∷ (7, 0x70) ∷ (8, 0x82) ∷ (9, 0x90) ∷ (10, 0xA2) ∷ (11, 0xB0) ∷ (12, 0xC0) ∷ (13, 0xD0) ∷ []
+
+-- 0 for a kind that is not in the table
+abbrev firstOrZero : Option ℕ → ℕ
+firstOrZero none = 0
+firstOrZero (some x) = x
+
+-- the first byte of a kind of the table
+unfoldable pub firstOf : ℕ → ℕ
+firstOf k = firstOrZero (lookup firsts k)

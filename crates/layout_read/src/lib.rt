@@ -1,5 +1,7 @@
 // What of a read stands under which name of the layout.
 use codes::qos_number;
+use kinds::Kind;
+use kinds::number_of;
 use layout::place::Head;
 use layout::place::numbers;
 use layout::store::store;
@@ -29,6 +31,7 @@ ghost use Rattle.reading.specs.Refusal.{refusedAs};
 ghost use Rattle.records.specs.Told.{toldError, toldAckKind, toldReplyKind};
 ghost use Rattle.records.specs.Said.{toldPublish, toldSubscribe, toldAck, toldReply, toldUnsubscribe, toldPacket};
 ghost use Rattle.records.specs.Answered.{told};
+ghost use Rattle.kinds.specs.Kinds.{numberOf};
 ghost use Rattle.layout_read.specs.Record.{noSpan, refusedHead, plainHead, headOf, packetNumbers, readNumber, encoded};
 
 // ---- all but the properties
@@ -61,6 +64,12 @@ fn refused_head(taken: usize, first: u64, second: u64) -> Head
     }
 }
 
+fn kind_number(kind: Kind) -> u64
+    ensures { λ r. ⌜ r ≡ numberOf kind ⌝ }
+{
+    number_of(kind) as u64
+}
+
 fn publish_head(taken: usize, m: Publish) -> Head
     ensures { λ r. ⌜ r ≡ headOf taken (publish (toldPublish m)) ⌝ }
 {
@@ -72,7 +81,7 @@ fn publish_head(taken: usize, m: Publish) -> Head
         taken: taken as u64,
         first: 0,
         second: 0,
-        kind: 3,
+        kind: kind_number(Kind::Publish),
         pkid: m.pkid as u64,
         dup: bit(m.dup),
         qos: qos_number(qos) as u64,
@@ -89,21 +98,21 @@ fn publish_head(taken: usize, m: Publish) -> Head
 // Of a kind other than Publish.
 fn plain_head(
     taken: usize,
-    kind: u64,
+    kind: Kind,
     pkid: u64,
     reason: u64,
     filters: Span,
     reasons: Span,
     topics: Span,
 ) -> Head
-    ensures { λ r. ⌜ r ≡ plainHead taken kind pkid reason filters reasons topics ⌝ }
+    ensures { λ r. ⌜ r ≡ plainHead taken (numberOf kind) pkid reason filters reasons topics ⌝ }
 {
     let nowhere = no_span();
     Head {
         taken: taken as u64,
         first: 0,
         second: 0,
-        kind,
+        kind: kind_number(kind),
         pkid,
         dup: 0,
         qos: 0,
@@ -126,35 +135,14 @@ fn publish_numbers(taken: usize, m: Publish) -> [u64; 42]
     numbers(publish_head(taken, m), publish_block(properties))
 }
 
-fn ack_number(kind: AckKind) -> u64
-    ensures { λ r. ⌜ r ≡ toldAckKind kind ⌝ }
-{
-    match kind {
-        AckKind::PubAck => 4,
-        AckKind::PubRec => 5,
-        AckKind::PubRel => 6,
-        AckKind::PubComp => 7,
-    }
-}
-
-fn reply_number(kind: ReplyKind) -> u64
-    ensures { λ r. ⌜ r ≡ toldReplyKind kind ⌝ }
-{
-    match kind {
-        ReplyKind::SubAck => 9,
-        ReplyKind::UnsubAck => 11,
-    }
-}
-
 fn ack_numbers(taken: usize, kind: AckKind, m: Ack) -> [u64; 42]
     ensures { λ r. ⌜ r ≡ packetNumbers taken (ack (toldAckKind kind) (toldAck m)) ⌝ }
 {
     let properties = m.properties;
     let nowhere = no_span();
-    let k = ack_number(kind);
     let head = plain_head(
         taken,
-        k,
+        Kind::Ack(kind),
         m.pkid as u64,
         m.reason as u64,
         nowhere,
@@ -170,7 +158,15 @@ fn subscribe_numbers(taken: usize, m: Subscribe) -> [u64; 42]
     let filters = m.filters;
     let properties = m.properties;
     let nowhere = no_span();
-    let head = plain_head(taken, 8, m.pkid as u64, 0, filters, nowhere, nowhere);
+    let head = plain_head(
+        taken,
+        Kind::Subscribe,
+        m.pkid as u64,
+        0,
+        filters,
+        nowhere,
+        nowhere,
+    );
     numbers(head, props_block(properties))
 }
 
@@ -180,8 +176,15 @@ fn reply_numbers(taken: usize, kind: ReplyKind, m: Reply) -> [u64; 42]
     let reasons = m.reasons;
     let properties = m.properties;
     let nowhere = no_span();
-    let k = reply_number(kind);
-    let head = plain_head(taken, k, m.pkid as u64, 0, nowhere, reasons, nowhere);
+    let head = plain_head(
+        taken,
+        Kind::Reply(kind),
+        m.pkid as u64,
+        0,
+        nowhere,
+        reasons,
+        nowhere,
+    );
     numbers(head, props_block(properties))
 }
 
@@ -191,12 +194,20 @@ fn unsubscribe_numbers(taken: usize, m: Unsubscribe) -> [u64; 42]
     let topics = m.topics;
     let properties = m.properties;
     let nowhere = no_span();
-    let head = plain_head(taken, 10, m.pkid as u64, 0, nowhere, nowhere, topics);
+    let head = plain_head(
+        taken,
+        Kind::Unsubscribe,
+        m.pkid as u64,
+        0,
+        nowhere,
+        nowhere,
+        topics,
+    );
     numbers(head, props_block(properties))
 }
 
-fn ping_numbers(taken: usize, kind: u64) -> [u64; 42]
-    ensures { λ r. ⌜ r ≡ packetNumbers taken (ping kind) ⌝ }
+fn ping_numbers(taken: usize, kind: Kind) -> [u64; 42]
+    ensures { λ r. ⌜ r ≡ packetNumbers taken (ping (numberOf kind)) ⌝ }
 {
     let nowhere = no_span();
     numbers(
@@ -214,8 +225,8 @@ fn packet_numbers(taken: usize, p: Packet) -> [u64; 42]
         Packet::Subscribe(m) => subscribe_numbers(taken, m),
         Packet::Reply(k, m) => reply_numbers(taken, k, m),
         Packet::Unsubscribe(m) => unsubscribe_numbers(taken, m),
-        Packet::PingReq => ping_numbers(taken, 12),
-        Packet::PingResp => ping_numbers(taken, 13),
+        Packet::PingReq => ping_numbers(taken, Kind::PingReq),
+        Packet::PingResp => ping_numbers(taken, Kind::PingResp),
     }
 }
 

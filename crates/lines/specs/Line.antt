@@ -6,7 +6,8 @@ use lib.ListN.{length}
 use lib.Seq.{sets}
 use Rattle.records.specs.Told.{toldError, rowOf, valuesOf}
 use Rattle.records.specs.declared.error.Error.{Error}
-use Rattle.names.specs.Names.{codesOf, nameOf}
+use Rattle.records.specs.Ascii.{codesOf}
+use Rattle.names.specs.Names.{nameOf}
 use Rattle.render.specs.Shown.{decimalOf}
 
 -- xs stand from `at` on, as far as there is room, no other byte was changed, and `next` is the index behind them

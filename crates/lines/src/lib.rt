@@ -10,7 +10,8 @@ ghost use mathlib.Core.List.{_++_};
 ghost use Prim.Native.Nat.{_+_, _≤_};
 ghost use lib.ListN.{length};
 ghost use Rattle.records.specs.Told.{toldValues};
-ghost use Rattle.names.specs.Names.{codesOf, nameOf};
+ghost use Rattle.records.specs.Ascii.{codesOf};
+ghost use Rattle.names.specs.Names.{nameOf};
 ghost use Rattle.render.specs.Shown.{decimalOf};
 ghost use Rattle.lines.specs.Line.{PutAt, valuesText, refusedStart, takenText, refusedLine, tooLongAt, tooLongLine};
 

@@ -1,9 +1,9 @@
 -- The name of each refusal, as ASCII bytes. Assumes nothing.
 use mathlib.Core.List.{List, [], _∷_, _++_}
 use Prim.Native.Nat.{ℕ, _-_}
-use Prim.Native.Char.{code}
-use Prim.Native.String.{String, [] as empty, _∷_ as _then_}
+use Prim.Native.String.{String}
 use lib.ListN.{length, getD, replicate}
+use Rattle.records.specs.Ascii.{codesOf}
 use Rattle.records.specs.Told.{toldError, rowOf}
 use Rattle.records.specs.declared.error.Error.{Error}
 use Rattle.names.specs.declared.text.Name.{Name}
@@ -35,11 +35,6 @@ names =
     "DuplicateProperty" ∷
     "SubscriptionIdZero" ∷
     []
-
--- a name is spelled in ASCII: the codes of its characters
-abbrev pub codesOf : String → List ℕ
-codesOf empty = []
-codesOf (c then s) = code c ∷ codesOf s
 
 -- 01, "When the desk says no": the name in the row of that number; none at 0, and none past the last row
 unfoldable pub nameAt : ℕ → List ℕ

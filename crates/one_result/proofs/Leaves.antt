@@ -30,10 +30,11 @@ use Rattle.wire.specs.declared.got.GotSpan.{GotSpan}
 use Rattle.string_puts.specs.declared.GotStringLength.{GotStringLength}
 use Rattle.tables.specs.declared.qos.GotQos.{GotQos}
 use Rattle.tables.specs.declared.property.PropertyForm.{PropertyForm}
-use Rattle.framing.specs.Told.{toldKind, toldHeader, toldChecked, frameAt}
+use Rattle.kinds.specs.Kinds.{toldKind}
+use Rattle.framing.specs.Told.{toldHeader, toldChecked, frameAt}
 use Rattle.framing.proofs.Laws as frame
 use Rattle.framing.specs.declared.check.Checked.{Checked}
-use Rattle.framing.specs.declared.header.Kind.{Kind}
+use Rattle.kinds.specs.declared.Kind.{Kind}
 use Rattle.property_value.specs.Told.{toldValue, formOf, toldProperty, OfForm, PropertyRead}
 use Rattle.property_value.specs.declared.Value.{Value}
 use Rattle.property_value.specs.declared.GotProperty.{GotProperty}

@@ -19,7 +19,8 @@ use Rattle.reading.proofs.Faults.{answered}
 use Rattle.reading.proofs.Places.{placed-says}
 use Rattle.records.specs.Answered.{told}
 use Rattle.records.specs.declared.answer.Read.{Read}
-use Rattle.framing.specs.Told.{kindAt, frameAt}
+use Rattle.framing.specs.Told.{frameAt}
+use Rattle.kinds.specs.Kinds.{kindRow}
 use Rattle.framing.proofs.Laws.{checked-within, checked-read, checked-refused}
 use Rattle.packet.specs.Told.{takenIn, Judged}
 
@@ -41,33 +42,33 @@ module _ (x end : ℕ) (b : List ℕ) where
     guard (isPing (z .2) || not (isEmpty b)) (nr 5 [])
     layoutFit asPlaces (z .2) x end b
 
-  body-with : (z : Known) → z ≡ kindAt x → bodyWith z ≡ bodyFit asPlaces x end b
+  body-with : (z : Known) → z ≡ kindRow (kindOf x) → bodyWith z ≡ bodyFit asPlaces x end b
   unfolding bodyFit
   body-with z e = ap bodyWith e
 
   -- 01, row 4
-  pub body-reserved : (k : ℕ) (o : Option Layout) → (k, true, o) ≡ kindAt x → bad (nr 4 (k ∷ [])) ≡ bodyFit asPlaces x end b
+  pub body-reserved : (k : ℕ) (o : Option Layout) → (k, true, o) ≡ kindRow (kindOf x) → bad (nr 4 (k ∷ [])) ≡ bodyFit asPlaces x end b
   body-reserved k o e = body-with (k, true, o) e
 
   -- a ping, whatever its bytes
-  pub body-ping : (k : ℕ) → (k, false, some aPing) ≡ kindAt x → got (ping k) ≡ bodyFit asPlaces x end b
+  pub body-ping : (k : ℕ) → (k, false, some aPing) ≡ kindRow (kindOf x) → got (ping k) ≡ bodyFit asPlaces x end b
   unfolding layoutFit fieldsFit mapFit isFit
   body-ping k e = let h : k ≡ kindOf x = ap (λ (z : Known). z .0) e in rw h (body-with (k, false, some aPing) e)
 
   module _ (h : isEmpty b ≡ false) where
     -- 01, row 6
-    pub body-foreign : (k : ℕ) → (k, false, none) ≡ kindAt x → bad (nr 6 (k ∷ [])) ≡ bodyFit asPlaces x end b
+    pub body-foreign : (k : ℕ) → (k, false, none) ≡ kindRow (kindOf x) → bad (nr 6 (k ∷ [])) ≡ bodyFit asPlaces x end b
     unfolding layoutFit
     body-foreign k e =
         let j : k ≡ kindOf x = ap (λ (z : Known). z .0) e in
         rw j (rw h at (body-with (k, false, none) e))
 
-    pub body-fields : (k : ℕ) (l : Layout) → (k, false, some l) ≡ kindAt x → fieldsFit asPlaces l x end b ≡ bodyFit asPlaces x end b
+    pub body-fields : (k : ℕ) (l : Layout) → (k, false, some l) ≡ kindRow (kindOf x) → fieldsFit asPlaces l x end b ≡ bodyFit asPlaces x end b
     unfolding layoutFit
     body-fields k l e = rw (h, or-true (isPing (some l))) at (body-with (k, false, some l) e)
 
 -- 01, row 5
-pub body-required : (x end k : ℕ) (o : Option Layout) → isPing o ≡ false → (k, false, o) ≡ kindAt x → bad (nr 5 []) ≡ bodyFit asPlaces x end []
+pub body-required : (x end k : ℕ) (o : Option Layout) → isPing o ≡ false → (k, false, o) ≡ kindRow (kindOf x) → bad (nr 5 []) ≡ bodyFit asPlaces x end []
 body-required x end k o h e = rw h at (body-with x end [] (k, false, o) e)
 
 -- bytes are left at an index

@@ -3,7 +3,7 @@ use ack::GotAck;
 use framing::check;
 use framing::check::Checked;
 use framing::header::FixedHeader;
-use framing::header::Kind;
+use kinds::Kind;
 use publish::GotPublish;
 use records::ack_record::AckKind;
 use records::answer::Limit;

@@ -8,7 +8,8 @@ use Rattle.writing.specs.Handed.{ping, belongs}
 use Rattle.writing.specs.Size.{restIs, cap}
 use Rattle.writing.specs.Spell.{short}
 use Rattle.writing.specs.Order.{judge, fieldsOf}
-use Rattle.writing.specs.Write.{firstOf, firstByte, frameBytes}
+use Rattle.grammar.specs.Tables.{firstOf}
+use Rattle.writing.specs.Write.{firstByte, frameBytes}
 use Rattle.writing.proofs.ForCode.{ping-frame}
 use Rattle.settle.specs.Found.{Found}
 

@@ -1,4 +1,5 @@
 // PingReq and PingResp, written, after `write` and `size` of ping.rs: two bytes each.
+use kinds;
 use records::answer::Limit;
 use records::answer::Sized;
 use records::answer::Written;
@@ -6,7 +7,8 @@ use row_tests::Tested;
 ghost use mathlib.Core.Path.{_≡_};
 ghost use Prim.Native.Nat.{ℕ};
 ghost use Rattle.writing.specs.Handed.{ping};
-ghost use Rattle.writing.specs.Write.{firstOf, sizeOf, Written as WrittenOf};
+ghost use Rattle.grammar.specs.Tables.{firstOf};
+ghost use Rattle.writing.specs.Write.{sizeOf, Written as WrittenOf};
 ghost use Rattle.records.specs.Told.{limitOf};
 ghost use Rattle.records.specs.Answered.{toldSized, toldWritten};
 
@@ -33,12 +35,12 @@ fn write_ping(first: u8, limit: Limit, out: &mut [u8]) -> Written
 pub fn write_ping_req(limit: Limit, out: &mut [u8]) -> Written
     ensures { λ r. ⌜ WrittenOf (limitOf limit) (ping 12) (now (out .entry)) (now (out .exit)) (toldWritten r) ⌝ }
 {
-    write_ping(0xC0, limit, &mut *out)
+    write_ping(kinds::first_byte(12), limit, &mut *out)
 }
 
 // A PingResp, likewise.
 pub fn write_ping_resp(limit: Limit, out: &mut [u8]) -> Written
     ensures { λ r. ⌜ WrittenOf (limitOf limit) (ping 13) (now (out .entry)) (now (out .exit)) (toldWritten r) ⌝ }
 {
-    write_ping(0xD0, limit, &mut *out)
+    write_ping(kinds::first_byte(13), limit, &mut *out)
 }

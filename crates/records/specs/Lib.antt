@@ -1,3 +1,4 @@
+pub mod Ascii
 pub mod Told
 pub mod Said
 pub mod Answered

@@ -8,7 +8,7 @@ use native.Mathlib.Numerals.{add-one}
 use lib.ListN.{length, drop, getD, drop-of-length-le}
 use lib.Seq.{sets, drop-cons}
 use Rattle.grammar.specs.Choice.{isEmpty}
-use Rattle.grammar.specs.Tables.{ackPlace, reasonsOf}
+use Rattle.grammar.specs.Tables.{ackPlace, reasonsOf, firstOf}
 use Rattle.reading.specs.Refusal.{nr}
 use Rattle.reading.specs.Reader.{Fit, got, bad, _>>_, guard}
 use Rattle.writing.specs.Lists.{flat}
@@ -16,7 +16,7 @@ use Rattle.writing.specs.Handed.{ReplyHanded, reply, ackGiven, blockBelongs, be
 use Rattle.writing.specs.Size.{most, withLength, propsSize, restIs, cap}
 use Rattle.writing.specs.Spell.{wide, short, propsBytes}
 use Rattle.writing.specs.Order.{judge, code, fieldTests, propsFields, fieldsOf}
-use Rattle.writing.specs.Write.{firstOf, firstByte, frameBytes}
+use Rattle.writing.specs.Write.{firstByte, frameBytes}
 use Rattle.writing.proofs.Judge.{judge-append}
 use Rattle.writing.proofs.Each.{flat-append}
 use Rattle.writing.proofs.ForCode.{reply-frame, cap-small, cap-length}

@@ -1,6 +1,9 @@
 // A SubAck or UnsubAck, written, after `write` and `size` of suback.rs and unsuback.rs: first every refusal and the size, touching nothing,
 // then the bytes. An empty reason list is refused, and a reason that its kind does not list.
 use byte_puts::put_bytes;
+use kinds;
+use kinds::Kind;
+use kinds::number_of;
 use number_puts::fixed;
 use records::answer::Limit;
 use records::answer::Sized;
@@ -16,14 +19,14 @@ ghost use mathlib.Core.List.{[], map};
 ghost use Prim.Native.Nat.{_≤_};
 ghost use lib.Seq.{sets};
 ghost use Rattle.grammar.specs.Choice.{isEmpty};
-ghost use Rattle.grammar.specs.Tables.{reasonsOf};
+ghost use Rattle.grammar.specs.Tables.{reasonsOf, firstOf};
 ghost use Rattle.reading.specs.Refusal.{nr};
 ghost use Rattle.reading.specs.Reader.{guard};
 ghost use Rattle.writing.specs.Lists.{flat};
 ghost use Rattle.writing.specs.Handed.{reply, belongs as belongsOf};
 ghost use Rattle.writing.specs.Size.{most, restIs, cap};
 ghost use Rattle.writing.specs.Order.{judge, code, fieldTests};
-ghost use Rattle.writing.specs.Write.{firstOf, frameBytes, sizeOf, Written as WrittenOf};
+ghost use Rattle.writing.specs.Write.{frameBytes, sizeOf, Written as WrittenOf};
 ghost use Rattle.records.specs.Told.{limitOf, toldReplyKind};
 ghost use Rattle.records.specs.Answered.{toldSized, toldWritten};
 ghost use Rattle.row_tests.specs.Tested.{toldTested};
@@ -145,10 +148,7 @@ fn test_asked(reasons: &[u8]) -> Tested
 fn first_byte(kind: ReplyKind) -> u8
     ensures { λ r. ⌜ r ≡ firstOf (toldReplyKind kind) ⌝ }
 {
-    match kind {
-        ReplyKind::SubAck => 0x90,
-        ReplyKind::UnsubAck => 0xB0,
-    }
+    kinds::first_byte(number_of(Kind::Reply(kind)))
 }
 
 // The frame.

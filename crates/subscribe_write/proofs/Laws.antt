@@ -1,5 +1,5 @@
 -- What is found of a Subscribe, and its bytes. Assumes nothing.
-use mathlib.Core.Path.{_≡_, sym, ap, _∙_}
+use mathlib.Core.Path.{_≡_, refl, sym, ap, _∙_}
 use mathlib.Core.Bool.{Bool, true, not, _&&_, and-true}
 use mathlib.Core.List.{List, [], _∷_, _++_, map, append-assoc, append-nil}
 use Prim.Native.Nat.{ℕ, _+_, _≤_, min}
@@ -7,7 +7,7 @@ use native.Mathlib.Omega.{arith}
 use lib.ListN.{length}
 use lib.Seq.{sets}
 use Rattle.grammar.specs.Choice.{isEmpty}
-use Rattle.grammar.specs.Tables.{number, pair, subscribePlace}
+use Rattle.grammar.specs.Tables.{number, pair, subscribePlace, firstOf}
 use Rattle.reading.specs.Refusal.{nr}
 use Rattle.reading.specs.Reader.{Fit, _>>_, guard}
 use Rattle.writing.specs.Lists.{flat}
@@ -17,7 +17,7 @@ use Rattle.writing.specs.Spell.{wide, short, rowBytes, propsBytes, filterBytes}
 use Rattle.writing.specs.Order.{judge, fieldTests, filterField, numberTests, orNone}
 use Rattle.writing.specs.Write.{firstByte, frameBytes}
 use Rattle.writing.proofs.ForCode.{judgeAll, subscribe-belongs, subscribe-tests, subscribe-sum, subscribe-frame, cap-small, cap-length}
-use Rattle.writing.proofs.Pins.{subscribe-props, first-bytes}
+use Rattle.writing.proofs.Pins.{subscribe-props}
 use Rattle.writing.proofs.Says.{length-wide}
 use Rattle.row_sizes.proofs.Laws.{cap-left, cap-both, cap-last}
 use Rattle.row_puts.specs.Put.{Put}
@@ -26,9 +26,9 @@ use Rattle.row_puts.proofs.Laws.{store-next, put-next, next-last, next-then}
 use Rattle.settle.specs.Found.{earlyOf, lateOf}
 use Rattle.settle.proofs.Laws.{early-fields}
 
-first-byte : (h : SubscribeHanded) → firstByte (subscribe h) ≡ 0x82
+first-byte : (h : SubscribeHanded) → firstByte (subscribe h) ≡ firstOf 8
 unfolding firstByte
-first-byte h = first-bytes .1
+first-byte h = refl
 
 module _ (h : SubscribeHanded) where
   -- ---- 20
@@ -77,7 +77,7 @@ module _ (h : SubscribeHanded) where
   length-small s = omega arith
 
   pub put-frame : (before out₁ out₂ out₃ out₄ : List ℕ) (len n first second third j : ℕ) → len ≡ cap (restIs (subscribe h))
-      → Put before 0 (0x82 ∷ short len) out₁ n → first ≡ min (0 + n) (length out₁)
+      → Put before 0 (firstOf 8 ∷ short len) out₁ n → first ≡ min (0 + n) (length out₁)
       → out₂ ≡ sets out₁ first (wide 2 (h .ident)) → second ≡ min (first + 2) (length out₂)
       → (propsSize subscribePlace (subscribeGiven h) ≤ most → Behind out₂ second block out₃ third)
       → Put out₃ third (flat filterBytes (filtersOf (h .filters) (h .options))) out₄ j
@@ -91,7 +91,7 @@ module _ (h : SubscribeHanded) where
       (next-last (p₃ (length-small s)) fs (p₄ .stores)))
       ∙ ap (sets before 0) (sym (spelt i e))
     where
-      spelt : len ≡ restIs (subscribe h) → belongs (subscribe h) ≡ true → frameBytes (subscribe h) ≡ (0x82 ∷ short len) ++ (wide 2 (h .ident) ++ (block ++ flat filterBytes (filters h)))
+      spelt : len ≡ restIs (subscribe h) → belongs (subscribe h) ≡ true → frameBytes (subscribe h) ≡ (firstOf 8 ∷ short len) ++ (wide 2 (h .ident) ++ (block ++ flat filterBytes (filters h)))
       spelt i e = subscribe-frame h e ∙ rw (i, append-assoc (short (propsSize subscribePlace (subscribeGiven h))) (propsBytes subscribePlace (subscribeGiven h)) (flat filterBytes (filters h)), first-byte h)
 
   pub put-rows : (before out₁ out₂ out₃ : List ℕ) (at len n first k second j third : ℕ) → len ≡ cap (propsSize subscribePlace (subscribeGiven h))

@@ -1,5 +1,6 @@
 // A Subscribe, written, after `write` and `size` of subscribe.rs: first every refusal and the size, touching nothing, then the bytes. An
 // empty filter list is refused (D6).
+use kinds;
 use length_puts::put_length;
 use number_puts::fixed;
 use records::answer::Limit;
@@ -166,7 +167,8 @@ fn put(
     ensures { λ r. ⌜ (belongsOf (subscribe (handed m (now (user .entry)) (now («user_lengths» .entry)) (now (filters .entry)) (now («filter_lengths» .entry)) (now (options .entry)))) ≡ true → restIs (subscribe (handed m (now (user .entry)) (now («user_lengths» .entry)) (now (filters .entry)) (now («filter_lengths» .entry)) (now (options .entry)))) ≤ most → now (out .exit) ≡ sets (now (out .entry)) 0 (frameBytes (subscribe (handed m (now (user .entry)) (now («user_lengths» .entry)) (now (filters .entry)) (now («filter_lengths» .entry)) (now (options .entry)))))) ⌝ }
 {
     let len = rest(m, user, user_lengths, filters, options);
-    let n = settle::put_header(&mut *out, 0x82, len);
+    let byte1 = kinds::first_byte(8);
+    let n = settle::put_header(&mut *out, byte1, len);
     let first = run::after(out.len(), 0, n);
     fixed::put_u16(&mut *out, first, m.pkid);
     let second = run::after(out.len(), first, 2);

@@ -4,7 +4,7 @@ use mathlib.Core.List.{List, [], _∷_, _++_}
 use Prim.Native.Nat.{ℕ, zero, suc, _+_}
 use lib.Dec.{eqb}
 use lib.ListN.{getD}
-use Rattle.names.specs.Names.{codesOf}
+use Rattle.records.specs.Ascii.{codesOf}
 use Rattle.render.specs.Shown.{decimalOf}
 
 -- docs/DESK.md: "the frames of each kind"

@@ -4,7 +4,7 @@ use mathlib.Core.Path.{_≡_, refl}
 use mathlib.Core.List.{List, [], _∷_, map}
 use Prim.Native.Nat.{ℕ}
 use Rattle.grammar.specs.Text.{rows}
-use Rattle.grammar.specs.Tables.{publishPlace, subscribePlace, ackPlace, unsubscribePlace, reasons, releaseReasons, subAckReasons, unsubAckReasons, kinds, reasonsOf}
+use Rattle.grammar.specs.Tables.{publishPlace, subscribePlace, ackPlace, unsubscribePlace, reasons, releaseReasons, subAckReasons, unsubAckReasons, kinds, reasonsOf, firsts, firstOf}
 use Rattle.grammar.specs.Record.{lastOf, allOf, publishProps, propsOf}
 use Rattle.reading.specs.Refusal.{within, over}
 use Rattle.reading.specs.Reader.{got, noneOf, neverOf, mapOf, onlyOf, onlyByOf, headOf, thenOf, sizedOf, isFit, mapFit, handFit, onlyFit, thenFit, exactFit, runFit, chainFit}
@@ -13,7 +13,7 @@ use Rattle.writing.specs.Handed.{publishGiven, subscribeGiven, ackGiven, unsubs
 use Rattle.writing.specs.Spell.{wide, spellStep, spell, short, string, numeral, value, propsBytes, counted, block}
 use Rattle.writing.specs.Size.{propsSize, restIs, sizeIs}
 use Rattle.writing.specs.Order.{judge, propsFields, fieldsOf, permit}
-use Rattle.writing.specs.Write.{firsts, firstOf, firstByte, bodyBytes, frameBytes, writeOf}
+use Rattle.writing.specs.Write.{firstByte, bodyBytes, frameBytes, writeOf}
 use Rattle.tidy.specs.Tidy.{handedOf, rewrite, tidyOf}
 
 abbrev pub tidied : List (List ℕ × List ℕ)

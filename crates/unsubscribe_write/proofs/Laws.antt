@@ -7,7 +7,7 @@ use native.Mathlib.Omega.{arith}
 use lib.ListN.{length}
 use lib.Seq.{sets}
 use Rattle.grammar.specs.Choice.{isEmpty}
-use Rattle.grammar.specs.Tables.{pair, unsubscribePlace}
+use Rattle.grammar.specs.Tables.{pair, unsubscribePlace, firstOf}
 use Rattle.reading.specs.Refusal.{nr}
 use Rattle.reading.specs.Reader.{Fit, _>>_, guard}
 use Rattle.writing.specs.Lists.{flat}
@@ -17,7 +17,7 @@ use Rattle.writing.specs.Spell.{wide, short, string, rowBytes, propsBytes}
 use Rattle.writing.specs.Order.{judge}
 use Rattle.writing.specs.Write.{firstByte, frameBytes}
 use Rattle.writing.proofs.ForCode.{judgeAll, unsubscribe-belongs, unsubscribe-tests, unsubscribe-sum, unsubscribe-frame, cap-small, cap-length}
-use Rattle.writing.proofs.Pins.{unsubscribe-props, first-bytes}
+use Rattle.writing.proofs.Pins.{unsubscribe-props}
 use Rattle.writing.proofs.Says.{length-wide}
 use Rattle.row_sizes.proofs.Laws.{cap-left, cap-both}
 use Rattle.row_puts.specs.Put.{Put}
@@ -26,9 +26,9 @@ use Rattle.row_puts.proofs.Laws.{store-next, put-next, next-last, next-then}
 use Rattle.settle.specs.Found.{earlyOf, lateOf}
 use Rattle.settle.proofs.Laws.{early-fields}
 
-first-byte : (h : UnsubscribeHanded) → firstByte (unsubscribe h) ≡ 0xA2
+first-byte : (h : UnsubscribeHanded) → firstByte (unsubscribe h) ≡ firstOf 10
 unfolding firstByte
-first-byte h = first-bytes .8
+first-byte h = refl
 
 -- L of the user properties alone
 block-length : (u : Run) (l : ℕ) → l ≡ cap (givenSize pair (pairs u)) → l ≡ cap (propsSize unsubscribePlace (unsubscribeGiven u))
@@ -76,7 +76,7 @@ module _ (h : UnsubscribeHanded) where
   length-small s = omega arith
 
   pub put-frame : (before out₁ out₂ out₃ out₄ : List ℕ) (len n first second third j : ℕ) → len ≡ cap (restIs (unsubscribe h))
-      → Put before 0 (0xA2 ∷ short len) out₁ n → first ≡ min (0 + n) (length out₁)
+      → Put before 0 (firstOf 10 ∷ short len) out₁ n → first ≡ min (0 + n) (length out₁)
       → out₂ ≡ sets out₁ first (wide 2 (h .ident)) → second ≡ min (first + 2) (length out₂)
       → (propsSize unsubscribePlace (unsubscribeGiven (h .user)) ≤ most → Behind out₂ second block out₃ third)
       → Put out₃ third (flat string (strings (h .topics))) out₄ j
@@ -89,7 +89,7 @@ module _ (h : UnsubscribeHanded) where
       (next-last (p₃ (length-small s)) ts (p₄ .stores)))
       ∙ ap (sets before 0) (sym (spelt i e))
     where
-      spelt : len ≡ restIs (unsubscribe h) → belongs (unsubscribe h) ≡ true → frameBytes (unsubscribe h) ≡ (0xA2 ∷ short len) ++ (wide 2 (h .ident) ++ (block ++ flat string (strings (h .topics))))
+      spelt : len ≡ restIs (unsubscribe h) → belongs (unsubscribe h) ≡ true → frameBytes (unsubscribe h) ≡ (firstOf 10 ∷ short len) ++ (wide 2 (h .ident) ++ (block ++ flat string (strings (h .topics))))
       spelt i e = unsubscribe-frame h e ∙ rw (i, append-assoc (short (propsSize unsubscribePlace (unsubscribeGiven (h .user)))) (propsBytes unsubscribePlace (unsubscribeGiven (h .user))) (flat string (strings (h .topics))), first-byte h)
 
 pub put-rows : (u : Run) (before out₁ out₂ : List ℕ) (at len n first j second : ℕ) → len ≡ cap (givenSize pair (pairs u))

@@ -1,5 +1,6 @@
 // An Unsubscribe, written, after `write` and `size` of unsubscribe.rs: first every refusal and the size, touching nothing, then the bytes.
 // An empty topic list is refused.
+use kinds;
 use length_puts::put_length;
 use number_puts::fixed;
 use records::answer::Limit;
@@ -125,7 +126,8 @@ fn put(
     ensures { λ r. ⌜ (belongsOf (unsubscribe (handed m (now (user .entry)) (now («user_lengths» .entry)) (now (topics .entry)) (now («topic_lengths» .entry)))) ≡ true → restIs (unsubscribe (handed m (now (user .entry)) (now («user_lengths» .entry)) (now (topics .entry)) (now («topic_lengths» .entry)))) ≤ most → now (out .exit) ≡ sets (now (out .entry)) 0 (frameBytes (unsubscribe (handed m (now (user .entry)) (now («user_lengths» .entry)) (now (topics .entry)) (now («topic_lengths» .entry)))))) ⌝ }
 {
     let len = rest(m, user, user_lengths, topics, topic_lengths);
-    let n = settle::put_header(&mut *out, 0xA2, len);
+    let byte1 = kinds::first_byte(10);
+    let n = settle::put_header(&mut *out, byte1, len);
     let first = run::after(out.len(), 0, n);
     fixed::put_u16(&mut *out, first, m.pkid);
     let second = run::after(out.len(), first, 2);

@@ -5,7 +5,7 @@ use mathlib.Core.List.{List, [], _∷_}
 use Prim.Native.Nat.{ℕ, _+_, _-_, _*_, _^_}
 use lib.Dec.{eqb, leb, ltb}
 use Rattle.records.specs.declared.answer.Limit.{Limit}
-use Rattle.names.specs.Names.{codesOf}
+use Rattle.records.specs.Ascii.{codesOf}
 use Rattle.words.specs.declared.Asked.{Asked}
 use Rattle.words.specs.declared.Parsed.{Parsed}
 

@@ -11,7 +11,7 @@ use borrow.Author.Tests.{lt-ltb, eqb-true}
 use Rattle.grammar.specs.Choice.{isIn, lookup, isEmpty}
 use Rattle.grammar.specs.Gram.{Only, both, sized, is}
 use Rattle.grammar.specs.Number.{byte, Big}
-use Rattle.grammar.specs.Tables.{publishPlace, subscribePlace, ackPlace, unsubscribePlace, Layout, aPublish, anAck, aSubscribe, aReply, anUnsubscribe, aPing, kinds, reasonsOf}
+use Rattle.grammar.specs.Tables.{publishPlace, subscribePlace, ackPlace, unsubscribePlace, Layout, aPublish, anAck, aSubscribe, aReply, anUnsubscribe, aPing, kinds, reasonsOf, firsts, firstOf}
 use Rattle.grammar.specs.Record.{kindOf, flagQos, mkPublish, mkAck, mkFilter, mkSubscribe, mkReply, mkUnsubscribe, mkPing}
 use Rattle.grammar.specs.Sentence.{Any, Block, publishOf, propsIf, notThree, notZero, Ident, publishGood, someOf, AckRest, plain, full, Packet, Fields, body, framed, Sentence}
 use Rattle.grammar.specs.Octets.{Each, nil, _&_, Octet, Octets}
@@ -21,7 +21,7 @@ use Rattle.writing.specs.Handed.{Lent, Run, PublishHanded, SubscribeHand
 use Rattle.writing.specs.Spell.{wide, propsBytes, counted, block}
 use Rattle.writing.specs.Size.{most, isPlain}
 use Rattle.writing.specs.Order.{Field, word, code, givenFields, propsFields, filterField, fieldsOf, numbersOf, named, asked}
-use Rattle.writing.specs.Write.{firsts, firstOf, firstByte, identBytes, bodyBytes, frameBytes}
+use Rattle.writing.specs.Write.{firstByte, identBytes, bodyBytes, frameBytes}
 use Rattle.writing.specs.Refuse.{InBlock, Belongs, Writable, Fine, Accepts}
 use Rattle.writing.specs.Meant.{said, PublishTyped, AckTyped, SubscribeTyped, ReplyTyped, UnsubscribeTyped, Typed}
 use Rattle.writing.proofs.Each.{each-head, each-tail, each-append, each-left, each-right, each-flat, each-piece, rows-of}

@@ -6,14 +6,14 @@ use mathlib.Core.Option.{Option}
 use mathlib.Core.List.{List, [], _∷_, _++_, map}
 use Prim.Native.Nat.{ℕ, _+_, _*_, _%_}
 use native.Mathlib.Omega.{arith}
-use Rattle.grammar.specs.Tables.{u8, u16, u32, number, text, bytes, pair, publishPlace, subscribePlace, ackPlace, unsubscribePlace, reasonsOf}
+use Rattle.grammar.specs.Tables.{u8, u16, u32, number, text, bytes, pair, publishPlace, subscribePlace, ackPlace, unsubscribePlace, reasonsOf, firsts, firstOf}
 use Rattle.reading.specs.Reader.{got}
 use Rattle.writing.specs.Lists.{flat}
 use Rattle.writing.specs.Handed.{Lent, Run, PublishHanded, SubscribeHanded, AckHanded, ReplyHanded, UnsubscribeHanded, publish, ack, subscribe, reply, unsubscribe, ping, one, lent, pairs, several, publishGiven, subscribeGiven, ackGiven, unsubscribeGiven, strings, filters}
 use Rattle.writing.specs.Spell.{wide, spellStep, spell, short, string, rowBytes, propsBytes, counted, block, filterBytes}
 use Rattle.writing.specs.Size.{isPlain}
 use Rattle.writing.specs.Order.{raw, word, code, propsFields, filterField, fieldsOf}
-use Rattle.writing.specs.Write.{firsts, firstOf, firstByte, identBytes, bodyBytes, frameBytes, writeOf}
+use Rattle.writing.specs.Write.{firstByte, identBytes, bodyBytes, frameBytes, writeOf}
 use Rattle.writing.proofs.Verdict.{written}
 
 -- ---- the order of properties, and each row

@@ -6,8 +6,7 @@ use mathlib.Core.List.{List, [], _∷_, _++_}
 use Prim.Native.Nat.{ℕ, _+_, _*_}
 use lib.Dec.{leb}
 use lib.ListN.{length, drop}
-use Rattle.grammar.specs.Choice.{lookup}
-use Rattle.grammar.specs.Tables.{publishPlace, subscribePlace, ackPlace, unsubscribePlace}
+use Rattle.grammar.specs.Tables.{publishPlace, subscribePlace, ackPlace, unsubscribePlace, firstOf}
 use Rattle.reading.specs.Refusal.{nr}
 use Rattle.reading.specs.Reader.{Fit, got, bad, _>>_, _>>=_, guard}
 use Rattle.writing.specs.Lists.{flat}
@@ -17,20 +16,6 @@ use Rattle.writing.specs.Size.{most, noIdent, isPlain, restIs, sizeIs}
 use Rattle.writing.specs.Order.{permit}
 
 -- ---- the first byte
-
--- 01, grammar: "first byte 0x82 for Subscribe, 0x40 for PubAck, `C0 00` and `D0 00` for pings"; 02, P1, and MQTT 3.5 to 3.7, 3.9 to 3.11: PubRec 50,
--- PubRel 62, PubComp 70, SubAck 90, Unsubscribe A2, UnsubAck B0
-unfoldable pub firsts : List (ℕ × ℕ)
-firsts = (4, 0x40) ∷ (5, 0x50) ∷ (6, 0x62) ∷ (7, 0x70) ∷ (8, 0x82) ∷ (9, 0x90) ∷ (10, 0xA2) ∷ (11, 0xB0) ∷ (12, 0xC0) ∷ (13, 0xD0) ∷ []
-
--- 0 for a kind that is not in the table
-abbrev firstOrZero : Option ℕ → ℕ
-firstOrZero none = 0
-firstOrZero (some x) = x
-
--- the first byte of a kind of the table
-unfoldable pub firstOf : ℕ → ℕ
-firstOf k = firstOrZero (lookup firsts k)
 
 -- 01, grammar, Publish: "flags are dup (8), QoS (6), retain (1)"
 unfoldable pub firstByte : Handed → ℕ

@@ -7,7 +7,7 @@ use Prim.Native.Nat.{ℕ, _+_, _<_}
 use native.Mathlib.Omega.{arith}
 use lib.ListN.{replicate, length-replicate}
 use Rattle.grammar.specs.Text.{rows}
-use Rattle.grammar.specs.Tables.{publishPlace, subscribePlace, ackPlace, unsubscribePlace, reasons, releaseReasons, subAckReasons, unsubAckReasons, kinds, reasonsOf}
+use Rattle.grammar.specs.Tables.{publishPlace, subscribePlace, ackPlace, unsubscribePlace, reasons, releaseReasons, subAckReasons, unsubAckReasons, kinds, reasonsOf, firsts, firstOf}
 use Rattle.grammar.specs.Octets.{Each, nil, _&_}
 use Rattle.reading.specs.Refusal.{nr}
 use Rattle.reading.specs.Reader.{Fit, got, bad, noneOf, neverOf, mapOf, onlyOf, thenOf, runFit, chainFit}
@@ -16,7 +16,7 @@ use Rattle.writing.specs.Handed.{Lent, Run, PublishHanded, Handed, publish, ack
 use Rattle.writing.specs.Spell.{wide, spellStep, spell, short, string, numeral, value, propsBytes, counted, block}
 use Rattle.writing.specs.Size.{most, propsSize, restIs, sizeIs}
 use Rattle.writing.specs.Order.{judge, raw, propsFields, fieldsOf, permit}
-use Rattle.writing.specs.Write.{firsts, firstOf, firstByte, bodyBytes, frameBytes, sizeOf, writeOf, outOf}
+use Rattle.writing.specs.Write.{firstByte, bodyBytes, frameBytes, sizeOf, writeOf, outOf}
 use Rattle.writing.specs.Refuse.{Writable, Refuses}
 use Rattle.writing.proofs.Belong.{belongs-when}
 use Rattle.writing.proofs.Verdict.{refused-when}

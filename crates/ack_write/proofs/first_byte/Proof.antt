@@ -1,7 +1,5 @@
--- `ack_write::first_byte` is right since the table says so of each kind. Assumes nothing.
-use mathlib.Core.Path.{sym}
+-- `ack_write::first_byte` is right since the table of kinds is asked. Assumes nothing.
 use borrow.Author.Needs.{needs}
-use Rattle.writing.proofs.Pins.{first-bytes}
 use Rattle.ack_write.proofs.first_byte.Statement.{statement}
 use Rattle.ack_write.proofs.first_byte.Tie as tie
 
@@ -9,11 +7,6 @@ pub first-byte-spec : {M : Type 1} → statement M
 first-byte-spec =
     tie.close
     (tie.spec
-    (λ c. search needs)
-    (λ c. search needs)
-    (λ c. search needs)
-    (λ c. search needs)
-    (λ c. rw (c .enum-told .given .1) (sym (first-bytes .0)))
-    (λ c. rw (c .enum-told2 .given .1) (sym (first-bytes .4)))
-    (λ c. rw (c .enum-told3 .given .1) (sym (first-bytes .5)))
-    (λ c. rw (c .enum-told4 .given .1) (sym (first-bytes .6))))
+    (λ c κs. search needs)
+    (λ c κs. search needs)
+    (λ c. rw (c .before .number-of .ensures) at (c .first-byte .ensures)))

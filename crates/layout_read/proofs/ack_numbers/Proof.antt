@@ -8,9 +8,6 @@ use Rattle.layout_read.proofs.ack_numbers.Tie as tie
 no-span-requires : tie.Need-no-span-requires
 no-span-requires c κs = search needs
 
-ack-number-requires : tie.Need-ack-number-requires
-ack-number-requires c κs = search needs
-
 cast-plain-head : tie.Need-cast-plain-head
 cast-plain-head c = search needs
 
@@ -28,14 +25,13 @@ numbers-requires c κs = search needs
 
 returns : tie.Need-returns
 unfolding packetNumbers
-returns c = c .numbers .ensures ∙ rw (c .before .props-block .ensures, c .before .before .plain-head .ensures, c .before .before .before .before .before .ack-number .ensures, c .before .before .before .before .before .before .no-span .ensures)
+returns c = c .numbers .ensures ∙ rw (c .before .props-block .ensures, c .before .before .plain-head .ensures, c .before .before .before .before .before .no-span .ensures)
 
 pub ack-numbers-spec : {M : Type 1} → statement M
 ack-numbers-spec =
     tie.close
     (tie.spec
     no-span-requires
-    ack-number-requires
     cast-plain-head
     cast-plain-head-2
     plain-head-requires

@@ -6,8 +6,11 @@ use Rattle.layout_read.proofs.plain_head.Tie as tie
 no-span-requires : tie.Need-no-span-requires
 no-span-requires c κs = search needs
 
+kind-number-requires : tie.Need-kind-number-requires
+kind-number-requires c κs = search needs
+
 returns : tie.Need-returns
-returns c = rw (c .no-span .ensures)
+returns c = rw (c .before .no-span .ensures, c .kind-number .ensures)
 
 pub plain-head-spec : {M : Type 1} → statement M
-plain-head-spec = tie.close (tie.spec no-span-requires returns)
+plain-head-spec = tie.close (tie.spec no-span-requires kind-number-requires returns)

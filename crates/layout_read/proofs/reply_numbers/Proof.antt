@@ -8,9 +8,6 @@ use Rattle.layout_read.proofs.reply_numbers.Tie as tie
 no-span-requires : tie.Need-no-span-requires
 no-span-requires c κs = search needs
 
-reply-number-requires : tie.Need-reply-number-requires
-reply-number-requires c κs = search needs
-
 cast-plain-head : tie.Need-cast-plain-head
 cast-plain-head c = search needs
 
@@ -25,14 +22,13 @@ numbers-requires c κs = search needs
 
 returns : tie.Need-returns
 unfolding packetNumbers
-returns c = c .numbers .ensures ∙ rw (c .before .props-block .ensures, c .before .before .plain-head .ensures, c .before .before .before .before .reply-number .ensures, c .before .before .before .before .before .no-span .ensures)
+returns c = c .numbers .ensures ∙ rw (c .before .props-block .ensures, c .before .before .plain-head .ensures, c .before .before .before .before .no-span .ensures)
 
 pub reply-numbers-spec : {M : Type 1} → statement M
 reply-numbers-spec =
     tie.close
     (tie.spec
     no-span-requires
-    reply-number-requires
     cast-plain-head
     plain-head-requires
     props-block-requires

@@ -9,6 +9,9 @@ use Rattle.subscribe_write.proofs.put.Tie as tie
 rest-requires : tie.Need-rest-requires
 rest-requires c κs = search needs
 
+first-byte-requires : tie.Need-first-byte-requires
+first-byte-requires c κs = search needs
+
 put-header-requires : tie.Need-put-header-requires
 put-header-requires c κs = search needs
 
@@ -32,9 +35,9 @@ same-length c = search needs
 
 returns : tie.Need-returns
 returns c =
-    let a = c .before .before .before .before .before .before .before .before .before .before .before .before .before .before .before .before .before .before .before .before .before .before .before .before .before .args in
-    put-frame (handed (a .m) (now (a .user)) (now (a .user-lengths)) (now (a .filters)) (now (a .filter-lengths)) (now (a .options))) (now (a .out)) _ _ _ _ _ _ _ _ _ _ (c .before .before .before .before .before .before .before .before .before .before .before .before .before .before .before .before .before .before .rest .ensures (now (a .filter-lengths)))
-    (c .before .before .before .before .before .before .before .before .before .before .before .before .before .before .before .before .put-header .ensures) (c .before .before .before .before .before .before .before .before .before .before .before .before .before .after .ensures)
+    let a = c .before .before .before .before .before .before .before .before .before .before .before .before .before .before .before .before .before .before .before .before .before .before .before .before .before .before .args in
+    put-frame (handed (a .m) (now (a .user)) (now (a .user-lengths)) (now (a .filters)) (now (a .filter-lengths)) (now (a .options))) (now (a .out)) _ _ _ _ _ _ _ _ _ _ (c .before .before .before .before .before .before .before .before .before .before .before .before .before .before .before .before .before .before .before .rest .ensures (now (a .filter-lengths)))
+    (rw (c .before .before .before .before .before .before .before .before .before .before .before .before .before .before .before .before .before .before .first-byte .ensures) at (c .before .before .before .before .before .before .before .before .before .before .before .before .before .before .before .before .put-header .ensures)) (c .before .before .before .before .before .before .before .before .before .before .before .before .before .after .ensures)
     (c .before .before .before .before .before .before .before .before .before .before .before .put-u16 .ensures) (c .before .before .before .before .before .before .before .before .after2 .ensures)
     (c .before .before .before .before .before .before .put-block .ensures (now (a .filters)) (now (a .filter-lengths)) (now (a .options)))
     (c .before .before .put-filters .ensures)
@@ -44,6 +47,7 @@ put-spec =
     tie.close
     (tie.spec
     rest-requires
+    first-byte-requires
     put-header-requires
     after-requires
     put-u16-requires

@@ -1,10 +1,10 @@
--- `framing::header::FixedHeader::packet_type` is right since the tables, looked up at each number of the match, say what its arm says. Assumes nothing.
+-- `kinds::kind_of` is right since the tables, looked up at each number of the match, say what its arm says. Assumes nothing.
 use mathlib.Core.Path.{sym}
 use mathlib.Core.Logic.{⊎-elim, inl, inr}
 use borrow.Author.Tests.{ne-eqb}
 use Rattle.grammar.specs.Tables.{kinds, reasonsOf}
-use Rattle.framing.proofs.header.FixedHeader.packet_type.Statement.{statement}
-use Rattle.framing.proofs.header.FixedHeader.packet_type.Tie as tie
+use Rattle.kinds.proofs.kind_of.Statement.{statement}
+use Rattle.kinds.proofs.kind_of.Tie as tie
 
 returns : tie.Need-returns
 unfolding kinds reasonsOf
@@ -78,8 +78,8 @@ returns-14 c =
       ne-eqb 3 _ (λ e. r .0 .0 .0 .0 .0 .0 .0 .0 .0 .0 .0 .1 (sym e)),
     )
 
-pub packet-type-spec : {M : Type 1} → statement M
-packet-type-spec =
+pub kind-of-spec : {M : Type 1} → statement M
+kind-of-spec =
     tie.close
     (tie.spec
     returns
