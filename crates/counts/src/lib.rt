@@ -1,23 +1,22 @@
-// What was read: a count for each refusal at its number, for each kind and for all refusals. `tallies` has the line that tells them.
+// What was read: a count for each refusal at its number, for each kind behind them, and for all refusals. `tallies` has the line that tells
+// them.
+use kinds::Kind;
+use kinds::number_of;
 use records::error::Error;
 use records::packet_record::Packet;
-use refusals::number as number_of;
 ghost use mathlib.Core.Path.{_≡_};
 ghost use lib.ListN.{replicate};
-ghost use Rattle.counts.specs.Count.{kindIndex, oneMore, refusedMore};
+ghost use Rattle.counts.specs.Count.{kindAt, kindIn, numberIn, oneMore, kindMore, refusedMore};
 
-// behind the numbers of refusals, those that are yet to come included
-pub const PUBLISH: usize = 58;
-
-pub const SUBSCRIBE: usize = 59;
-
-pub const PUBACK: usize = 60;
-
-pub const PINGREQ: usize = 61;
-
-pub const PINGRESP: usize = 62;
-
+// Where all refusals are counted: in the place of kind 15, which is reserved.
 pub const ALL: usize = 63;
+
+// Where a number's kind is counted: behind the numbers of refusals, those that are yet to come included.
+pub fn kind_at(num: u8) -> usize
+    ensures { λ r. ⌜ r ≡ kindAt num ⌝ }
+{
+    48 + num as usize
+}
 
 pub fn none() -> [u64; 64]
     ensures { λ r. ⌜ r ≡ replicate 64 0 ⌝ }
@@ -33,29 +32,38 @@ fn add(tally: &mut [u64], k: usize)
     }
 }
 
-fn kind_at(p: Packet) -> usize
-    ensures { λ r. ⌜ r ≡ kindIndex p ⌝ }
+fn kind_in(p: Packet) -> Kind
+    ensures { λ r. ⌜ r ≡ kindIn p ⌝ }
 {
     match p {
-        Packet::Publish(_) => PUBLISH,
-        Packet::Subscribe(_) => SUBSCRIBE,
-        Packet::PubAck(_) => PUBACK,
-        Packet::PingReq => PINGREQ,
-        Packet::PingResp => PINGRESP,
+        Packet::Publish(_) => Kind::Publish,
+        Packet::Ack(k, _) => Kind::Ack(k),
+        Packet::Subscribe(_) => Kind::Subscribe,
+        Packet::Reply(k, _) => Kind::Reply(k),
+        Packet::Unsubscribe(_) => Kind::Unsubscribe,
+        Packet::PingReq => Kind::PingReq,
+        Packet::PingResp => Kind::PingResp,
     }
+}
+
+// The number of a packet's kind.
+pub fn number_in(p: Packet) -> u8
+    ensures { λ r. ⌜ r ≡ numberIn p ⌝ }
+{
+    number_of(kind_in(p))
 }
 
 // A packet more.
 pub fn add_packet(tally: &mut [u64], p: Packet)
-    ensures { λ r. ⌜ now (tally .exit) ≡ oneMore (now (tally .entry)) (kindIndex p) ⌝ }
+    ensures { λ r. ⌜ now (tally .exit) ≡ kindMore (now (tally .entry)) p ⌝ }
 {
-    add(&mut *tally, kind_at(p));
+    add(&mut *tally, kind_at(number_in(p)));
 }
 
 // A refusal more.
 pub fn add_refused(tally: &mut [u64], e: Error)
     ensures { λ r. ⌜ now (tally .exit) ≡ refusedMore (now (tally .entry)) e ⌝ }
 {
-    add(&mut *tally, number_of(e) as usize);
+    add(&mut *tally, refusals::number(e) as usize);
     add(&mut *tally, ALL);
 }

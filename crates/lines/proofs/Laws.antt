@@ -47,3 +47,5 @@ name-short (Error.StringTooLong n) = omega arith
 name-short (Error.NoRoom n) = omega arith
 name-short Error.ListMismatch = omega arith
 name-short Error.NoItem = omega arith
+name-short (Error.DuplicateProperty k) = omega arith
+name-short Error.SubscriptionIdZero = omega arith

@@ -50,6 +50,13 @@ pub fn put_number(out: &mut [u8], at: u16, w: &[u8], n: u64) -> usize
     number(&mut *out, at as usize, w, n)
 }
 
+// Words alone, the same way.
+pub fn put_word(out: &mut [u8], at: u16, w: &[u8]) -> usize
+    ensures { λ r. ⌜ PutAt (now (out .entry)) at (now (w .entry)) (now (out .exit)) r ⌝ }
+{
+    word(&mut *out, at as usize, w)
+}
+
 fn one_value(out: &mut [u8], at: usize, n: usize) -> usize
     requires { ⌜ at ≤ 1024 ⌝ }
     ensures placed { λ r. ⌜ PutAt (now (out .entry)) at ((codesOf "(" ++ decimalOf n) ++ codesOf ")") (now (out .exit)) r ⌝ }

@@ -1,19 +1,20 @@
-// The line that tells what was read: the counts of `counts`.
-use byte_puts::put_bytes;
+// The line that tells what was read: the counts of `counts`, a loop over the numbers of the kinds and one over those of the refusals.
 use counts::ALL;
-use counts::PINGREQ;
-use counts::PINGRESP;
-use counts::PUBACK;
-use counts::PUBLISH;
-use counts::SUBSCRIBE;
+use counts::kind_at;
+use kinds::word_of;
 use lines::put_number;
+use lines::put_word;
+use records::span::Span;
+use wire::string;
 ghost use mathlib.Core.Path.{_≡_};
 ghost use mathlib.Core.List.{_++_};
 ghost use Prim.Native.Nat.{_+_, _≤_};
 ghost use lib.ListN.{length, getD};
+ghost use Rattle.records.specs.Ascii.{codesOf};
+ghost use Rattle.kinds.specs.Kinds.{wordOf};
 ghost use Rattle.render.specs.Shown.{decimalOf};
 ghost use Rattle.lines.specs.Line.{PutAt};
-ghost use Rattle.tallies.specs.Tally.{kindsText, pingsText, refusalText, refusalsTo, endText, summaryLine};
+ghost use Rattle.tallies.specs.Tally.{kindText, kindsTo, allText, refusalText, refusalsTo, endText, summaryLine};
 
 fn count(tally: &[u64], k: usize) -> u64
     ensures { λ r. ⌜ r ≡ getD (now (tally .entry)) k 0 ⌝ }
@@ -42,23 +43,52 @@ fn counted(out: &mut [u8], at: usize, w: &[u8], tally: &[u64], k: usize) -> usiz
     number(&mut *out, at, w, count(tally, k))
 }
 
-fn kinds(out: &mut [u8], tally: &[u64]) -> usize
-    ensures placed { λ r. ⌜ PutAt (now (out .entry)) 0 (kindsText (now (tally .entry))) (now (out .exit)) r ⌝ }
-    ensures short { λ r. ⌜ r ≤ 256 ⌝ }
+// A space, and the word for a number's kind.
+fn kind_word(out: &mut [u8], at: usize, num: u8) -> usize
+    requires { ⌜ at ≤ 4096 ⌝ }
+    ensures placed { λ r. ⌜ PutAt (now (out .entry)) at (codesOf " " ++ wordOf num) (now (out .exit)) r ⌝ }
+    ensures short { λ r. ⌜ r ≤ at + 12 ⌝ }
 {
-    let a = counted(&mut *out, 0, b"desk: publish=", tally, PUBLISH);
-    let b = counted(&mut *out, a, b" subscribe=", tally, SUBSCRIBE);
-    counted(&mut *out, b, b" puback=", tally, PUBACK)
+    let a = put_word(&mut *out, at as u16, b" ");
+    let shown = word_of(num);
+    let bytes = shown.bytes;
+    let text = Span {
+        start: 0,
+        len: shown.len,
+    };
+    put_word(&mut *out, a as u16, string::part(&bytes, text))
 }
 
-fn pings(out: &mut [u8], at: usize, tally: &[u64]) -> usize
-    requires { ⌜ at ≤ 1024 ⌝ }
-    ensures placed { λ r. ⌜ PutAt (now (out .entry)) at (pingsText (now (tally .entry))) (now (out .exit)) r ⌝ }
-    ensures short { λ r. ⌜ r ≤ at + 256 ⌝ }
+fn kind(out: &mut [u8], at: usize, tally: &[u64], num: u8) -> usize
+    requires { ⌜ at ≤ 4096 ⌝ }
+    ensures placed { λ r. ⌜ PutAt (now (out .entry)) at (kindText (now (tally .entry)) num) (now (out .exit)) r ⌝ }
+    ensures short { λ r. ⌜ r ≤ at + 64 ⌝ }
 {
-    let a = counted(&mut *out, at, b" pingreq=", tally, PINGREQ);
-    let b = counted(&mut *out, a, b" pingresp=", tally, PINGRESP);
-    counted(&mut *out, b, b" refused=", tally, ALL)
+    let a = kind_word(&mut *out, at, num);
+    counted(&mut *out, a, b"=", tally, kind_at(num))
+}
+
+// The kinds that are carried, Publish (3) to PingResp (13).
+fn kinds(out: &mut [u8], at: usize, tally: &[u64]) -> usize
+    requires { ⌜ at ≤ 256 ⌝ }
+    ensures placed { λ r. ⌜ PutAt (now (out .entry)) at (kindsTo (now (tally .entry)) 11) (now (out .exit)) r ⌝ }
+    ensures short { λ r. ⌜ r ≤ 1024 ⌝ }
+{
+    let mut next = at;
+    let mut n: u8 = 0;
+    while n < 11 {
+        next = kind(&mut *out, next, tally, n + 3);
+        n = n + 1;
+    }
+    next
+}
+
+fn all(out: &mut [u8], at: usize, tally: &[u64]) -> usize
+    requires { ⌜ at ≤ 1024 ⌝ }
+    ensures placed { λ r. ⌜ PutAt (now (out .entry)) at (allText (now (tally .entry))) (now (out .exit)) r ⌝ }
+    ensures short { λ r. ⌜ r ≤ at + 64 ⌝ }
+{
+    counted(&mut *out, at, b" refused=", tally, ALL)
 }
 
 fn pair(out: &mut [u8], at: usize, k: usize, n: u64) -> usize
@@ -74,13 +104,13 @@ fn pair(out: &mut [u8], at: usize, k: usize, n: u64) -> usize
 }
 
 fn refusals(out: &mut [u8], at: usize, tally: &[u64]) -> usize
-    requires { ⌜ at ≤ 1024 ⌝ }
-    ensures placed { λ r. ⌜ PutAt (now (out .entry)) at (refusalsTo (now (tally .entry)) 21) (now (out .exit)) r ⌝ }
+    requires { ⌜ at ≤ 2048 ⌝ }
+    ensures placed { λ r. ⌜ PutAt (now (out .entry)) at (refusalsTo (now (tally .entry)) 23) (now (out .exit)) r ⌝ }
     ensures short { λ r. ⌜ r ≤ at + 2048 ⌝ }
 {
     let mut next = at;
     let mut k: usize = 0;
-    while k < 21 {
+    while k < 23 {
         next = pair(&mut *out, next, k + 1, count(tally, k + 1));
         k = k + 1;
     }
@@ -92,16 +122,16 @@ fn end(out: &mut [u8], at: usize, bytes: u64) -> usize
     ensures { λ r. ⌜ PutAt (now (out .entry)) at (endText bytes) (now (out .exit)) r ⌝ }
 {
     let a = number(&mut *out, at, b" bytes=", bytes);
-    put_bytes(&mut *out, a, b"\n");
-    a + 1
+    put_word(&mut *out, a as u16, b"\n")
 }
 
 // The line of what was read; gives how many bytes it is.
 pub fn put_summary(out: &mut [u8], tally: &[u64], bytes: u64) -> usize
     ensures { λ r. ⌜ PutAt (now (out .entry)) 0 (summaryLine (now (tally .entry)) bytes) (now (out .exit)) r ⌝ }
 {
-    let a = kinds(&mut *out, tally);
-    let b = pings(&mut *out, a, tally);
-    let c = refusals(&mut *out, b, tally);
-    end(&mut *out, c, bytes)
+    let a = put_word(&mut *out, 0, b"desk:");
+    let b = kinds(&mut *out, a, tally);
+    let c = all(&mut *out, b, tally);
+    let d = refusals(&mut *out, c, tally);
+    end(&mut *out, d, bytes)
 }

@@ -1,5 +1,4 @@
 -- `tallies::end` is right since its parts are put one behind the other. Assumes nothing.
-use native.Mathlib.Omega.{arith}
 use borrow.Author.Needs.{needs}
 use Rattle.lines.proofs.Laws.{then}
 use Rattle.tallies.proofs.end.Statement.{statement}
@@ -11,20 +10,20 @@ slice-aggregate-number c = search needs
 number-requires : tie.Need-number-requires
 number-requires c κs = search needs
 
-slice-aggregate-put-bytes : tie.Need-slice-aggregate-put-bytes
-slice-aggregate-put-bytes c = search needs
+cast-put-word : tie.Need-cast-put-word
+cast-put-word c = search needs
 
-put-bytes-requires : tie.Need-put-bytes-requires
-put-bytes-requires c κs = search needs
+slice-aggregate-put-word : tie.Need-slice-aggregate-put-word
+slice-aggregate-put-word c = search needs
 
-add-result : tie.Need-add-result
-add-result c = search needs
+put-word-requires : tie.Need-put-word-requires
+put-word-requires c κs = search needs
 
 same-length : tie.Need-same-length
 same-length c = search needs
 
 returns : tie.Need-returns
-returns c = then (c .before .before .before .before .before .before .before .number .ensures .0) (record { stores = c .before .before .put-bytes .ensures; behind = omega arith })
+returns c = then (c .before .before .before .before .before .before .before .number .ensures .0) (c .before .before .put-word .ensures)
 
 pub end-spec : {M : Type 1} → statement M
 end-spec =
@@ -32,8 +31,8 @@ end-spec =
     (tie.spec
     slice-aggregate-number
     number-requires
-    slice-aggregate-put-bytes
-    put-bytes-requires
-    add-result
+    cast-put-word
+    slice-aggregate-put-word
+    put-word-requires
     same-length
     returns)

@@ -1,47 +1,63 @@
--- `tallies::kinds` is right since its parts are put one behind the other. Assumes nothing.
+-- `tallies::kinds` is right since each turn puts the next behind those before it. Assumes nothing.
+use mathlib.Core.Path.{_≡_, refl}
+use Prim.Native.Nat.{_+_, _-_, _*_, _≤_}
 use native.Mathlib.Omega.{arith}
 use borrow.Author.Needs.{needs}
-use Rattle.lines.proofs.Laws.{then}
+use lib.ListN.{length}
+use denote.Ref.{now}
+use Rattle.lines.specs.Line.{PutAt}
+use Rattle.tallies.specs.Tally.{kindsTo}
+use Rattle.tallies.proofs.Laws.{kinds-none, kinds-next}
 use Rattle.tallies.proofs.kinds.Statement.{statement}
 use Rattle.tallies.proofs.kinds.Tie as tie
 
-slice-aggregate-counted : tie.Need-slice-aggregate-counted
-slice-aggregate-counted c = search needs
+abbrev Inv-loop : tie.InvT-loop
+Inv-loop out₀ at tally next₀ n₀ out next n = (length out ≡ length out₀) × (n ≤ 11) × (next ≤ at + 64 * n) × PutAt out₀ at (kindsTo tally n) out next
 
-counted-requires : tie.Need-counted-requires
-counted-requires c κs = search needs
+abbrev μ-loop : tie.MeasureT-loop
+μ-loop out₀ at tally next₀ n₀ out next n = 11 - n
 
-slice-aggregate-counted-2 : tie.Need-slice-aggregate-counted-2
-slice-aggregate-counted-2 c = search needs
+loop-holds : tie.Need-loop-holds Inv-loop μ-loop
+loop-holds c = (refl, omega arith, omega arith, kinds-none _ _ _)
 
-counted-requires-2 : tie.Need-counted-requires-2
-counted-requires-2 c κs = search needs
+add-kind : tie.Need-add-kind Inv-loop μ-loop
+add-kind c = search needs
 
-slice-aggregate-counted-3 : tie.Need-slice-aggregate-counted-3
-slice-aggregate-counted-3 c = search needs
+kind-requires : tie.Need-kind-requires Inv-loop μ-loop
+kind-requires c κs = search needs
 
-counted-requires-3 : tie.Need-counted-requires-3
-counted-requires-3 c κs = search needs
+add-n : tie.Need-add-n Inv-loop μ-loop
+add-n c = search needs
 
-same-length : tie.Need-same-length
+loop-less : tie.Need-loop-less Inv-loop μ-loop
+loop-less c = search needs
+
+loop-again : tie.Need-loop-again Inv-loop μ-loop
+loop-again c =
+    let l = c .before .before .before .before .before .loop in
+    let p = c .before .before .kind .ensures in
+    (search needs, omega arith, omega (arith, p .1, l .inv .2), kinds-next (now (c .before .before .before .before .before .before .before .before .args .tally)) (l .n) (l .inv .3) (p .0))
+
+same-length : tie.Need-same-length Inv-loop μ-loop
 same-length c = search needs
 
-returns : tie.Need-returns
+returns : tie.Need-returns Inv-loop μ-loop
 returns c =
-    let x = c .before .before .before .before .before .before .before .before .before .before .before .before .counted .ensures in
-    let y = c .before .before .before .before .before .before .before .counted2 .ensures in
-    let z = c .before .before .counted3 .ensures in
-    (then (then (x .0) (y .0)) (z .0), omega (arith, x .1, y .1, z .1))
+    let l = c .before .loop in
+    let e : l .n ≡ 11 = omega arith in
+    (rw e at (l .inv .3), omega (arith, l .inv .2))
 
 pub kinds-spec : {M : Type 1} → statement M
 kinds-spec =
     tie.close
     (tie.spec
-    slice-aggregate-counted
-    counted-requires
-    slice-aggregate-counted-2
-    counted-requires-2
-    slice-aggregate-counted-3
-    counted-requires-3
+    Inv-loop
+    μ-loop
+    loop-holds
+    add-kind
+    kind-requires
+    add-n
+    loop-less
+    loop-again
     same-length
     returns)

@@ -4,11 +4,17 @@ use Rattle.lines.proofs.Laws.{then}
 use Rattle.tallies.proofs.put_summary.Statement.{statement}
 use Rattle.tallies.proofs.put_summary.Tie as tie
 
+slice-aggregate-put-word : tie.Need-slice-aggregate-put-word
+slice-aggregate-put-word c = search needs
+
+put-word-requires : tie.Need-put-word-requires
+put-word-requires c κs = search needs
+
 kinds-requires : tie.Need-kinds-requires
 kinds-requires c κs = search needs
 
-pings-requires : tie.Need-pings-requires
-pings-requires c κs = search needs
+all-requires : tie.Need-all-requires
+all-requires c κs = search needs
 
 refusals-requires : tie.Need-refusals-requires
 refusals-requires c κs = search needs
@@ -20,9 +26,17 @@ same-length : tie.Need-same-length
 same-length c = search needs
 
 returns : tie.Need-returns
-returns c = then (then (then (c .before .before .before .before .before .before .before .before .before .before .before .before .before .before .kinds .ensures .0) (c .before .before .before .before .before .before .before .before .before .before .pings .ensures .0)) (c .before .before .before .before .before .before .refusals .ensures .0)) (c .before .before .end .ensures)
+returns c = then (then (then (then (c .before .before .before .before .before .before .before .before .before .before .before .before .before .before .before .before .before .before .put-word .ensures) (c .before .before .before .before .before .before .before .before .before .before .before .before .before .before .kinds .ensures .0)) (c .before .before .before .before .before .before .before .before .before .before .all .ensures .0)) (c .before .before .before .before .before .before .refusals .ensures .0)) (c .before .before .end .ensures)
 
 pub put-summary-spec : {M : Type 1} → statement M
 put-summary-spec =
     tie.close
-    (tie.spec kinds-requires pings-requires refusals-requires end-requires same-length returns)
+    (tie.spec
+    slice-aggregate-put-word
+    put-word-requires
+    kinds-requires
+    all-requires
+    refusals-requires
+    end-requires
+    same-length
+    returns)

@@ -12,10 +12,10 @@ use Rattle.tallies.proofs.refusals.Statement.{statement}
 use Rattle.tallies.proofs.refusals.Tie as tie
 
 abbrev Inv-loop : tie.InvT-loop
-Inv-loop out₀ at tally next₀ k₀ out next k = (length out ≡ length out₀) × (k ≤ 21) × (next ≤ at + 64 * k) × PutAt out₀ at (refusalsTo tally k) out next
+Inv-loop out₀ at tally next₀ k₀ out next k = (length out ≡ length out₀) × (k ≤ 23) × (next ≤ at + 64 * k) × PutAt out₀ at (refusalsTo tally k) out next
 
 abbrev μ-loop : tie.MeasureT-loop
-μ-loop out₀ at tally next₀ k₀ out next k = 21 - k
+μ-loop out₀ at tally next₀ k₀ out next k = 23 - k
 
 loop-holds : tie.Need-loop-holds Inv-loop μ-loop
 loop-holds c = (refl, omega arith, omega arith, to-none _ _ _)
@@ -51,7 +51,7 @@ same-length c = search needs
 returns : tie.Need-returns Inv-loop μ-loop
 returns c =
     let l = c .before .loop in
-    let e : l .k ≡ 21 = omega arith in
+    let e : l .k ≡ 23 = omega arith in
     (rw e at (l .inv .3), omega (arith, l .inv .2))
 
 pub refusals-spec : {M : Type 1} → statement M
