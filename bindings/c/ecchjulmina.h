@@ -7,7 +7,7 @@
  *   written; it is aligned and never NULL, not even with length 0 (ECCH_NOTHING serves there);
  * - what is written overlaps nothing else that is handed over, and no other thread writes what is handed over while the call lasts.
  *
- * Numbers of refusals are those of 01, 1 to 21 (enum ecch_refusal); 0 is success. A flag that is handed over is false if it is 0, else
+ * Numbers of refusals are those of 01 and 02, 1 to 23 (enum ecch_refusal); 0 is success. A flag that is handed over is false if it is 0, else
  * true; one that is handed back is 0 or 1.
  *
  * Arrays that are filled: every number of the layout is set in every answer, 0 where it does not apply. Of a shorter array what fits is
@@ -23,18 +23,18 @@
 extern "C" {
 #endif
 
-/* The number of a refusal, and how many values it has. */
+/* The number of a refusal, and how many values it has. F is the length of the whole frame, its first byte and its length number included. */
 enum ecch_refusal {
     ECCH_OK = 0,
     ECCH_INSUFFICIENT_BYTES = 1,          /* value 1: how many bytes are lacking at least */
-    ECCH_MALFORMED_REMAINING_LENGTH = 2,
-    ECCH_PAYLOAD_SIZE_LIMIT_EXCEEDED = 3, /* value 1: R; value 2: the limit */
+    ECCH_MALFORMED_REMAINING_LENGTH = 2,  /* of a number in more bytes than it needs too */
+    ECCH_PAYLOAD_SIZE_LIMIT_EXCEEDED = 3, /* value 1: F; value 2: the limit */
     ECCH_INVALID_PACKET_TYPE = 4,         /* value 1: the kind */
     ECCH_PAYLOAD_REQUIRED = 5,
     ECCH_KIND_NOT_CARRIED = 6,            /* value 1: the kind */
     ECCH_MALFORMED_PACKET = 7,
     ECCH_BOUNDARY_CROSSED = 8,            /* value 1: the length */
-    ECCH_TOPIC_NOT_UTF8 = 9,
+    ECCH_TOPIC_NOT_UTF8 = 9,              /* of text with U+0000 too */
     ECCH_INVALID_PROPERTY_TYPE = 10,      /* value 1: the identifier */
     ECCH_INVALID_QOS = 11,                /* value 1: the QoS */
     ECCH_PACKET_ID_ZERO = 12,
@@ -46,11 +46,68 @@ enum ecch_refusal {
     ECCH_STRING_TOO_LONG = 18,            /* value 1: the length */
     ECCH_NO_ROOM = 19,                    /* value 1: the size */
     ECCH_LIST_MISMATCH = 20,
-    ECCH_NO_ITEM = 21
+    ECCH_NO_ITEM = 21,
+    ECCH_DUPLICATE_PROPERTY = 22,         /* value 1: the identifier */
+    ECCH_SUBSCRIPTION_ID_ZERO = 23
 };
 
 /* The kind of a packet that was read. */
-enum ecch_kind { ECCH_PUBLISH = 3, ECCH_PUBACK = 4, ECCH_SUBSCRIBE = 8, ECCH_PINGREQ = 12, ECCH_PINGRESP = 13 };
+enum ecch_kind {
+    ECCH_PUBLISH = 3,
+    ECCH_PUBACK = 4,
+    ECCH_PUBREC = 5,
+    ECCH_PUBREL = 6,
+    ECCH_PUBCOMP = 7,
+    ECCH_SUBSCRIBE = 8,
+    ECCH_SUBACK = 9,
+    ECCH_UNSUBSCRIBE = 10,
+    ECCH_UNSUBACK = 11,
+    ECCH_PINGREQ = 12,
+    ECCH_PINGRESP = 13
+};
+
+/* A reason is a byte. Those of a PubAck or PubRec: */
+enum ecch_puback_reason {
+    ECCH_PUBACK_SUCCESS = 0x00,
+    ECCH_PUBACK_NO_MATCHING_SUBSCRIBERS = 0x10,
+    ECCH_PUBACK_UNSPECIFIED_ERROR = 0x80,
+    ECCH_PUBACK_IMPLEMENTATION_SPECIFIC_ERROR = 0x83,
+    ECCH_PUBACK_NOT_AUTHORIZED = 0x87,
+    ECCH_PUBACK_TOPIC_NAME_INVALID = 0x90,
+    ECCH_PUBACK_PACKET_IDENTIFIER_IN_USE = 0x91,
+    ECCH_PUBACK_QUOTA_EXCEEDED = 0x97,
+    ECCH_PUBACK_PAYLOAD_FORMAT_INVALID = 0x99
+};
+
+/* Of a PubRel or PubComp: */
+enum ecch_pubrel_reason { ECCH_PUBREL_SUCCESS = 0x00, ECCH_PUBREL_PACKET_IDENTIFIER_NOT_FOUND = 0x92 };
+
+/* Of a SubAck; a success says the QoS that is granted: */
+enum ecch_suback_reason {
+    ECCH_SUBACK_SUCCESS_AT_MOST_ONCE = 0x00,
+    ECCH_SUBACK_SUCCESS_AT_LEAST_ONCE = 0x01,
+    ECCH_SUBACK_SUCCESS_EXACTLY_ONCE = 0x02,
+    ECCH_SUBACK_UNSPECIFIED = 0x80,
+    ECCH_SUBACK_IMPLEMENTATION_SPECIFIC = 0x83,
+    ECCH_SUBACK_NOT_AUTHORIZED = 0x87,
+    ECCH_SUBACK_TOPIC_FILTER_INVALID = 0x8F,
+    ECCH_SUBACK_PKID_IN_USE = 0x91,
+    ECCH_SUBACK_QUOTA_EXCEEDED = 0x97,
+    ECCH_SUBACK_SHARED_SUBSCRIPTIONS_NOT_SUPPORTED = 0x9E,
+    ECCH_SUBACK_SUBSCRIPTION_ID_NOT_SUPPORTED = 0xA1,
+    ECCH_SUBACK_WILDCARD_SUBSCRIPTIONS_NOT_SUPPORTED = 0xA2
+};
+
+/* Of an UnsubAck: */
+enum ecch_unsuback_reason {
+    ECCH_UNSUBACK_SUCCESS = 0x00,
+    ECCH_UNSUBACK_NO_SUBSCRIPTION_EXISTED = 0x11,
+    ECCH_UNSUBACK_UNSPECIFIED_ERROR = 0x80,
+    ECCH_UNSUBACK_IMPLEMENTATION_SPECIFIC_ERROR = 0x83,
+    ECCH_UNSUBACK_NOT_AUTHORIZED = 0x87,
+    ECCH_UNSUBACK_TOPIC_FILTER_INVALID = 0x8F,
+    ECCH_UNSUBACK_PACKET_IDENTIFIER_IN_USE = 0x91
+};
 
 /* `answer`, and the first numbers of `record`. */
 enum ecch_answer_layout {
@@ -66,11 +123,11 @@ enum ecch_record_layout {
     ECCH_TAKEN = 0, /* bytes of the stream used up, by a packet or by a refusal */
     /* 1 and 2: the values of a refusal, as above */
     ECCH_KIND = 3, /* enum ecch_kind; 0 if refused: then all that follows is 0 */
-    ECCH_PKID = 4, /* Publish (0 at QoS 0), PubAck, Subscribe */
+    ECCH_PKID = 4, /* every kind but the pings; Publish: 0 at QoS 0 */
     ECCH_DUP = 5,  /* Publish */
     ECCH_QOS = 6,
     ECCH_RETAIN = 7,
-    ECCH_REASON = 8, /* PubAck */
+    ECCH_REASON = 8, /* PubAck, PubRec, PubRel, PubComp; those of a SubAck or UnsubAck are items */
     ECCH_TOPIC_START = 9, /* Publish */
     ECCH_TOPIC_LEN = 10,
     ECCH_PAYLOAD_START = 11,
@@ -95,12 +152,16 @@ enum ecch_record_layout {
     ECCH_CONTENT = 30, /* Publish: content type */
     ECCH_CONTENT_START = 31,
     ECCH_CONTENT_LEN = 32,
-    ECCH_REASON_STRING = 33, /* PubAck: reason string */
+    ECCH_REASON_STRING = 33, /* PubAck, PubRec, PubRel, PubComp, SubAck, UnsubAck: reason string */
     ECCH_REASON_STRING_START = 34,
     ECCH_REASON_STRING_LEN = 35,
     ECCH_SUBSCRIPTION = 36, /* Subscribe: subscription identifier; those of a Publish are items */
     ECCH_SUBSCRIPTION_VALUE = 37,
-    ECCH_RECORD_LEN = 38
+    ECCH_REASONS_START = 38, /* SubAck, UnsubAck: where the reasons stand, a byte each (ecch_reason) */
+    ECCH_REASONS_LEN = 39,
+    ECCH_TOPICS_START = 40, /* Unsubscribe: where the topics stand (ecch_topic, ecch_next_topic) */
+    ECCH_TOPICS_LEN = 41,
+    ECCH_RECORD_LEN = 42
 };
 
 /* `item` of ecch_user_property: the places of key and value. */
@@ -119,6 +180,12 @@ enum ecch_filter_layout {
     ECCH_FORWARD_RULE = 5,
     ECCH_FILTER_LEN = 6
 };
+
+/* `item` of ecch_reason. */
+enum ecch_reason_layout { ECCH_REASON_ITEM = 0, ECCH_REASON_NUMBERS = 1 };
+
+/* `item` of ecch_topic: its place. */
+enum ecch_topic_layout { ECCH_TOPIC_ITEM_START = 0, ECCH_TOPIC_ITEM_LEN = 1, ECCH_TOPIC_NUMBERS = 2 };
 
 /* `item` of ecch_property. */
 enum ecch_property_layout {
@@ -144,29 +211,40 @@ enum ecch_next_filter_layout {
     ECCH_NEXT_FILTER_NUMBERS = 7
 };
 
+/* `item` of ecch_next_topic: the index after it, or the refusal's value; its place; 0 from 3 to 6. */
+enum ecch_next_topic_layout { ECCH_NEXT_TOPIC_NEXT = 0, ECCH_NEXT_TOPIC_START = 1, ECCH_NEXT_TOPIC_LEN = 2, ECCH_NEXT_TOPIC_NUMBERS = 7 };
+
 /* ---- reading. A stream is only read. */
 
-/* The packet at the start of the stream: 0, or the refusal's number (1 to 15). If `limited` is not 0, R may be `limit` at most, and 0 is
- * a limit. */
+/* The packet at the start of the stream: 0, or the refusal's number (1 to 15, 22, 23). If `limited` is not 0, F may be `limit` at most,
+ * and 0 is a limit. */
 uint32_t ecch_read(const uint8_t *stream, size_t stream_len, uint8_t limited, size_t limit, uint64_t *record, size_t record_len);
 
 /* How many bytes of a place lie in the stream: `len` if all of it does, and the part is then stream + start; else 0, and no part. */
 size_t ecch_part(const uint8_t *stream, size_t stream_len, size_t start, size_t len);
 
 /* The n-th item, n from 0, of the list at a place of the stream: 0, or 21 if there is none, or if the place is no well-formed block of
- * the kind (run of filters). `kind` is 3, 4 or 8; any other is 21. Each call goes over the list from its start: to have every item, walk
- * it with ecch_property or ecch_next_filter. */
+ * the kind (run of filters, reasons or topics). `kind` is 3 to 11; any other is 21. Each call goes over the list from its start: to have
+ * every item, walk it with ecch_property, ecch_next_filter or ecch_next_topic. */
 uint32_t ecch_user_property(const uint8_t *stream, size_t stream_len, uint8_t kind, size_t start, size_t len, size_t n, uint64_t *item, size_t item_len);
 uint32_t ecch_subscription_identifier(const uint8_t *stream, size_t stream_len, size_t start, size_t len, size_t n, uint64_t *item, size_t item_len);
 uint32_t ecch_filter(const uint8_t *stream, size_t stream_len, size_t start, size_t len, size_t n, uint64_t *item, size_t item_len);
+uint32_t ecch_topic(const uint8_t *stream, size_t stream_len, size_t start, size_t len, size_t n, uint64_t *item, size_t item_len);
 
-/* The property, or the filter, at index `at` of the stream, whose end is the end of its room: 0, or the refusal's number (property: 2, 7,
- * 8, 9, 10; filter: 7, 8, 9, 11, 14). `kind` is 3, 4 or 8; any other is 21. To walk what ecch_read found, hand over the stream up to the
- * end of the block (of the filters) and begin at its start; the item begins where the last one ended, and the last one ends at that end. */
+/* The same of a reason; `kind` is 9 or 11; any other is 21. The reasons that ecch_read found are the bytes of their place: to have every
+ * one, take them from the stream. */
+uint32_t ecch_reason(const uint8_t *stream, size_t stream_len, uint8_t kind, size_t start, size_t len, size_t n, uint64_t *item, size_t item_len);
+
+/* The property, the topic, or the filter, at index `at` of the stream, whose end is the end of its room: 0, or the refusal's number
+ * (property: 2, 7, 8, 9, 10, 23; topic: 7, 8, 9; filter: 7, 8, 9, 11, 14). `kind` is 3 to 11; any other is 21. To walk what ecch_read
+ * found, hand over the stream up to the end of the block (of the filters) and begin at its start; the item begins where the last one
+ * ended, and the last one ends at that end. Topics are walked as filters are. What stands before the index is not looked at, so that no
+ * property is 22 here. */
 uint32_t ecch_property(const uint8_t *stream, size_t stream_len, uint8_t kind, size_t at, uint64_t *item, size_t item_len);
 uint32_t ecch_next_filter(const uint8_t *stream, size_t stream_len, size_t at, uint64_t *item, size_t item_len);
+uint32_t ecch_next_topic(const uint8_t *stream, size_t stream_len, size_t at, uint64_t *item, size_t item_len);
 
-/* The name of a refusal, as in 01's table: how many bytes it has (24 at most), 0 for a number that is none of 1 to 21. Its bytes are set
+/* The name of a refusal, as in 01 and 02: how many bytes it has (24 at most), 0 for a number that is none of 1 to 23. Its bytes are set
  * from index 0 on, what fits of them; no 0 follows them. */
 size_t ecch_name(uint32_t number, uint8_t *name, size_t name_len);
 
@@ -176,8 +254,10 @@ size_t ecch_name(uint32_t number, uint8_t *name, size_t name_len);
  * `.._on` says whether the value behind it is present; `block` whether there is a property set at all. A value that is off is not looked
  * at, but bytes for one that is off, and anything for a set that is absent, are refusal 20. User properties are one run of bytes, and the
  * lengths of key, value, key, value and so on; filters are one run of bytes, their lengths, and an options byte each (bits 0-1 QoS, 2
- * no-local, 3 preserve-retain, 4-5 forward rule). A QoS above 2 is refused with 11, a reason that is none of the nine with 15, before all
- * else. */
+ * no-local, 3 preserve-retain, 4-5 forward rule); topics are one run of bytes, and their lengths; reasons are a byte each. A QoS above 2
+ * is refused with 11 before all else, by size too. A reason that its kind does not list is refused with 15, by write alone: after 20, and
+ * before the texts of a PubAck, PubRec, PubRel or PubComp, behind those of a SubAck or UnsubAck. A subscription identifier 0 is refused
+ * with 23, by write alone, where one that is too large is with 17. */
 
 uint32_t ecch_publish_size(
     uint8_t dup, uint8_t qos, uint8_t retain, uint16_t pkid,
@@ -243,6 +323,106 @@ uint32_t ecch_puback_write(
     uint8_t block,
     uint8_t reason_string_on, const uint8_t *reason_string, size_t reason_string_len,
     const uint8_t *user, size_t user_len, const size_t *user_lengths, size_t user_lengths_len,
+    uint8_t limited, size_t limit,
+    uint8_t *out, size_t out_len,
+    uint64_t *answer, size_t answer_len);
+
+uint32_t ecch_pubrec_size(
+    uint16_t pkid, uint8_t reason,
+    uint8_t block,
+    uint8_t reason_string_on, const uint8_t *reason_string, size_t reason_string_len,
+    const uint8_t *user, size_t user_len, const size_t *user_lengths, size_t user_lengths_len,
+    uint64_t *answer, size_t answer_len);
+
+uint32_t ecch_pubrec_write(
+    uint16_t pkid, uint8_t reason,
+    uint8_t block,
+    uint8_t reason_string_on, const uint8_t *reason_string, size_t reason_string_len,
+    const uint8_t *user, size_t user_len, const size_t *user_lengths, size_t user_lengths_len,
+    uint8_t limited, size_t limit,
+    uint8_t *out, size_t out_len,
+    uint64_t *answer, size_t answer_len);
+
+uint32_t ecch_pubrel_size(
+    uint16_t pkid, uint8_t reason,
+    uint8_t block,
+    uint8_t reason_string_on, const uint8_t *reason_string, size_t reason_string_len,
+    const uint8_t *user, size_t user_len, const size_t *user_lengths, size_t user_lengths_len,
+    uint64_t *answer, size_t answer_len);
+
+uint32_t ecch_pubrel_write(
+    uint16_t pkid, uint8_t reason,
+    uint8_t block,
+    uint8_t reason_string_on, const uint8_t *reason_string, size_t reason_string_len,
+    const uint8_t *user, size_t user_len, const size_t *user_lengths, size_t user_lengths_len,
+    uint8_t limited, size_t limit,
+    uint8_t *out, size_t out_len,
+    uint64_t *answer, size_t answer_len);
+
+uint32_t ecch_pubcomp_size(
+    uint16_t pkid, uint8_t reason,
+    uint8_t block,
+    uint8_t reason_string_on, const uint8_t *reason_string, size_t reason_string_len,
+    const uint8_t *user, size_t user_len, const size_t *user_lengths, size_t user_lengths_len,
+    uint64_t *answer, size_t answer_len);
+
+uint32_t ecch_pubcomp_write(
+    uint16_t pkid, uint8_t reason,
+    uint8_t block,
+    uint8_t reason_string_on, const uint8_t *reason_string, size_t reason_string_len,
+    const uint8_t *user, size_t user_len, const size_t *user_lengths, size_t user_lengths_len,
+    uint8_t limited, size_t limit,
+    uint8_t *out, size_t out_len,
+    uint64_t *answer, size_t answer_len);
+
+uint32_t ecch_suback_size(
+    uint16_t pkid,
+    uint8_t block,
+    uint8_t reason_string_on, const uint8_t *reason_string, size_t reason_string_len,
+    const uint8_t *user, size_t user_len, const size_t *user_lengths, size_t user_lengths_len,
+    const uint8_t *reasons, size_t reasons_len,
+    uint64_t *answer, size_t answer_len);
+
+uint32_t ecch_suback_write(
+    uint16_t pkid,
+    uint8_t block,
+    uint8_t reason_string_on, const uint8_t *reason_string, size_t reason_string_len,
+    const uint8_t *user, size_t user_len, const size_t *user_lengths, size_t user_lengths_len,
+    const uint8_t *reasons, size_t reasons_len,
+    uint8_t limited, size_t limit,
+    uint8_t *out, size_t out_len,
+    uint64_t *answer, size_t answer_len);
+
+uint32_t ecch_unsubscribe_size(
+    uint16_t pkid,
+    uint8_t block,
+    const uint8_t *user, size_t user_len, const size_t *user_lengths, size_t user_lengths_len,
+    const uint8_t *topics, size_t topics_len, const size_t *topic_lengths, size_t topic_lengths_len,
+    uint64_t *answer, size_t answer_len);
+
+uint32_t ecch_unsubscribe_write(
+    uint16_t pkid,
+    uint8_t block,
+    const uint8_t *user, size_t user_len, const size_t *user_lengths, size_t user_lengths_len,
+    const uint8_t *topics, size_t topics_len, const size_t *topic_lengths, size_t topic_lengths_len,
+    uint8_t limited, size_t limit,
+    uint8_t *out, size_t out_len,
+    uint64_t *answer, size_t answer_len);
+
+uint32_t ecch_unsuback_size(
+    uint16_t pkid,
+    uint8_t block,
+    uint8_t reason_string_on, const uint8_t *reason_string, size_t reason_string_len,
+    const uint8_t *user, size_t user_len, const size_t *user_lengths, size_t user_lengths_len,
+    const uint8_t *reasons, size_t reasons_len,
+    uint64_t *answer, size_t answer_len);
+
+uint32_t ecch_unsuback_write(
+    uint16_t pkid,
+    uint8_t block,
+    uint8_t reason_string_on, const uint8_t *reason_string, size_t reason_string_len,
+    const uint8_t *user, size_t user_len, const size_t *user_lengths, size_t user_lengths_len,
+    const uint8_t *reasons, size_t reasons_len,
     uint8_t limited, size_t limit,
     uint8_t *out, size_t out_len,
     uint64_t *answer, size_t answer_len);

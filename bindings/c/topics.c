@@ -1,10 +1,25 @@
-/* Reads a stream of MQTT 5 frames from the file named first, and prints topic and payload length of each Publish, and each refusal. */
+/* Reads a stream of MQTT 5 frames from the file named first, and prints topic and payload length of each Publish, the topics of each
+ * Unsubscribe, and each refusal. */
 #include <inttypes.h>
 #include <stdio.h>
 
 #include "ecchjulmina.h"
 
 static uint8_t stream[1 << 24];
+
+/* The topics of an Unsubscribe, walked: the frame is handed over up to their end. */
+static void left(size_t at, const uint64_t *r) {
+    const size_t end = r[ECCH_TOPICS_START] + r[ECCH_TOPICS_LEN];
+    uint64_t t[ECCH_NEXT_TOPIC_NUMBERS];
+    size_t i;
+    for (i = r[ECCH_TOPICS_START]; i < end; i = t[ECCH_NEXT_TOPIC_NEXT]) {
+        /* never so: ecch_read takes topics only if they fill their place */
+        if (ecch_next_topic(stream + at, end, i, t, ECCH_NEXT_TOPIC_NUMBERS)) return;
+        printf("%zu: leaves ", at);
+        fwrite(stream + at + t[ECCH_NEXT_TOPIC_START], 1, t[ECCH_NEXT_TOPIC_LEN], stdout);
+        printf("\n");
+    }
+}
 
 /* The frames one after the other; a refusal that takes its frame is passed over, one that takes nothing ends the stream. */
 static void topics(size_t len) {
@@ -19,6 +34,8 @@ static void topics(size_t len) {
             printf("%zu: ", at);
             fwrite(stream + at + r[ECCH_TOPIC_START], 1, r[ECCH_TOPIC_LEN], stdout);
             printf(" %" PRIu64 "\n", r[ECCH_PAYLOAD_LEN]);
+        } else if (r[ECCH_KIND] == ECCH_UNSUBSCRIBE) {
+            left(at, r);
         }
     }
 }

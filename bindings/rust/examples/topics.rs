@@ -1,4 +1,5 @@
-//! Reads a stream of MQTT 5 frames from the file named first, and prints topic and payload length of each Publish, and each refusal.
+//! Reads a stream of MQTT 5 frames from the file named first, and prints topic and payload length of each Publish, the topics of each
+//! Unsubscribe, and each refusal.
 use ecchjulmina::places::{read, Kind};
 
 fn main() {
@@ -9,6 +10,7 @@ fn main() {
         let (answer, taken) = read(&stream[at..], None);
         match answer {
             Ok(r) if r.kind() == Kind::Publish => println!("{at}: {} {}", String::from_utf8_lossy(r.topic()), r.payload().len()),
+            Ok(r) if r.kind() == Kind::Unsubscribe => r.topics().for_each(|t| println!("{at}: leaves {}", String::from_utf8_lossy(t))),
             Ok(_) => {}
             Err(e) => println!("{at}: {e}"),
         }

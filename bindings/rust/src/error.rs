@@ -1,14 +1,14 @@
-//! The refusals of 01, by the crate's names and shapes where the crate has the case.
+//! The refusals of 01 and 02, by the crate's names and shapes where the crate has the case.
 use std::fmt;
 
-/// Why a packet was not read or not written: 01's cases, in its order. The number of a case is `number`.
+/// Why a packet was not read or not written: 01's cases, in its order, then 02's. The number of a case is `number`.
 #[derive(Clone, Copy, Debug, PartialEq, Eq)]
 pub enum Error {
     /// 1: so many bytes are lacking at least
     InsufficientBytes(usize),
     /// 2
     MalformedRemainingLength,
-    /// 3
+    /// 3: the whole frame has so many bytes, and the limit is `max`
     PayloadSizeLimitExceeded { pkt_size: usize, max: u32 },
     /// 4
     InvalidPacketType(u8),
@@ -46,11 +46,15 @@ pub enum Error {
     ListMismatch,
     /// 21
     NoItem,
+    /// 22: the identifier of the property that came twice
+    DuplicateProperty(u8),
+    /// 23
+    SubscriptionIdZero,
 }
 
 impl Error {
     /// The case of a number that the library gave, with its values; None for 0, success. No value is cut: a limit that is exceeded is below
-    /// R, and a size that is too large is at most 268,435,460.
+    /// the frame's length, which like a size that is too large is at most 268,435,460.
     pub(crate) fn of(number: u32, one: u64, two: u64) -> Option<Error> {
         Some(match number {
             0 => return None,
@@ -74,12 +78,14 @@ impl Error {
             18 => Error::StringTooLong(one as usize),
             19 => Error::NoRoom(one as usize),
             20 => Error::ListMismatch,
+            22 => Error::DuplicateProperty(one as u8),
+            23 => Error::SubscriptionIdZero,
             // 21; there is no other, and a number that nobody knows must not pass for success
             _ => Error::NoItem,
         })
     }
 
-    /// The number in 01's table.
+    /// The number in 01's table; 22 and 23 are 02's, P9.
     pub fn number(&self) -> u8 {
         match self {
             Error::InsufficientBytes(_) => 1,
@@ -103,6 +109,8 @@ impl Error {
             Error::NoRoom(_) => 19,
             Error::ListMismatch => 20,
             Error::NoItem => 21,
+            Error::DuplicateProperty(_) => 22,
+            Error::SubscriptionIdZero => 23,
         }
     }
 }

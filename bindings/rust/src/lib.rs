@@ -60,37 +60,139 @@ impl RetainForwardRule {
     }
 }
 
+/// The reasons of a kind: the crate's names, and the byte of each in a packet.
 macro_rules! reasons {
-    ($($name:ident = $n:literal),* $(,)?) => {
-        /// Return code in puback
+    ($(#[$doc:meta])* $kind:ident { $($name:ident = $n:literal),* $(,)? }) => {
+        $(#[$doc])*
         #[derive(Debug, Clone, Copy, PartialEq, Eq)]
-        pub enum PubAckReason { $($name),* }
+        pub enum $kind { $($name),* }
 
-        impl PubAckReason {
+        impl $kind {
             /// The reason's byte in a packet.
             pub fn code(self) -> u8 {
-                match self { $(PubAckReason::$name => $n),* }
+                match self { $($kind::$name => $n),* }
             }
 
-            /// Of a number that the library gave, which is one of the nine.
-            pub(crate) fn of(n: u64) -> PubAckReason {
-                $(if n == $n { return PubAckReason::$name; })*
-                PubAckReason::UnspecifiedError
+            /// The reason of a byte, if the kind lists it.
+            pub fn from_code(n: u8) -> Option<$kind> {
+                Some(match n {
+                    $($n => $kind::$name,)*
+                    _ => return None,
+                })
             }
         }
     };
 }
 
 reasons! {
-    Success = 0x00,
-    NoMatchingSubscribers = 0x10,
-    UnspecifiedError = 0x80,
-    ImplementationSpecificError = 0x83,
-    NotAuthorized = 0x87,
-    TopicNameInvalid = 0x90,
-    PacketIdentifierInUse = 0x91,
-    QuotaExceeded = 0x97,
-    PayloadFormatInvalid = 0x99,
+    /// Return code in puback
+    PubAckReason {
+        Success = 0x00,
+        NoMatchingSubscribers = 0x10,
+        UnspecifiedError = 0x80,
+        ImplementationSpecificError = 0x83,
+        NotAuthorized = 0x87,
+        TopicNameInvalid = 0x90,
+        PacketIdentifierInUse = 0x91,
+        QuotaExceeded = 0x97,
+        PayloadFormatInvalid = 0x99,
+    }
+}
+
+reasons! {
+    /// Return code in PubRec
+    PubRecReason {
+        Success = 0x00,
+        NoMatchingSubscribers = 0x10,
+        UnspecifiedError = 0x80,
+        ImplementationSpecificError = 0x83,
+        NotAuthorized = 0x87,
+        TopicNameInvalid = 0x90,
+        PacketIdentifierInUse = 0x91,
+        QuotaExceeded = 0x97,
+        PayloadFormatInvalid = 0x99,
+    }
+}
+
+reasons! {
+    /// Return code in PubRel
+    PubRelReason {
+        Success = 0x00,
+        PacketIdentifierNotFound = 0x92,
+    }
+}
+
+reasons! {
+    /// Return code in PubComp
+    PubCompReason {
+        Success = 0x00,
+        PacketIdentifierNotFound = 0x92,
+    }
+}
+
+reasons! {
+    /// Return code in unsuback, one for each topic
+    UnsubAckReason {
+        Success = 0x00,
+        NoSubscriptionExisted = 0x11,
+        UnspecifiedError = 0x80,
+        ImplementationSpecificError = 0x83,
+        NotAuthorized = 0x87,
+        TopicFilterInvalid = 0x8F,
+        PacketIdentifierInUse = 0x91,
+    }
+}
+
+/// Return code in suback, one for each filter. `Failure` and `Unspecified` have the same byte, as in the crate; it is read as `Unspecified`.
+#[derive(Debug, Clone, Copy, PartialEq, Eq)]
+pub enum SubscribeReasonCode {
+    Success(QoS),
+    Failure,
+    Unspecified,
+    ImplementationSpecific,
+    NotAuthorized,
+    TopicFilterInvalid,
+    PkidInUse,
+    QuotaExceeded,
+    SharedSubscriptionsNotSupported,
+    SubscriptionIdNotSupported,
+    WildcardSubscriptionsNotSupported,
+}
+
+impl SubscribeReasonCode {
+    /// The reason's byte in a packet.
+    pub fn code(self) -> u8 {
+        match self {
+            SubscribeReasonCode::Success(qos) => qos as u8,
+            SubscribeReasonCode::Failure => 0x80,
+            SubscribeReasonCode::Unspecified => 0x80,
+            SubscribeReasonCode::ImplementationSpecific => 0x83,
+            SubscribeReasonCode::NotAuthorized => 0x87,
+            SubscribeReasonCode::TopicFilterInvalid => 0x8F,
+            SubscribeReasonCode::PkidInUse => 0x91,
+            SubscribeReasonCode::QuotaExceeded => 0x97,
+            SubscribeReasonCode::SharedSubscriptionsNotSupported => 0x9E,
+            SubscribeReasonCode::SubscriptionIdNotSupported => 0xA1,
+            SubscribeReasonCode::WildcardSubscriptionsNotSupported => 0xA2,
+        }
+    }
+
+    /// The reason of a byte, if a SubAck lists it.
+    pub fn from_code(n: u8) -> Option<SubscribeReasonCode> {
+        Some(match n {
+            0..=2 => SubscribeReasonCode::Success(QoS::of(n as u64)),
+            0x80 => SubscribeReasonCode::Unspecified,
+            0x83 => SubscribeReasonCode::ImplementationSpecific,
+            0x87 => SubscribeReasonCode::NotAuthorized,
+            0x8F => SubscribeReasonCode::TopicFilterInvalid,
+            0x91 => SubscribeReasonCode::PkidInUse,
+            0x97 => SubscribeReasonCode::QuotaExceeded,
+            0x9E => SubscribeReasonCode::SharedSubscriptionsNotSupported,
+            0xA1 => SubscribeReasonCode::SubscriptionIdNotSupported,
+            0xA2 => SubscribeReasonCode::WildcardSubscriptionsNotSupported,
+            _ => return None,
+        })
+    }
 }
 
 /// Publish packet
@@ -164,25 +266,111 @@ pub struct SubscribeProperties {
     pub user_properties: Vec<(String, String)>,
 }
 
-/// Acknowledgement to QoS1 publish
-#[derive(Debug, Clone, PartialEq, Eq)]
-pub struct PubAck {
-    pub pkid: u16,
-    pub reason: PubAckReason,
-    pub properties: Option<PubAckProperties>,
+/// A publish acknowledgement, its properties, and how it is read: the crate's shape for all four.
+macro_rules! acknowledgement {
+    ($(#[$doc:meta])* $kind:ident, $reason:ident, $properties:ident) => {
+        $(#[$doc])*
+        #[derive(Debug, Clone, PartialEq, Eq)]
+        pub struct $kind {
+            pub pkid: u16,
+            pub reason: $reason,
+            pub properties: Option<$properties>,
+        }
+
+        impl $kind {
+            pub fn new(pkid: u16, properties: Option<$properties>) -> Self {
+                Self { pkid, reason: $reason::Success, properties }
+            }
+
+            fn of(r: &Record) -> Result<Packet, Error> {
+                let reason = $reason::from_code(r.reason()).ok_or(Error::InvalidReason(r.reason()))?;
+                Ok(Packet::$kind($kind { pkid: r.pkid(), reason, properties: $properties::of(r)? }))
+            }
+        }
+
+        reasoned!($properties);
+    };
 }
 
-impl PubAck {
-    pub fn new(pkid: u16, properties: Option<PubAckProperties>) -> Self {
-        Self { pkid, reason: PubAckReason::Success, properties }
+/// The properties of an acknowledgement, and how they are read.
+macro_rules! reasoned {
+    ($properties:ident) => {
+        #[derive(Debug, Clone, PartialEq, Eq, Default)]
+        pub struct $properties {
+            pub reason_string: Option<String>,
+            pub user_properties: Vec<(String, String)>,
+        }
+
+        impl $properties {
+            fn of(r: &Record) -> Result<Option<$properties>, Error> {
+                if !r.has_properties() {
+                    return Ok(None);
+                }
+                let reason_string = r.reason_string().map(text).transpose()?;
+                Ok(Some($properties { reason_string, user_properties: pairs(r)? }))
+            }
+        }
+    };
+}
+
+acknowledgement! {
+    /// Acknowledgement to QoS1 publish
+    PubAck, PubAckReason, PubAckProperties
+}
+
+acknowledgement! {
+    /// Acknowledgement to QoS2 publish
+    PubRec, PubRecReason, PubRecProperties
+}
+
+acknowledgement! {
+    /// QoS2 Publish release, in response to PUBREC packet
+    PubRel, PubRelReason, PubRelProperties
+}
+
+acknowledgement! {
+    /// QoS2 Assured publish complete, in response to PUBREL packet
+    PubComp, PubCompReason, PubCompProperties
+}
+
+/// Acknowledgement to subscribe
+#[derive(Debug, Clone, PartialEq, Eq)]
+pub struct SubAck {
+    pub pkid: u16,
+    pub return_codes: Vec<SubscribeReasonCode>,
+    pub properties: Option<SubAckProperties>,
+}
+
+reasoned!(SubAckProperties);
+
+/// Unsubscribe packet
+#[derive(Debug, Clone, PartialEq, Eq, Default)]
+pub struct Unsubscribe {
+    pub pkid: u16,
+    pub filters: Vec<String>,
+    pub properties: Option<UnsubscribeProperties>,
+}
+
+impl Unsubscribe {
+    pub fn new<S: Into<String>>(filter: S, properties: Option<UnsubscribeProperties>) -> Self {
+        Self { filters: vec![filter.into()], properties, ..Default::default() }
     }
 }
 
 #[derive(Debug, Clone, PartialEq, Eq, Default)]
-pub struct PubAckProperties {
-    pub reason_string: Option<String>,
+pub struct UnsubscribeProperties {
     pub user_properties: Vec<(String, String)>,
 }
+
+/// Acknowledgement to unsubscribe
+#[derive(Debug, Clone, PartialEq, Eq)]
+pub struct UnsubAck {
+    pub pkid: u16,
+    pub reasons: Vec<UnsubAckReason>,
+    pub properties: Option<UnsubAckProperties>,
+}
+
+reasoned!(UnsubAckProperties);
 
 #[derive(Debug, Clone, PartialEq, Eq)]
 pub struct PingReq;
@@ -197,6 +385,12 @@ pub enum Packet {
     PingReq(PingReq),
     PingResp(PingResp),
     Subscribe(Subscribe),
+    SubAck(SubAck),
+    PubRec(PubRec),
+    PubRel(PubRel),
+    PubComp(PubComp),
+    Unsubscribe(Unsubscribe),
+    UnsubAck(UnsubAck),
 }
 
 /// A text that the library has tested; the test here costs little and needs no trust.
@@ -253,20 +447,34 @@ fn subscribe(r: &Record) -> Result<Packet, Error> {
     Ok(Packet::Subscribe(Subscribe { pkid: r.pkid(), filters: filters.collect::<Result<_, Error>>()?, properties }))
 }
 
-fn puback(r: &Record) -> Result<Packet, Error> {
+/// The reasons of a list, by the kind's table.
+fn reasons<T>(r: &Record, from_code: fn(u8) -> Option<T>) -> Result<Vec<T>, Error> {
+    r.reasons().iter().map(|n| from_code(*n).ok_or(Error::InvalidReason(*n))).collect()
+}
+
+fn suback(r: &Record) -> Result<Packet, Error> {
+    let return_codes = reasons(r, SubscribeReasonCode::from_code)?;
+    Ok(Packet::SubAck(SubAck { pkid: r.pkid(), return_codes, properties: SubAckProperties::of(r)? }))
+}
+
+fn unsubscribe(r: &Record) -> Result<Packet, Error> {
     let mut properties = None;
     if r.has_properties() {
-        properties = Some(PubAckProperties {
-            reason_string: r.reason_string().map(text).transpose()?,
-            user_properties: pairs(r)?,
-        });
+        properties = Some(UnsubscribeProperties { user_properties: pairs(r)? });
     }
-    Ok(Packet::PubAck(PubAck { pkid: r.pkid(), reason: r.reason(), properties }))
+    let filters = r.topics().map(text).collect::<Result<_, Error>>()?;
+    Ok(Packet::Unsubscribe(Unsubscribe { pkid: r.pkid(), filters, properties }))
+}
+
+fn unsuback(r: &Record) -> Result<Packet, Error> {
+    let reasons = reasons(r, UnsubAckReason::from_code)?;
+    Ok(Packet::UnsubAck(UnsubAck { pkid: r.pkid(), reasons, properties: UnsubAckProperties::of(r)? }))
 }
 
 impl Packet {
-    /// Reads a stream of bytes and extracts next MQTT packet out of it. A refusal within a whole frame takes the frame away too, as in
-    /// the crate; `InsufficientBytes`, a malformed length of the frame and one above the limit take nothing.
+    /// Reads a stream of bytes and extracts next MQTT packet out of it. `max_size` counts the whole frame, its first byte and its length
+    /// number included. A refusal within a whole frame takes the frame away too, as in the crate; `InsufficientBytes`, a malformed length of
+    /// the frame and a frame above the limit take nothing.
     pub fn read(stream: &mut BytesMut, max_size: Option<u32>) -> Result<Packet, Error> {
         let (answer, taken) = places::read(stream, max_size.map(|n| n as usize));
         let numbers = match answer {
@@ -280,8 +488,14 @@ impl Packet {
         let record = Record::again(&frame, numbers);
         match record.kind() {
             Kind::Publish => publish(&record, &frame),
-            Kind::PubAck => puback(&record),
+            Kind::PubAck => PubAck::of(&record),
+            Kind::PubRec => PubRec::of(&record),
+            Kind::PubRel => PubRel::of(&record),
+            Kind::PubComp => PubComp::of(&record),
             Kind::Subscribe => subscribe(&record),
+            Kind::SubAck => suback(&record),
+            Kind::Unsubscribe => unsubscribe(&record),
+            Kind::UnsubAck => unsuback(&record),
             Kind::PingReq => Ok(Packet::PingReq(PingReq)),
             Kind::PingResp => Ok(Packet::PingResp(PingResp)),
         }

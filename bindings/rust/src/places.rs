@@ -1,7 +1,7 @@
 //! The records as they are read: no copy, no allocation; strings are parts of the caller's stream, lists are walked in place.
-use crate::{sys::*, Error, PubAckReason, QoS, RetainForwardRule};
+use crate::{sys::*, Error, QoS, RetainForwardRule};
 
-/// What the stream begins with, or why it is refused; and how many bytes of the stream that takes. No slice below can panic: the number
+/// What the stream begins with, or why it is refused; and how many bytes of the stream that takes. `limit` counts the whole frame. No slice below can panic: the number
 /// taken and every place lie within the stream, which is proved of `ecch_read`.
 pub fn read(stream: &[u8], limit: Option<usize>) -> (Result<Record<'_>, Error>, usize) {
     let mut numbers = [0u64; ECCH_RECORD_LEN];
@@ -28,7 +28,13 @@ pub struct Record<'a> {
 pub enum Kind {
     Publish,
     PubAck,
+    PubRec,
+    PubRel,
+    PubComp,
     Subscribe,
+    SubAck,
+    Unsubscribe,
+    UnsubAck,
     PingReq,
     PingResp,
 }
@@ -38,7 +44,7 @@ pub enum Kind {
 pub enum Property<'a> {
     User(&'a [u8], &'a [u8]),
     SubscriptionIdentifier(u32),
-    /// any other, by its identifier; its last value is a method of the record
+    /// any other, by its identifier; its value is a method of the record
     Single(u8),
 }
 
@@ -84,7 +90,13 @@ impl<'a> Record<'a> {
         match self.at(ECCH_KIND) as usize {
             ECCH_PUBLISH => Kind::Publish,
             ECCH_PUBACK => Kind::PubAck,
+            ECCH_PUBREC => Kind::PubRec,
+            ECCH_PUBREL => Kind::PubRel,
+            ECCH_PUBCOMP => Kind::PubComp,
             ECCH_SUBSCRIBE => Kind::Subscribe,
+            ECCH_SUBACK => Kind::SubAck,
+            ECCH_UNSUBSCRIBE => Kind::Unsubscribe,
+            ECCH_UNSUBACK => Kind::UnsubAck,
             ECCH_PINGREQ => Kind::PingReq,
             _ => Kind::PingResp,
         }
@@ -106,8 +118,14 @@ impl<'a> Record<'a> {
         self.at(ECCH_RETAIN) != 0
     }
 
-    pub fn reason(&self) -> PubAckReason {
-        PubAckReason::of(self.at(ECCH_REASON))
+    /// The reason's byte of a PubAck, PubRec, PubRel or PubComp (`PubAckReason::from_code` and its like).
+    pub fn reason(&self) -> u8 {
+        self.at(ECCH_REASON) as u8
+    }
+
+    /// The reasons of a SubAck or UnsubAck, a byte each (`SubscribeReasonCode::from_code`, `UnsubAckReason::from_code`).
+    pub fn reasons(&self) -> &'a [u8] {
+        self.part(ECCH_REASONS_START)
     }
 
     pub fn topic(&self) -> &'a [u8] {
@@ -184,6 +202,12 @@ impl<'a> Record<'a> {
         let run = self.place(ECCH_FILTERS_START);
         Filters { run: &self.frame[..run.end], at: run.start }
     }
+
+    /// The topics of an Unsubscribe, in order.
+    pub fn topics(&self) -> Topics<'a> {
+        let run = self.place(ECCH_TOPICS_START);
+        Topics { run: &self.frame[..run.end], at: run.start }
+    }
 }
 
 /// Walks a block once, from its first property to its last.
@@ -248,6 +272,33 @@ impl<'a> Iterator for Filters<'a> {
             preserve_retain: n[ECCH_NEXT_FILTER_PRESERVE_RETAIN] != 0,
             retain_forward_rule: RetainForwardRule::of(n[ECCH_NEXT_FILTER_RULE]),
         })
+    }
+}
+
+/// Walks the topics once, from the first to the last.
+pub struct Topics<'a> {
+    run: &'a [u8],
+    at: usize,
+}
+
+impl<'a> Iterator for Topics<'a> {
+    type Item = &'a [u8];
+
+    fn next(&mut self) -> Option<&'a [u8]> {
+        if self.at >= self.run.len() {
+            return None;
+        }
+        let mut n = [0u64; ECCH_NEXT_TOPIC_NUMBERS];
+        // Sound: both pointers stand for whole Rust slices, which do not overlap since one is lent for writing.
+        let refused = unsafe { ecch_next_topic(self.run.as_ptr(), self.run.len(), self.at, n.as_mut_ptr(), n.len()) };
+        // Never so: `read` takes a run only if its topics fill it.
+        if refused != 0 {
+            self.at = self.run.len();
+            return None;
+        }
+        self.at = n[ECCH_NEXT_TOPIC_NEXT] as usize;
+        let start = n[ECCH_NEXT_TOPIC_START] as usize;
+        Some(&self.run[start..start + n[ECCH_NEXT_TOPIC_LEN] as usize])
     }
 }
 

@@ -14,7 +14,8 @@ macro_rules! layout {
 }
 
 layout! {
-    ECCH_PUBLISH = 3, ECCH_PUBACK = 4, ECCH_SUBSCRIBE = 8, ECCH_PINGREQ = 12, ECCH_PINGRESP = 13,
+    ECCH_PUBLISH = 3, ECCH_PUBACK = 4, ECCH_PUBREC = 5, ECCH_PUBREL = 6, ECCH_PUBCOMP = 7, ECCH_SUBSCRIBE = 8, ECCH_SUBACK = 9,
+    ECCH_UNSUBSCRIBE = 10, ECCH_UNSUBACK = 11, ECCH_PINGREQ = 12, ECCH_PINGRESP = 13,
     ECCH_SIZE = 0, ECCH_VALUE_1 = 1, ECCH_VALUE_2 = 2, ECCH_ANSWER_LEN = 3,
     ECCH_TAKEN = 0, ECCH_KIND = 3, ECCH_PKID = 4, ECCH_DUP = 5, ECCH_QOS = 6, ECCH_RETAIN = 7, ECCH_REASON = 8,
     ECCH_TOPIC_START = 9, ECCH_TOPIC_LEN = 10, ECCH_PAYLOAD_START = 11, ECCH_PAYLOAD_LEN = 12, ECCH_FILTERS_START = 13,
@@ -22,17 +23,20 @@ layout! {
     ECCH_EXPIRY = 20, ECCH_EXPIRY_VALUE = 21, ECCH_ALIAS = 22, ECCH_ALIAS_VALUE = 23, ECCH_RESPONSE = 24, ECCH_RESPONSE_START = 25,
     ECCH_RESPONSE_LEN = 26, ECCH_CORRELATION = 27, ECCH_CORRELATION_START = 28, ECCH_CORRELATION_LEN = 29, ECCH_CONTENT = 30,
     ECCH_CONTENT_START = 31, ECCH_CONTENT_LEN = 32, ECCH_REASON_STRING = 33, ECCH_REASON_STRING_START = 34,
-    ECCH_REASON_STRING_LEN = 35, ECCH_SUBSCRIPTION = 36, ECCH_SUBSCRIPTION_VALUE = 37, ECCH_RECORD_LEN = 38,
+    ECCH_REASON_STRING_LEN = 35, ECCH_SUBSCRIPTION = 36, ECCH_SUBSCRIPTION_VALUE = 37, ECCH_REASONS_START = 38, ECCH_REASONS_LEN = 39,
+    ECCH_TOPICS_START = 40, ECCH_TOPICS_LEN = 41, ECCH_RECORD_LEN = 42,
     ECCH_PROPERTY_NEXT = 0, ECCH_PROPERTY_IDENTIFIER = 1, ECCH_PROPERTY_NUMBER = 2, ECCH_PROPERTY_START = 3, ECCH_PROPERTY_LEN = 4,
     ECCH_PROPERTY_SECOND_START = 5, ECCH_PROPERTY_SECOND_LEN = 6, ECCH_PROPERTY_NUMBERS = 7,
     ECCH_NEXT_FILTER_NEXT = 0, ECCH_NEXT_FILTER_START = 1, ECCH_NEXT_FILTER_LEN = 2, ECCH_NEXT_FILTER_QOS = 3,
     ECCH_NEXT_FILTER_NO_LOCAL = 4, ECCH_NEXT_FILTER_PRESERVE_RETAIN = 5, ECCH_NEXT_FILTER_RULE = 6, ECCH_NEXT_FILTER_NUMBERS = 7,
+    ECCH_NEXT_TOPIC_NEXT = 0, ECCH_NEXT_TOPIC_START = 1, ECCH_NEXT_TOPIC_LEN = 2, ECCH_NEXT_TOPIC_NUMBERS = 7,
 }
 
 extern "C" {
     pub fn ecch_read(stream: *const u8, stream_len: usize, limited: u8, limit: usize, record: *mut u64, record_len: usize) -> u32;
     pub fn ecch_property(stream: *const u8, stream_len: usize, kind: u8, at: usize, item: *mut u64, item_len: usize) -> u32;
     pub fn ecch_next_filter(stream: *const u8, stream_len: usize, at: usize, item: *mut u64, item_len: usize) -> u32;
+    pub fn ecch_next_topic(stream: *const u8, stream_len: usize, at: usize, item: *mut u64, item_len: usize) -> u32;
     pub fn ecch_publish_size(
         dup: u8, qos: u8, retain: u8, pkid: u16,
         topic: *const u8, topic_len: usize,
@@ -97,6 +101,106 @@ extern "C" {
         block: u8,
         reason_string_on: u8, reason_string: *const u8, reason_string_len: usize,
         user: *const u8, user_len: usize, user_lengths: *const usize, user_lengths_len: usize,
+        limited: u8, limit: usize,
+        out: *mut u8, out_len: usize,
+        answer: *mut u64, answer_len: usize,
+    ) -> u32;
+    pub fn ecch_pubrec_size(
+        pkid: u16, reason: u8,
+        block: u8,
+        reason_string_on: u8, reason_string: *const u8, reason_string_len: usize,
+        user: *const u8, user_len: usize, user_lengths: *const usize, user_lengths_len: usize,
+        answer: *mut u64, answer_len: usize,
+    ) -> u32;
+    pub fn ecch_pubrec_write(
+        pkid: u16, reason: u8,
+        block: u8,
+        reason_string_on: u8, reason_string: *const u8, reason_string_len: usize,
+        user: *const u8, user_len: usize, user_lengths: *const usize, user_lengths_len: usize,
+        limited: u8, limit: usize,
+        out: *mut u8, out_len: usize,
+        answer: *mut u64, answer_len: usize,
+    ) -> u32;
+    pub fn ecch_pubrel_size(
+        pkid: u16, reason: u8,
+        block: u8,
+        reason_string_on: u8, reason_string: *const u8, reason_string_len: usize,
+        user: *const u8, user_len: usize, user_lengths: *const usize, user_lengths_len: usize,
+        answer: *mut u64, answer_len: usize,
+    ) -> u32;
+    pub fn ecch_pubrel_write(
+        pkid: u16, reason: u8,
+        block: u8,
+        reason_string_on: u8, reason_string: *const u8, reason_string_len: usize,
+        user: *const u8, user_len: usize, user_lengths: *const usize, user_lengths_len: usize,
+        limited: u8, limit: usize,
+        out: *mut u8, out_len: usize,
+        answer: *mut u64, answer_len: usize,
+    ) -> u32;
+    pub fn ecch_pubcomp_size(
+        pkid: u16, reason: u8,
+        block: u8,
+        reason_string_on: u8, reason_string: *const u8, reason_string_len: usize,
+        user: *const u8, user_len: usize, user_lengths: *const usize, user_lengths_len: usize,
+        answer: *mut u64, answer_len: usize,
+    ) -> u32;
+    pub fn ecch_pubcomp_write(
+        pkid: u16, reason: u8,
+        block: u8,
+        reason_string_on: u8, reason_string: *const u8, reason_string_len: usize,
+        user: *const u8, user_len: usize, user_lengths: *const usize, user_lengths_len: usize,
+        limited: u8, limit: usize,
+        out: *mut u8, out_len: usize,
+        answer: *mut u64, answer_len: usize,
+    ) -> u32;
+    pub fn ecch_suback_size(
+        pkid: u16,
+        block: u8,
+        reason_string_on: u8, reason_string: *const u8, reason_string_len: usize,
+        user: *const u8, user_len: usize, user_lengths: *const usize, user_lengths_len: usize,
+        reasons: *const u8, reasons_len: usize,
+        answer: *mut u64, answer_len: usize,
+    ) -> u32;
+    pub fn ecch_suback_write(
+        pkid: u16,
+        block: u8,
+        reason_string_on: u8, reason_string: *const u8, reason_string_len: usize,
+        user: *const u8, user_len: usize, user_lengths: *const usize, user_lengths_len: usize,
+        reasons: *const u8, reasons_len: usize,
+        limited: u8, limit: usize,
+        out: *mut u8, out_len: usize,
+        answer: *mut u64, answer_len: usize,
+    ) -> u32;
+    pub fn ecch_unsubscribe_size(
+        pkid: u16,
+        block: u8,
+        user: *const u8, user_len: usize, user_lengths: *const usize, user_lengths_len: usize,
+        topics: *const u8, topics_len: usize, topic_lengths: *const usize, topic_lengths_len: usize,
+        answer: *mut u64, answer_len: usize,
+    ) -> u32;
+    pub fn ecch_unsubscribe_write(
+        pkid: u16,
+        block: u8,
+        user: *const u8, user_len: usize, user_lengths: *const usize, user_lengths_len: usize,
+        topics: *const u8, topics_len: usize, topic_lengths: *const usize, topic_lengths_len: usize,
+        limited: u8, limit: usize,
+        out: *mut u8, out_len: usize,
+        answer: *mut u64, answer_len: usize,
+    ) -> u32;
+    pub fn ecch_unsuback_size(
+        pkid: u16,
+        block: u8,
+        reason_string_on: u8, reason_string: *const u8, reason_string_len: usize,
+        user: *const u8, user_len: usize, user_lengths: *const usize, user_lengths_len: usize,
+        reasons: *const u8, reasons_len: usize,
+        answer: *mut u64, answer_len: usize,
+    ) -> u32;
+    pub fn ecch_unsuback_write(
+        pkid: u16,
+        block: u8,
+        reason_string_on: u8, reason_string: *const u8, reason_string_len: usize,
+        user: *const u8, user_len: usize, user_lengths: *const usize, user_lengths_len: usize,
+        reasons: *const u8, reasons_len: usize,
         limited: u8, limit: usize,
         out: *mut u8, out_len: usize,
         answer: *mut u64, answer_len: usize,

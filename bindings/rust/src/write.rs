@@ -1,5 +1,5 @@
 //! Size and write, by the crate's signatures: what is written is appended to the buffer, and a refused write leaves it as it stood.
-use crate::{sys::*, Error, Packet, PingReq, PingResp, PubAck, Publish, Subscribe};
+use crate::{sys::*, Error, Packet, PingReq, PingResp, PubAck, PubComp, PubRec, PubRel, Publish, SubAck, Subscribe, UnsubAck, Unsubscribe};
 use bytes::BytesMut;
 
 /// Strings as the library takes them: all their bytes in one run, and the length of each.
@@ -194,30 +194,167 @@ impl Written for SubscribeParts<'_> {
     }
 }
 
-struct PubAckParts<'a> {
-    m: &'a PubAck,
+/// The properties of an acknowledgement, as the library takes them.
+struct Reasoned<'a> {
+    block: u8,
+    on: u8,
+    text: &'a [u8],
     user: Run,
 }
 
-impl<'a> PubAckParts<'a> {
-    fn of(m: &'a PubAck) -> Self {
-        PubAckParts { m, user: m.properties.as_ref().map(|p| Run::of_pairs(&p.user_properties)).unwrap_or_default() }
+macro_rules! reasoned {
+    ($properties:expr) => {{
+        let p = $properties.as_ref();
+        let text = p.and_then(|p| p.reason_string.as_deref()).map(str::as_bytes);
+        Reasoned {
+            block: p.is_some() as u8,
+            on: text.is_some() as u8,
+            text: text.unwrap_or(&[]),
+            user: p.map(|p| Run::of_pairs(&p.user_properties)).unwrap_or_default(),
+        }
+    }};
+}
+
+/// A publish acknowledgement, over the two functions of its kind.
+macro_rules! acknowledgement {
+    ($parts:ident, $kind:ident, $size:ident, $write:ident) => {
+        struct $parts<'a> {
+            m: &'a $kind,
+            p: Reasoned<'a>,
+        }
+
+        impl<'a> $parts<'a> {
+            fn of(m: &'a $kind) -> Self {
+                $parts { m, p: reasoned!(m.properties) }
+            }
+        }
+
+        impl Written for $parts<'_> {
+            fn size_of(&self) -> Result<usize, Error> {
+                let (m, p) = (self.m, &self.p);
+                let mut answer = [0u64; ECCH_ANSWER_LEN];
+                // Sound: every pointer and length is of one Rust slice, none is null, and what is written is borrowed by nobody else.
+                let number = unsafe {
+                    $size(
+                        m.pkid, m.reason.code(),
+                        p.block,
+                        p.on, p.text.as_ptr(), p.text.len(),
+                        p.user.bytes.as_ptr(), p.user.bytes.len(), p.user.lengths.as_ptr(), p.user.lengths.len(),
+                        answer.as_mut_ptr(), answer.len(),
+                    )
+                };
+                answered(number, answer)
+            }
+
+            fn write_to(&self, l: Limit, out: &mut [u8]) -> Result<usize, Error> {
+                let (m, p) = (self.m, &self.p);
+                let mut answer = [0u64; ECCH_ANSWER_LEN];
+                // Sound: as for the size.
+                let number = unsafe {
+                    $write(
+                        m.pkid, m.reason.code(),
+                        p.block,
+                        p.on, p.text.as_ptr(), p.text.len(),
+                        p.user.bytes.as_ptr(), p.user.bytes.len(), p.user.lengths.as_ptr(), p.user.lengths.len(),
+                        l.limited, l.limit, out.as_mut_ptr(), out.len(),
+                        answer.as_mut_ptr(), answer.len(),
+                    )
+                };
+                answered(number, answer)
+            }
+        }
+    };
+}
+
+acknowledgement!(PubAckParts, PubAck, ecch_puback_size, ecch_puback_write);
+acknowledgement!(PubRecParts, PubRec, ecch_pubrec_size, ecch_pubrec_write);
+acknowledgement!(PubRelParts, PubRel, ecch_pubrel_size, ecch_pubrel_write);
+acknowledgement!(PubCompParts, PubComp, ecch_pubcomp_size, ecch_pubcomp_write);
+
+/// A SubAck or UnsubAck, over the two functions of its kind; its reasons are in the field that is named.
+macro_rules! reply {
+    ($parts:ident, $kind:ident, $reasons:ident, $size:ident, $write:ident) => {
+        struct $parts<'a> {
+            m: &'a $kind,
+            p: Reasoned<'a>,
+            reasons: Vec<u8>,
+        }
+
+        impl<'a> $parts<'a> {
+            fn of(m: &'a $kind) -> Self {
+                $parts { m, p: reasoned!(m.properties), reasons: m.$reasons.iter().map(|r| r.code()).collect() }
+            }
+        }
+
+        impl Written for $parts<'_> {
+            fn size_of(&self) -> Result<usize, Error> {
+                let p = &self.p;
+                let mut answer = [0u64; ECCH_ANSWER_LEN];
+                // Sound: every pointer and length is of one Rust slice, none is null, and what is written is borrowed by nobody else.
+                let number = unsafe {
+                    $size(
+                        self.m.pkid,
+                        p.block,
+                        p.on, p.text.as_ptr(), p.text.len(),
+                        p.user.bytes.as_ptr(), p.user.bytes.len(), p.user.lengths.as_ptr(), p.user.lengths.len(),
+                        self.reasons.as_ptr(), self.reasons.len(),
+                        answer.as_mut_ptr(), answer.len(),
+                    )
+                };
+                answered(number, answer)
+            }
+
+            fn write_to(&self, l: Limit, out: &mut [u8]) -> Result<usize, Error> {
+                let p = &self.p;
+                let mut answer = [0u64; ECCH_ANSWER_LEN];
+                // Sound: as for the size.
+                let number = unsafe {
+                    $write(
+                        self.m.pkid,
+                        p.block,
+                        p.on, p.text.as_ptr(), p.text.len(),
+                        p.user.bytes.as_ptr(), p.user.bytes.len(), p.user.lengths.as_ptr(), p.user.lengths.len(),
+                        self.reasons.as_ptr(), self.reasons.len(),
+                        l.limited, l.limit, out.as_mut_ptr(), out.len(),
+                        answer.as_mut_ptr(), answer.len(),
+                    )
+                };
+                answered(number, answer)
+            }
+        }
+    };
+}
+
+reply!(SubAckParts, SubAck, return_codes, ecch_suback_size, ecch_suback_write);
+reply!(UnsubAckParts, UnsubAck, reasons, ecch_unsuback_size, ecch_unsuback_write);
+
+struct UnsubscribeParts<'a> {
+    m: &'a Unsubscribe,
+    user: Run,
+    topics: Run,
+}
+
+impl<'a> UnsubscribeParts<'a> {
+    fn of(m: &'a Unsubscribe) -> Self {
+        let mut topics = Run::default();
+        for f in &m.filters {
+            topics.push(f);
+        }
+        let user = m.properties.as_ref().map(|p| Run::of_pairs(&p.user_properties)).unwrap_or_default();
+        UnsubscribeParts { m, user, topics }
     }
 
     fn call(&self, writes: Option<(Limit, &mut [u8])>) -> Result<usize, Error> {
-        let p = self.m.properties.as_ref();
-        let text = p.and_then(|p| p.reason_string.as_deref()).map(str::as_bytes);
-        let t = text.unwrap_or(&[]);
         let mut answer = [0u64; ECCH_ANSWER_LEN];
         macro_rules! call {
             ($f:ident $(, $more:expr)*) => {
                 // Sound: every pointer and length is of one Rust slice, none is null, and what is written is borrowed by nobody else.
                 unsafe {
                     $f(
-                        self.m.pkid, self.m.reason.code(),
-                        p.is_some() as u8,
-                        text.is_some() as u8, t.as_ptr(), t.len(),
+                        self.m.pkid,
+                        self.m.properties.is_some() as u8,
                         self.user.bytes.as_ptr(), self.user.bytes.len(), self.user.lengths.as_ptr(), self.user.lengths.len(),
+                        self.topics.bytes.as_ptr(), self.topics.bytes.len(), self.topics.lengths.as_ptr(), self.topics.lengths.len(),
                         $($more,)*
                         answer.as_mut_ptr(), answer.len(),
                     )
@@ -225,14 +362,14 @@ impl<'a> PubAckParts<'a> {
             };
         }
         let number = match writes {
-            None => call!(ecch_puback_size),
-            Some((l, out)) => call!(ecch_puback_write, l.limited, l.limit, out.as_mut_ptr(), out.len()),
+            None => call!(ecch_unsubscribe_size),
+            Some((l, out)) => call!(ecch_unsubscribe_write, l.limited, l.limit, out.as_mut_ptr(), out.len()),
         };
         answered(number, answer)
     }
 }
 
-impl Written for PubAckParts<'_> {
+impl Written for UnsubscribeParts<'_> {
     fn size_of(&self) -> Result<usize, Error> {
         self.call(None)
     }
@@ -293,6 +430,12 @@ macro_rules! kind {
 kind!(Publish, PublishParts);
 kind!(Subscribe, SubscribeParts);
 kind!(PubAck, PubAckParts);
+kind!(PubRec, PubRecParts);
+kind!(PubRel, PubRelParts);
+kind!(PubComp, PubCompParts);
+kind!(SubAck, SubAckParts);
+kind!(Unsubscribe, UnsubscribeParts);
+kind!(UnsubAck, UnsubAckParts);
 
 impl PingReq {
     pub fn size(&self) -> usize {
@@ -321,6 +464,12 @@ impl Packet {
             Packet::Publish(m) => append(&PublishParts::of(m), write, max_size),
             Packet::Subscribe(m) => append(&SubscribeParts::of(m), write, max_size),
             Packet::PubAck(m) => append(&PubAckParts::of(m), write, max_size),
+            Packet::PubRec(m) => append(&PubRecParts::of(m), write, max_size),
+            Packet::PubRel(m) => append(&PubRelParts::of(m), write, max_size),
+            Packet::PubComp(m) => append(&PubCompParts::of(m), write, max_size),
+            Packet::SubAck(m) => append(&SubAckParts::of(m), write, max_size),
+            Packet::Unsubscribe(m) => append(&UnsubscribeParts::of(m), write, max_size),
+            Packet::UnsubAck(m) => append(&UnsubAckParts::of(m), write, max_size),
             Packet::PingReq(_) => append(&Ping { response: false }, write, max_size),
             Packet::PingResp(_) => append(&Ping { response: true }, write, max_size),
         }
@@ -332,6 +481,12 @@ impl Packet {
             Packet::Publish(m) => m.size(),
             Packet::Subscribe(m) => m.size(),
             Packet::PubAck(m) => m.size(),
+            Packet::PubRec(m) => m.size(),
+            Packet::PubRel(m) => m.size(),
+            Packet::PubComp(m) => m.size(),
+            Packet::SubAck(m) => m.size(),
+            Packet::Unsubscribe(m) => m.size(),
+            Packet::UnsubAck(m) => m.size(),
             Packet::PingReq(m) => m.size(),
             Packet::PingResp(m) => m.size(),
         }

@@ -28,17 +28,33 @@ fn signatures_are_the_crates() {
     let _: fn(&Publish, &mut BytesMut) -> Result<usize, Error> = Publish::write;
     let _: fn(&Subscribe, &mut BytesMut) -> Result<usize, Error> = Subscribe::write;
     let _: fn(&PubAck, &mut BytesMut) -> Result<usize, Error> = PubAck::write;
+    let _: fn(&PubRec, &mut BytesMut) -> Result<usize, Error> = PubRec::write;
+    let _: fn(&PubRel, &mut BytesMut) -> Result<usize, Error> = PubRel::write;
+    let _: fn(&PubComp, &mut BytesMut) -> Result<usize, Error> = PubComp::write;
+    let _: fn(&SubAck, &mut BytesMut) -> Result<usize, Error> = SubAck::write;
+    let _: fn(&Unsubscribe, &mut BytesMut) -> Result<usize, Error> = Unsubscribe::write;
+    let _: fn(&UnsubAck, &mut BytesMut) -> Result<usize, Error> = UnsubAck::write;
     let _: fn(&mut BytesMut) -> Result<usize, Error> = PingReq::write;
     let _: fn(&mut BytesMut) -> Result<usize, Error> = PingResp::write;
     let _: fn(&Publish) -> usize = Publish::size;
     let _: fn(&Subscribe) -> usize = Subscribe::size;
     let _: fn(&PubAck) -> usize = PubAck::size;
+    let _: fn(&PubRec) -> usize = PubRec::size;
+    let _: fn(&PubRel) -> usize = PubRel::size;
+    let _: fn(&PubComp) -> usize = PubComp::size;
+    let _: fn(&SubAck) -> usize = SubAck::size;
+    let _: fn(&Unsubscribe) -> usize = Unsubscribe::size;
+    let _: fn(&UnsubAck) -> usize = UnsubAck::size;
     let _: fn(&PingReq) -> usize = PingReq::size;
     let _: fn(&PingResp) -> usize = PingResp::size;
     let _: fn(String, QoS, Vec<u8>, Option<PublishProperties>) -> Publish = Publish::new;
     let _: fn(Filter, Option<SubscribeProperties>) -> Subscribe = Subscribe::new;
     let _: fn(Vec<Filter>, Option<SubscribeProperties>) -> Subscribe = Subscribe::new_many;
     let _: fn(u16, Option<PubAckProperties>) -> PubAck = PubAck::new;
+    let _: fn(u16, Option<PubRecProperties>) -> PubRec = PubRec::new;
+    let _: fn(u16, Option<PubRelProperties>) -> PubRel = PubRel::new;
+    let _: fn(u16, Option<PubCompProperties>) -> PubComp = PubComp::new;
+    let _: fn(String, Option<UnsubscribeProperties>) -> Unsubscribe = Unsubscribe::new;
     let _: fn(String, QoS) -> Filter = Filter::new;
     let _: fn(u8) -> Option<QoS> = qos;
 }
@@ -57,12 +73,21 @@ fn three_identifiers_are_read_right() {
 
 #[test]
 fn pieces_of_every_size_give_the_same_packets() {
-    let bytes: Vec<u8> = [THREE, &[0xC0, 0x00], &[0x40, 0x02, 0x00, 0x0A], THREE].concat();
-    let (whole, none) = read_all(&[&bytes], None);
-    assert_eq!((whole.len(), none), (4, None));
+    let bytes: Vec<u8> = [
+        THREE,
+        &[0xC0, 0x00],
+        &[0x40, 0x02, 0x00, 0x0A],
+        &[0x62, 0x03, 0x00, 0x0A, 0x92],
+        &[0x90, 0x05, 0x00, 0x01, 0x00, 0x02, 0x80],
+        &[0xA2, 0x06, 0x00, 0x01, 0x00, 0x00, 0x01, 0x61],
+        THREE,
+    ]
+    .concat();
+    let (whole, none) = read_all(&[&bytes], Some(13));
+    assert_eq!((whole.len(), none), (7, None));
     for n in 1..bytes.len() {
         let pieces: Vec<&[u8]> = bytes.chunks(n).collect();
-        assert_eq!(read_all(&pieces, None), (whole.clone(), None));
+        assert_eq!(read_all(&pieces, Some(13)), (whole.clone(), None));
     }
 }
 
@@ -76,19 +101,37 @@ fn topic_and_payload_share_the_streams_memory() {
 }
 
 #[test]
-fn refusals_take_what_01_says() {
+fn refusals_take_what_01_and_02_say() {
     let rows: &[(&[u8], Option<u32>, Error, usize)] = &[
         (&[], None, Error::InsufficientBytes(2), 0),
         (&[0x30, 0x80], None, Error::InsufficientBytes(1), 0),
         (&[0x30, 0x80, 0x80, 0x80, 0x80], None, Error::MalformedRemainingLength, 0),
+        (&[0x30, 0x80, 0x00], None, Error::MalformedRemainingLength, 0),
+        (&[0x30, 0x06, 0, 1, 0x61, 0x80, 0x00, 7], None, Error::MalformedRemainingLength, 8),
         (&[0xF0, 0x00, 9], None, Error::InvalidPacketType(15), 2),
         (&[0x30, 0x00], None, Error::PayloadRequired, 2),
         (&[0xE0, 0x01, 0x00], None, Error::KindNotCarried(14), 3),
-        (&[0x30, 0x08, 0, 3, 0x61, 0x2F, 0x62, 0, 0x68, 0x69], Some(7), Error::PayloadSizeLimitExceeded { pkt_size: 8, max: 7 }, 0),
+        (&[0x30, 0x08, 0, 3, 0x61, 0x2F, 0x62, 0, 0x68, 0x69], Some(9), Error::PayloadSizeLimitExceeded { pkt_size: 10, max: 9 }, 0),
+        (&[0x30, 0x08], Some(9), Error::PayloadSizeLimitExceeded { pkt_size: 10, max: 9 }, 0),
+        (&[0x30, 0x08], Some(10), Error::InsufficientBytes(8), 0),
         (&[0x32, 0x06, 0, 1, 0x61, 0, 0, 0], None, Error::PacketIdZero, 8),
         (&[0x82, 0x07, 0, 1, 0, 0, 1, 0x61, 0x33], None, Error::InvalidRetainForwardRule(3), 9),
         (&[0x82, 0x03, 0, 1, 0], None, Error::EmptySubscription, 5),
         (&[0x40, 0x03, 0, 1, 1], None, Error::InvalidReason(1), 5),
+        (&[0x50, 0x03, 0, 1, 0x92], None, Error::InvalidReason(0x92), 5),
+        (&[0x62, 0x03, 0, 1, 0x10], None, Error::InvalidReason(0x10), 5),
+        (&[0x70, 0x05, 0, 1, 0, 0, 0], None, Error::MalformedPacket, 7),
+        (&[0x90, 0x02, 0, 1], None, Error::MalformedPacket, 4),
+        (&[0x90, 0x03, 0, 1, 0], None, Error::EmptySubscription, 5),
+        (&[0x90, 0x05, 0, 1, 0, 2, 3], None, Error::InvalidReason(3), 7),
+        (&[0xA2, 0x03, 0, 1, 0], None, Error::EmptySubscription, 5),
+        (&[0xA2, 0x06, 0, 1, 0, 0, 1, 0], None, Error::TopicNotUtf8, 8),
+        (&[0xB0, 0x03, 0, 1, 0], None, Error::EmptySubscription, 5),
+        (&[0xB0, 0x04, 0, 1, 0, 1], None, Error::InvalidReason(1), 6),
+        (&[0x30, 0x08, 0, 1, 0x61, 4, 1, 0, 1, 0], None, Error::DuplicateProperty(1), 10),
+        (&[0x70, 0x0A, 0, 1, 0, 6, 31, 0, 0, 31, 0, 0], None, Error::DuplicateProperty(31), 12),
+        (&[0x30, 0x06, 0, 1, 0x61, 2, 11, 0], None, Error::SubscriptionIdZero, 8),
+        (&[0x82, 0x09, 0, 1, 2, 11, 0, 0, 1, 0x61, 0], None, Error::SubscriptionIdZero, 11),
     ];
     for (bytes, max, error, taken) in rows {
         let mut stream = BytesMut::from(*bytes);
@@ -133,7 +176,42 @@ fn records() -> Vec<Packet> {
         Packet::PubAck(PubAck {
             pkid: 11,
             reason: PubAckReason::QuotaExceeded,
-            properties: Some(PubAckProperties { reason_string: Some("full".into()), user_properties: users }),
+            properties: Some(PubAckProperties { reason_string: Some("full".into()), user_properties: users.clone() }),
+        }),
+        Packet::PubRec(PubRec::new(12, None)),
+        Packet::PubRec(PubRec {
+            pkid: 13,
+            reason: PubRecReason::NoMatchingSubscribers,
+            properties: Some(PubRecProperties { reason_string: None, user_properties: users.clone() }),
+        }),
+        Packet::PubRel(PubRel::new(12, None)),
+        Packet::PubRel(PubRel {
+            pkid: 14,
+            reason: PubRelReason::PacketIdentifierNotFound,
+            properties: Some(PubRelProperties { reason_string: Some("gone".into()), user_properties: vec![] }),
+        }),
+        Packet::PubComp(PubComp::new(0, None)),
+        Packet::PubComp(PubComp { reason: PubCompReason::PacketIdentifierNotFound, ..PubComp::new(15, None) }),
+        Packet::SubAck(SubAck {
+            pkid: 1,
+            return_codes: vec![
+                SubscribeReasonCode::Success(QoS::ExactlyOnce),
+                SubscribeReasonCode::Unspecified,
+                SubscribeReasonCode::WildcardSubscriptionsNotSupported,
+            ],
+            properties: Some(SubAckProperties { reason_string: Some("in part".into()), user_properties: users.clone() }),
+        }),
+        Packet::Unsubscribe(Unsubscribe { pkid: 2, ..Unsubscribe::new("line/#", None) }),
+        Packet::Unsubscribe(Unsubscribe {
+            pkid: 3,
+            filters: vec!["+/x".into(), "".into(), "é".into()],
+            properties: Some(UnsubscribeProperties { user_properties: users.clone() }),
+        }),
+        Packet::UnsubAck(UnsubAck { pkid: 2, reasons: vec![UnsubAckReason::Success], properties: None }),
+        Packet::UnsubAck(UnsubAck {
+            pkid: 3,
+            reasons: vec![UnsubAckReason::NoSubscriptionExisted, UnsubAckReason::TopicFilterInvalid, UnsubAckReason::Success],
+            properties: Some(UnsubAckProperties { reason_string: Some("in part".into()), user_properties: users }),
         }),
         Packet::PingReq(PingReq),
         Packet::PingResp(PingResp),
@@ -157,16 +235,65 @@ fn what_is_written_is_appended_and_reads_back() {
     assert!(stream.is_empty());
 }
 
+/// The bytes of each new kind, as MQTT 3.5 to 3.7 and 3.9 to 3.11 show them.
+#[test]
+fn what_is_written_is_the_standards() {
+    let rows: Vec<(Packet, &[u8])> = vec![
+        (Packet::PubRec(PubRec::new(10, None)), &[0x50, 2, 0, 10]),
+        (Packet::PubRec(PubRec { reason: PubRecReason::QuotaExceeded, ..PubRec::new(10, None) }), &[0x50, 4, 0, 10, 0x97, 0]),
+        (Packet::PubRel(PubRel::new(10, None)), &[0x62, 2, 0, 10]),
+        (Packet::PubComp(PubComp { reason: PubCompReason::PacketIdentifierNotFound, ..PubComp::new(10, None) }), &[0x70, 4, 0, 10, 0x92, 0]),
+        (
+            Packet::SubAck(SubAck { pkid: 10, return_codes: vec![SubscribeReasonCode::Failure, SubscribeReasonCode::PkidInUse], properties: None }),
+            &[0x90, 5, 0, 10, 0, 0x80, 0x91],
+        ),
+        (Packet::Unsubscribe(Unsubscribe { pkid: 10, ..Unsubscribe::new("a/b", None) }), &[0xA2, 8, 0, 10, 0, 0, 3, b'a', b'/', b'b']),
+        (
+            Packet::UnsubAck(UnsubAck {
+                pkid: 10,
+                reasons: vec![UnsubAckReason::NoSubscriptionExisted],
+                properties: Some(UnsubAckProperties { reason_string: Some("n".into()), user_properties: vec![("k".into(), "".into())] }),
+            }),
+            &[0xB0, 14, 0, 10, 10, 31, 0, 1, b'n', 38, 0, 1, b'k', 0, 0, 0x11],
+        ),
+    ];
+    for (packet, bytes) in rows {
+        let mut buffer = BytesMut::new();
+        assert_eq!((packet.write(&mut buffer, Some(bytes.len() as u32)), packet.size()), (Ok(bytes.len()), bytes.len()));
+        assert_eq!(&buffer[..], bytes);
+    }
+}
+
 #[test]
 fn a_refused_write_leaves_the_buffer() {
     let long = "x".repeat(65_536);
-    let big = Some(PublishProperties { subscription_identifiers: vec![1 << 40], ..Default::default() });
+    let identifiers = |ids: &[usize]| Some(PublishProperties { subscription_identifiers: ids.to_vec(), ..Default::default() });
+    let publish = |properties| Packet::Publish(Publish::new("a", QoS::AtMostOnce, "", properties));
+    let subscribe = |id| Subscribe::new(Filter::new("a", QoS::AtMostOnce), Some(SubscribeProperties { id: Some(id), user_properties: vec![] }));
     let rows: Vec<(Packet, Option<u32>, Error)> = vec![
         (records()[0].clone(), Some(9), Error::OutgoingPacketTooLarge { pkt_size: 10, max: 9 }),
         (Packet::Publish(Publish::new("a", QoS::AtLeastOnce, "", None)), None, Error::PacketIdZero),
         (Packet::Publish(Publish::new(long.clone(), QoS::AtMostOnce, "", None)), Some(5), Error::StringTooLong(65_536)),
-        (Packet::Publish(Publish::new("a", QoS::AtMostOnce, "", big)), None, Error::PayloadTooLong),
+        (publish(identifiers(&[1 << 40, 0])), None, Error::PayloadTooLong),
+        (publish(identifiers(&[1, 0, 1 << 40])), None, Error::SubscriptionIdZero),
+        (publish(identifiers(&[0])), Some(5), Error::OutgoingPacketTooLarge { pkt_size: 8, max: 5 }),
+        (Packet::Subscribe(subscribe(0)), None, Error::SubscriptionIdZero),
+        (Packet::Subscribe(subscribe(1 << 40)), None, Error::PayloadTooLong),
+        (publish(Some(PublishProperties { content_type: Some("a\0".into()), ..Default::default() })), None, Error::TopicNotUtf8),
+        (Packet::Subscribe(Subscribe::new(Filter::new("\0", QoS::AtMostOnce), None)), None, Error::TopicNotUtf8),
         (Packet::Subscribe(Subscribe::new_many([], None)), None, Error::EmptySubscription),
+        (Packet::SubAck(SubAck { pkid: 1, return_codes: vec![], properties: None }), None, Error::EmptySubscription),
+        (Packet::UnsubAck(UnsubAck { pkid: 1, reasons: vec![], properties: None }), Some(4), Error::OutgoingPacketTooLarge { pkt_size: 5, max: 4 }),
+        (Packet::UnsubAck(UnsubAck { pkid: 1, reasons: vec![], properties: None }), None, Error::EmptySubscription),
+        (Packet::Unsubscribe(Unsubscribe::default()), None, Error::EmptySubscription),
+        (Packet::Unsubscribe(Unsubscribe::new(long.clone(), None)), Some(5), Error::StringTooLong(65_536)),
+        (Packet::Unsubscribe(Unsubscribe::new("a\0b", None)), None, Error::TopicNotUtf8),
+        (
+            Packet::PubRel(PubRel::new(1, Some(PubRelProperties { reason_string: Some("\0".into()), user_properties: vec![] }))),
+            None,
+            Error::TopicNotUtf8,
+        ),
+        (Packet::PubComp(PubComp::new(1, None)), Some(3), Error::OutgoingPacketTooLarge { pkt_size: 4, max: 3 }),
     ];
     for (packet, max, error) in rows {
         let mut buffer = BytesMut::from(&b"as it stood"[..]);
@@ -190,4 +317,22 @@ fn places_give_the_parts_and_the_lists() {
     assert_eq!(r.user_properties().collect::<Vec<_>>(), [(&b"reel"[..], &b"7"[..]), (&b""[..], "é".as_bytes())]);
     assert_eq!(r.subscription_identifiers().collect::<Vec<_>>(), [1, 128, 268_435_455]);
     assert_eq!(r.payload().len(), 300);
+}
+
+#[test]
+fn places_give_the_reasons_and_the_topics() {
+    for packet in records() {
+        let mut buffer = BytesMut::new();
+        packet.write(&mut buffer, None).unwrap();
+        let (answer, _) = places::read(&buffer, Some(buffer.len()));
+        let r = answer.ok().unwrap();
+        match packet {
+            Packet::PubRel(m) => assert_eq!((r.kind(), r.reason()), (places::Kind::PubRel, m.reason.code())),
+            Packet::SubAck(m) => assert_eq!(r.reasons(), m.return_codes.iter().map(|c| c.code()).collect::<Vec<_>>()),
+            Packet::UnsubAck(m) => assert_eq!(r.reasons(), m.reasons.iter().map(|c| c.code()).collect::<Vec<_>>()),
+            Packet::Unsubscribe(m) => assert_eq!(r.topics().collect::<Vec<_>>(), m.filters.iter().map(|f| f.as_bytes()).collect::<Vec<_>>()),
+            _ => assert_eq!((r.reasons().len(), r.topics().count()), (0, 0)),
+        }
+        assert!(places::read(&buffer, Some(buffer.len() - 1)).0.is_err());
+    }
 }

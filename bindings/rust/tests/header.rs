@@ -1,12 +1,15 @@
 //! Holds src/sys.rs against bindings/c/ecchjulmina.h: every layout number, every function's parameters by name, order and type, and which
-//! functions of the header Rust declares.
+//! functions of the header Rust declares; and the names and numbers of refusals and reasons.
+use ecchjulmina::*;
 use std::collections::{BTreeMap, BTreeSet};
+use std::fmt::Debug;
 
 const HEADER: &str = include_str!("../../c/ecchjulmina.h");
 const SYS: &str = include_str!("../src/sys.rs");
 
 /// What Rust does for itself: it walks items, cuts parts and names refusals.
-const NOT_DECLARED: [&str; 5] = ["ecch_filter", "ecch_name", "ecch_part", "ecch_subscription_identifier", "ecch_user_property"];
+const NOT_DECLARED: [&str; 7] =
+    ["ecch_filter", "ecch_name", "ecch_part", "ecch_reason", "ecch_subscription_identifier", "ecch_topic", "ecch_user_property"];
 
 fn without_comments(text: &str) -> String {
     let mut out = String::new();
@@ -94,7 +97,7 @@ fn functions_are_the_headers() {
 #[test]
 fn numbers_are_the_headers() {
     let text = words(&without_comments(HEADER));
-    for (name, number) in ecchjulmina::sys::LAYOUT {
+    for (name, number) in sys::LAYOUT {
         let wanted = format!("{name} = {number}");
         let stands = text.match_indices(&wanted).any(|(i, _)| {
             let before = text[..i].chars().last().unwrap();
@@ -103,4 +106,75 @@ fn numbers_are_the_headers() {
         });
         assert!(stands, "{wanted}");
     }
+}
+
+/// The names and numbers of an enum of the header, without the beginning of the names.
+fn c_enum(name: &str, prefix: &str) -> BTreeMap<u64, String> {
+    let text = words(&without_comments(HEADER));
+    let text = text.split(&format!("enum {name} {{")).nth(1).unwrap().split('}').next().unwrap();
+    let rows = text.split(',').map(|row| {
+        let (name, number) = row.split_once(" = ").unwrap();
+        let number = match number.trim().strip_prefix("0x") {
+            Some(digits) => u64::from_str_radix(digits, 16).unwrap(),
+            None => number.trim().parse().unwrap(),
+        };
+        (number, name.trim().strip_prefix(prefix).unwrap().replace('_', ""))
+    });
+    rows.collect()
+}
+
+/// A case as C names it, but for the underlines.
+fn c_name(case: impl Debug) -> String {
+    let name = format!("{case:?}");
+    let name = name.split(" {").next().unwrap();
+    name.chars().filter(|c| c.is_alphabetic() || *c == '8').collect::<String>().to_uppercase()
+}
+
+/// Every reason of a kind by its byte; that of a byte has the byte.
+fn reasons<T: Debug + Copy>(from_code: fn(u8) -> Option<T>, code: fn(T) -> u8) -> BTreeMap<u64, String> {
+    let listed = (0..=255).filter_map(|n| from_code(n).map(|r| (n, r)));
+    listed.inspect(|(n, r)| assert_eq!(code(*r), *n)).map(|(n, r)| (n as u64, c_name(r))).collect()
+}
+
+#[test]
+fn reasons_are_the_headers() {
+    assert_eq!(reasons(PubAckReason::from_code, PubAckReason::code), c_enum("ecch_puback_reason", "ECCH_PUBACK_"));
+    assert_eq!(reasons(PubRecReason::from_code, PubRecReason::code), c_enum("ecch_puback_reason", "ECCH_PUBACK_"));
+    assert_eq!(reasons(PubRelReason::from_code, PubRelReason::code), c_enum("ecch_pubrel_reason", "ECCH_PUBREL_"));
+    assert_eq!(reasons(PubCompReason::from_code, PubCompReason::code), c_enum("ecch_pubrel_reason", "ECCH_PUBREL_"));
+    assert_eq!(reasons(SubscribeReasonCode::from_code, SubscribeReasonCode::code), c_enum("ecch_suback_reason", "ECCH_SUBACK_"));
+    assert_eq!(reasons(UnsubAckReason::from_code, UnsubAckReason::code), c_enum("ecch_unsuback_reason", "ECCH_UNSUBACK_"));
+    assert_eq!(SubscribeReasonCode::Failure.code(), SubscribeReasonCode::Unspecified.code());
+}
+
+#[test]
+fn refusals_are_the_headers() {
+    let all = [
+        Error::InsufficientBytes(1),
+        Error::MalformedRemainingLength,
+        Error::PayloadSizeLimitExceeded { pkt_size: 1, max: 0 },
+        Error::InvalidPacketType(0),
+        Error::PayloadRequired,
+        Error::KindNotCarried(1),
+        Error::MalformedPacket,
+        Error::BoundaryCrossed(1),
+        Error::TopicNotUtf8,
+        Error::InvalidPropertyType(0),
+        Error::InvalidQoS(3),
+        Error::PacketIdZero,
+        Error::EmptySubscription,
+        Error::InvalidRetainForwardRule(3),
+        Error::InvalidReason(1),
+        Error::OutgoingPacketTooLarge { pkt_size: 1, max: 0 },
+        Error::PayloadTooLong,
+        Error::StringTooLong(65_536),
+        Error::NoRoom(1),
+        Error::ListMismatch,
+        Error::NoItem,
+        Error::DuplicateProperty(1),
+        Error::SubscriptionIdZero,
+    ];
+    let mut wanted = c_enum("ecch_refusal", "ECCH_");
+    assert_eq!(wanted.remove(&0).unwrap(), "OK");
+    assert_eq!(all.iter().map(|e| (e.number() as u64, c_name(e))).collect::<BTreeMap<_, _>>(), wanted);
 }

@@ -1,5 +1,5 @@
-//! Frames made of chance, by a fixed seed, against a second reader: oracle/src/limit.rs, written by hand from 01. Both layers must say what
-//! it says, and what is written must read back.
+//! Frames made of chance, by a fixed seed, against a second reader: oracle/src/limit.rs, written by hand from 01 and 02. Both layers must
+//! say what it says, and what is written must read back.
 use bytes::{Bytes, BytesMut};
 use ecchjulmina::*;
 
@@ -31,6 +31,15 @@ impl Chance {
     }
 }
 
+/// The shortest spelling, now and then one byte longer.
+fn spelled(c: &mut Chance, n: usize, out: &mut Vec<u8>) {
+    length(n, out);
+    if c.one_in(60) {
+        *out.last_mut().unwrap() |= 0x80;
+        out.push(0);
+    }
+}
+
 fn length(mut n: usize, out: &mut Vec<u8>) {
     loop {
         let low = (n % 128) as u8;
@@ -43,19 +52,29 @@ fn length(mut n: usize, out: &mut Vec<u8>) {
 }
 
 fn string(c: &mut Chance, out: &mut Vec<u8>) {
-    let text = ["", "a", "line/3", "é", "\u{10FFFF}", "#", "\0"][c.below(7)];
+    let text = if c.one_in(60) { "a\0" } else { ["", "a", "line/3", "é", "\u{10FFFF}", "#"][c.below(6)] };
     out.extend((text.len() as u16).to_be_bytes());
     out.extend(text.as_bytes());
 }
 
-fn property(c: &mut Chance, out: &mut Vec<u8>) {
-    let k = [1u8, 2, 3, 8, 9, 11, 31, 35, 38, 38, 11, 31, c.byte()][c.below(13)];
+/// Mostly one of the kind's row.
+fn property(c: &mut Chance, kind: u8, out: &mut Vec<u8>) {
+    let row: &[u8] = match kind {
+        3 => &[1, 2, 3, 8, 9, 11, 11, 35, 38, 38],
+        8 => &[11, 38, 38],
+        10 => &[38],
+        _ => &[31, 38, 38],
+    };
+    let k = if c.one_in(12) { [1u8, 2, 3, 8, 9, 11, 31, 35, 38, c.byte()][c.below(10)] } else { row[c.below(row.len())] };
     out.push(k);
     match k {
         1 => out.push(c.byte()),
         2 => out.extend([c.byte(), 2, 3, 4]),
         35 => out.extend([c.byte(), 9]),
-        11 => length(c.below(300), out),
+        11 => {
+            let n = if c.one_in(20) { 0 } else { 1 + c.below(300) };
+            spelled(c, n, out)
+        }
         38 => {
             string(c, out);
             string(c, out);
@@ -64,41 +83,68 @@ fn property(c: &mut Chance, out: &mut Vec<u8>) {
     }
 }
 
+/// Mostly one of the kind's list.
+fn reason(c: &mut Chance, kind: u8) -> u8 {
+    let list: &[u8] = match kind {
+        4 | 5 => &[0, 0x10, 0x80, 0x83, 0x87, 0x90, 0x91, 0x97, 0x99],
+        6 | 7 => &[0, 0x92],
+        9 => &[0, 1, 2, 0x80, 0x83, 0x87, 0x8F, 0x91, 0x97, 0x9E, 0xA1, 0xA2],
+        _ => &[0, 0x11, 0x80, 0x83, 0x87, 0x8F, 0x91],
+    };
+    if c.one_in(12) {
+        c.byte()
+    } else {
+        list[c.below(list.len())]
+    }
+}
+
 /// A frame that is often well-formed: properties of any row, then a few bytes altered, put in or cut.
 fn frame(c: &mut Chance) -> Vec<u8> {
-    let first = [0x30, 0x32, 0x3D, 0x40, 0x82, 0xC0, 0xD0, c.byte()][c.below(8)];
+    let first = [0x30, 0x32, 0x3D, 0x40, 0x50, 0x62, 0x70, 0x82, 0x90, 0xA2, 0xB0, 0xC0, 0xD0, c.byte()][c.below(14)];
     let mut body = Vec::new();
     let kind = first >> 4;
     if kind == 3 {
         string(c, &mut body);
     }
-    if (kind == 3 && first & 6 != 0) || kind == 4 || kind == 8 {
+    if (kind == 3 && first & 6 != 0) || (4..=11).contains(&kind) {
         body.extend([c.below(2) as u8, c.below(3) as u8]);
     }
-    if kind == 4 && !c.one_in(4) {
-        body.push([0, 0x10, 0x80, 0x83, 0x87, 0x90, 0x91, 0x97, 0x99, c.byte()][c.below(10)]);
+    let ack = (4..=7).contains(&kind);
+    if ack && !c.one_in(4) {
+        body.push(reason(c, kind));
     }
-    if kind != 4 || !c.one_in(3) {
+    if !ack || !c.one_in(3) {
         let mut block = Vec::new();
-        for _ in 0..c.below(5) {
-            property(c, &mut block);
+        for _ in 0..c.below(4) {
+            property(c, kind, &mut block);
         }
-        length(block.len(), &mut body);
+        spelled(c, block.len(), &mut body);
         body.extend(block);
+    }
+    if kind == 9 || kind == 11 {
+        for _ in 0..c.below(4) {
+            body.push(reason(c, kind));
+        }
+    }
+    if kind == 10 {
+        for _ in 0..c.below(4) {
+            string(c, &mut body);
+        }
     }
     if kind == 8 {
         for _ in 0..c.below(4) {
             string(c, &mut body);
-            body.push(c.byte());
+            body.push([0, 1, 0x2E, 0x15, 0xC6, c.byte()][c.below(6)]);
         }
     }
     if kind == 3 {
         body.extend(vec![7; c.below(5)]);
     }
     let mut all = vec![first];
-    length(body.len() + if c.one_in(20) { c.below(3) } else { 0 }, &mut all);
+    let n = body.len() + if c.one_in(20) { c.below(3) } else { 0 };
+    spelled(c, n, &mut all);
     all.extend(body);
-    if c.one_in(3) {
+    if c.one_in(4) {
         for _ in 0..1 + c.below(3) {
             let i = c.below(all.len());
             all[i] = c.byte();
@@ -113,14 +159,16 @@ fn frame(c: &mut Chance) -> Vec<u8> {
     all
 }
 
+/// A string that is well-formed.
+fn text(b: &mut &[u8]) -> String {
+    let n = u16::from_be_bytes([b[0], b[1]]) as usize;
+    let t = String::from_utf8(b[2..2 + n].to_vec()).unwrap();
+    *b = &b[2 + n..];
+    t
+}
+
 /// The lists of a block that is well-formed: user properties, and subscription identifiers.
 fn lists(mut b: &[u8]) -> (Vec<(String, String)>, Vec<usize>) {
-    fn text(b: &mut &[u8]) -> String {
-        let n = u16::from_be_bytes([b[0], b[1]]) as usize;
-        let t = String::from_utf8(b[2..2 + n].to_vec()).unwrap();
-        *b = &b[2 + n..];
-        t
-    }
     let (mut users, mut ids) = (Vec::new(), Vec::new());
     while let Some((k, rest)) = b.split_first() {
         b = rest;
@@ -162,27 +210,34 @@ fn filters(mut s: &[u8]) -> Vec<Filter> {
     found
 }
 
+fn topics(mut s: &[u8]) -> Vec<String> {
+    let mut found = Vec::new();
+    while !s.is_empty() {
+        found.push(text(&mut s));
+    }
+    found
+}
+
 fn owned(part: Option<&[u8]>) -> Option<String> {
     part.map(|p| String::from_utf8(p.to_vec()).unwrap())
 }
 
-const REASONS: [PubAckReason; 9] = [
-    PubAckReason::Success,
-    PubAckReason::NoMatchingSubscribers,
-    PubAckReason::UnspecifiedError,
-    PubAckReason::ImplementationSpecificError,
-    PubAckReason::NotAuthorized,
-    PubAckReason::TopicNameInvalid,
-    PubAckReason::PacketIdentifierInUse,
-    PubAckReason::QuotaExceeded,
-    PubAckReason::PayloadFormatInvalid,
-];
+/// An acknowledgement in the crate's type.
+macro_rules! acknowledged {
+    ($m:ident, $kind:ident, $reason:ident, $properties:ident) => {
+        Packet::$kind($kind {
+            pkid: $m.id,
+            reason: $reason::from_code($m.reason).unwrap(),
+            properties: (!$m.block.is_empty()).then(|| $properties { reason_string: owned($m.rstr), user_properties: lists($m.block).0 }),
+        })
+    };
+}
 
 /// What the second reader says, in the crate's types.
 fn wanted(rec: Rec) -> Packet {
     match rec {
-        Rec::PingReq => Packet::PingReq(PingReq),
-        Rec::PingResp => Packet::PingResp(PingResp),
+        Rec::Ping(12) => Packet::PingReq(PingReq),
+        Rec::Ping(_) => Packet::PingResp(PingResp),
         Rec::Publish(m) => {
             let (user_properties, subscription_identifiers) = lists(m.block);
             Packet::Publish(Publish {
@@ -209,10 +264,26 @@ fn wanted(rec: Rec) -> Packet {
             filters: filters(m.filters),
             properties: (!m.block.is_empty()).then(|| SubscribeProperties { id: m.sid.map(|n| n as usize), user_properties: lists(m.block).0 }),
         }),
-        Rec::PubAck(m) => Packet::PubAck(PubAck {
+        Rec::Ack(m) => match m.kind {
+            4 => acknowledged!(m, PubAck, PubAckReason, PubAckProperties),
+            5 => acknowledged!(m, PubRec, PubRecReason, PubRecProperties),
+            6 => acknowledged!(m, PubRel, PubRelReason, PubRelProperties),
+            _ => acknowledged!(m, PubComp, PubCompReason, PubCompProperties),
+        },
+        Rec::Reply(m) if m.kind == 9 => Packet::SubAck(SubAck {
             pkid: m.id,
-            reason: *REASONS.iter().find(|r| r.code() == m.reason).unwrap(),
-            properties: (!m.block.is_empty()).then(|| PubAckProperties { reason_string: owned(m.rstr), user_properties: lists(m.block).0 }),
+            return_codes: m.reasons.iter().map(|r| SubscribeReasonCode::from_code(*r).unwrap()).collect(),
+            properties: (!m.block.is_empty()).then(|| SubAckProperties { reason_string: owned(m.rstr), user_properties: lists(m.block).0 }),
+        }),
+        Rec::Reply(m) => Packet::UnsubAck(UnsubAck {
+            pkid: m.id,
+            reasons: m.reasons.iter().map(|r| UnsubAckReason::from_code(*r).unwrap()).collect(),
+            properties: (!m.block.is_empty()).then(|| UnsubAckProperties { reason_string: owned(m.rstr), user_properties: lists(m.block).0 }),
+        }),
+        Rec::Unsubscribe(m) => Packet::Unsubscribe(Unsubscribe {
+            pkid: m.id,
+            filters: topics(m.topics),
+            properties: (!m.block.is_empty()).then(|| UnsubscribeProperties { user_properties: lists(m.block).0 }),
         }),
     }
 }
@@ -223,11 +294,30 @@ fn refusal(e: Error) -> No {
         Error::InsufficientBytes(n) | Error::BoundaryCrossed(n) | Error::StringTooLong(n) | Error::NoRoom(n) => (n as u64, 0),
         Error::PayloadSizeLimitExceeded { pkt_size, max } => (pkt_size as u64, max as u64),
         Error::OutgoingPacketTooLarge { pkt_size, max } => (pkt_size as u64, max as u64),
-        Error::InvalidPacketType(n) | Error::KindNotCarried(n) | Error::InvalidPropertyType(n) => (n as u64, 0),
+        Error::InvalidPacketType(n) | Error::KindNotCarried(n) | Error::InvalidPropertyType(n) | Error::DuplicateProperty(n) => (n as u64, 0),
         Error::InvalidQoS(n) | Error::InvalidRetainForwardRule(n) | Error::InvalidReason(n) => (n as u64, 0),
         _ => (0, 0),
     };
     No { no: e.number(), a, b }
+}
+
+macro_rules! placed_ack {
+    ($r:ident, $m:ident, $kind:ident, $users:ident) => {{
+        let p = $m.properties.clone().unwrap_or_default();
+        assert_eq!(($r.kind(), $r.pkid(), $r.reason()), (places::Kind::$kind, $m.pkid, $m.reason.code()));
+        assert_eq!(($r.has_properties(), $users, owned($r.reason_string())), ($m.properties.is_some(), p.user_properties, p.reason_string));
+        assert_eq!(($r.filters().count(), $r.topics().count(), $r.reasons().len()), (0, 0, 0));
+    }};
+}
+
+macro_rules! placed_reply {
+    ($r:ident, $m:ident, $kind:ident, $reasons:ident, $users:ident) => {{
+        let p = $m.properties.clone().unwrap_or_default();
+        assert_eq!(($r.kind(), $r.pkid(), $r.reason()), (places::Kind::$kind, $m.pkid, 0));
+        assert_eq!(($r.has_properties(), $users, owned($r.reason_string())), ($m.properties.is_some(), p.user_properties, p.reason_string));
+        assert_eq!($r.reasons(), $m.$reasons.iter().map(|r| r.code()).collect::<Vec<_>>());
+        assert_eq!(($r.filters().count(), $r.topics().count()), (0, 0));
+    }};
 }
 
 /// The thin layer says what the packet says.
@@ -251,21 +341,33 @@ fn placed(r: places::Record, packet: &Packet) {
             let p = m.properties.clone().unwrap_or_default();
             assert_eq!((r.kind(), r.pkid(), r.has_properties()), (places::Kind::Subscribe, m.pkid, m.properties.is_some()));
             assert_eq!((users, r.subscription_identifier().map(|n| n as usize)), (p.user_properties, p.id));
-            assert_eq!((ids.len(), r.topic(), r.reason_string()), (0, &b""[..], None));
+            assert_eq!((ids.len(), r.topic(), r.reason_string(), r.topics().count(), r.reasons().len()), (0, &b""[..], None, 0, 0));
             let paths: Vec<_> = r.filters().map(|f| (f.path.to_vec(), f.qos, f.nolocal, f.preserve_retain, f.retain_forward_rule)).collect();
             let wanted: Vec<_> =
                 m.filters.iter().map(|f| (f.path.clone().into_bytes(), f.qos, f.nolocal, f.preserve_retain, f.retain_forward_rule)).collect();
             assert_eq!(paths, wanted);
         }
-        Packet::PubAck(m) => {
+        Packet::PubAck(m) => placed_ack!(r, m, PubAck, users),
+        Packet::PubRec(m) => placed_ack!(r, m, PubRec, users),
+        Packet::PubRel(m) => placed_ack!(r, m, PubRel, users),
+        Packet::PubComp(m) => placed_ack!(r, m, PubComp, users),
+        Packet::SubAck(m) => placed_reply!(r, m, SubAck, return_codes, users),
+        Packet::UnsubAck(m) => placed_reply!(r, m, UnsubAck, reasons, users),
+        Packet::Unsubscribe(m) => {
             let p = m.properties.clone().unwrap_or_default();
-            assert_eq!((r.kind(), r.pkid(), r.reason(), r.has_properties()), (places::Kind::PubAck, m.pkid, m.reason, m.properties.is_some()));
-            assert_eq!((users, owned(r.reason_string())), (p.user_properties, p.reason_string));
-            assert_eq!(r.filters().count(), 0);
+            assert_eq!((r.kind(), r.pkid(), r.has_properties()), (places::Kind::Unsubscribe, m.pkid, m.properties.is_some()));
+            assert_eq!((users, r.reason_string(), r.subscription_identifier()), (p.user_properties, None, None));
+            assert_eq!(r.topics().map(|t| owned(Some(t)).unwrap()).collect::<Vec<_>>(), m.filters);
+            assert_eq!((r.filters().count(), r.reasons().len()), (0, 0));
         }
-        Packet::PingReq(_) => assert_eq!((r.kind(), r.properties().count(), r.filters().count()), (places::Kind::PingReq, 0, 0)),
-        Packet::PingResp(_) => assert_eq!((r.kind(), r.properties().count(), r.filters().count()), (places::Kind::PingResp, 0, 0)),
+        Packet::PingReq(_) => assert_eq!((r.kind(), entries(&r)), (places::Kind::PingReq, 0)),
+        Packet::PingResp(_) => assert_eq!((r.kind(), entries(&r)), (places::Kind::PingResp, 0)),
     }
+}
+
+/// Everything that can be walked.
+fn entries(r: &places::Record) -> usize {
+    r.properties().count() + r.filters().count() + r.topics().count() + r.reasons().len()
 }
 
 /// What was read is written, and reads back; under a limit that is too small, or with no identifier, the buffer stays.
@@ -290,7 +392,8 @@ fn written(packet: &Packet, c: &mut Chance) {
 #[test]
 fn chance_agrees_with_the_second_reader() {
     let mut c = Chance(0x9E37_79B9_7F4A_7C15);
-    let mut seen = [0usize; 22];
+    let mut seen = [0usize; 24];
+    let mut kinds = [0usize; 14];
     for _ in 0..200_000 {
         let bytes = frame(&mut c);
         let limit = c.one_in(8).then(|| c.below(40) as u32);
@@ -302,6 +405,7 @@ fn chance_agrees_with_the_second_reader() {
         match (second, read, record) {
             (Ok(rec), Ok(packet), Ok(record)) => {
                 seen[0] += 1;
+                kinds[bytes[0] as usize >> 4] += 1;
                 assert_eq!(packet, wanted(rec), "{bytes:02X?}");
                 placed(record, &packet);
                 written(&packet, &mut c);
@@ -313,8 +417,9 @@ fn chance_agrees_with_the_second_reader() {
             (second, read, record) => panic!("{bytes:02X?}: {second:?}, {read:?}, {:?}", record.err()),
         }
     }
-    // every refusal of reading comes up, and packets often
-    assert!(seen[0] > 20_000 && seen[1..=15].iter().all(|n| *n > 0), "{seen:?}");
+    // every refusal of reading comes up, and packets of every kind often
+    assert!(seen[1..=15].iter().chain(&seen[22..]).all(|n| *n > 20), "{seen:?}");
+    assert!(kinds[3..].iter().all(|n| *n > 2_000), "{kinds:?}");
 }
 
 #[test]
@@ -357,6 +462,10 @@ fn long_lists_are_read_in_one_walk() {
     assert_eq!(m.properties.unwrap().subscription_identifiers.len(), (1 << 20) / 2);
     let Ok(Packet::Subscribe(m)) = Packet::read(&mut filled(0x82, &[0, 1, 0], false, &[0, 0, 1], (1 << 20) / 3, &[]), None) else { panic!() };
     assert_eq!(m.filters.len(), (1 << 20) / 3);
+    let Ok(Packet::Unsubscribe(m)) = Packet::read(&mut filled(0xA2, &[0, 1, 0], false, &[0, 0], (1 << 20) / 2, &[]), None) else { panic!() };
+    assert_eq!(m.filters.len(), (1 << 20) / 2);
+    let Ok(Packet::SubAck(m)) = Packet::read(&mut filled(0x90, &[0, 1, 0], false, &[2], 1 << 20, &[]), None) else { panic!() };
+    assert_eq!(m.return_codes.len(), 1 << 20);
     let took = timing::now() - began;
     assert!(took < 10_000_000_000, "{took} ns");
 }
