@@ -1,18 +1,23 @@
 // A frame and its answer on standard output, the fields and the refusals as `desk` writes them.
 use codes;
-use codes::reason_code;
+use entry_runs;
+use entry_runs::ReasonItem;
+use entry_runs::TopicItem;
 use publish_parts;
+use records::ack_record::Ack;
 use records::answer::FilterItem;
 use records::answer::IdentifierItem;
 use records::answer::Limit;
 use records::error::Error;
 use records::packet_record::Packet;
-use records::puback_record::PubAck;
 use records::publish_record::MaybePublishProperties;
 use records::publish_record::Publish;
+use records::reply_record::Reply;
+use records::reply_record::ReplyKind;
 use records::span::Span;
 use records::subscribe_record::Filter;
 use records::subscribe_record::Subscribe;
+use records::unsubscribe_record::Unsubscribe;
 use wire::string;
 
 fn wide(b: u8) -> u64 {
@@ -114,22 +119,68 @@ fn subscribe_of(s: &[u8], m: Subscribe) {
     }
 }
 
-fn puback_of(m: PubAck) {
-    let reason = m.reason;
+fn reason(code: u8) {
     io::write_all(1, b" reason=0x");
-    io::print_hex(1, wide(reason_code(reason)), 2);
+    io::print_hex(1, wide(code), 2);
 }
 
-fn ping(kind: &[u8]) {
-    io::write_all(1, kind);
+fn ack_of(m: Ack) {
+    reason(m.reason);
+}
+
+// The reasons of the run; it has no more than the frame has bytes.
+fn reply_of(s: &[u8], kind: ReplyKind, m: Reply) {
+    let mut n: usize = 0;
+    while n < s.len() {
+        match entry_runs::reason(kind, s, m.reasons, n) {
+            ReasonItem::NoItem => return,
+            ReasonItem::Reason(code) => reason(code),
+        }
+        n = n + 1;
+    }
+}
+
+fn topic_of(s: &[u8], topic: Span) {
+    text(b" filter=", string::part(s, topic));
+}
+
+// The topics of the run; it has fewer than it has bytes.
+fn unsubscribe_of(s: &[u8], m: Unsubscribe) {
+    let mut n: usize = 0;
+    while n < s.len() {
+        match entry_runs::topic(s, m.topics, n) {
+            TopicItem::NoItem => return,
+            TopicItem::Topic(topic) => topic_of(s, topic),
+        }
+        n = n + 1;
+    }
+}
+
+// The word for a number's kind.
+fn kind(num: u8) {
+    let shown = kinds::word_of(num);
+    let bytes = shown.bytes;
+    let word = Span {
+        start: 0,
+        len: shown.len,
+    };
+    io::write_all(1, b" ");
+    io::write_all(1, string::part(&bytes, word));
+}
+
+fn fields(s: &[u8], p: Packet) {
+    match p {
+        Packet::Publish(m) => publish_of(s, m),
+        Packet::Ack(_, m) => ack_of(m),
+        Packet::Subscribe(m) => subscribe_of(s, m),
+        Packet::Reply(k, m) => reply_of(s, k, m),
+        Packet::Unsubscribe(m) => unsubscribe_of(s, m),
+        Packet::PingReq => {}
+        Packet::PingResp => {}
+    }
 }
 
 pub fn packet(s: &[u8], p: Packet) {
-    match p {
-        Packet::Publish(m) => publish_of(s, m),
-        Packet::PubAck(m) => puback_of(m),
-        Packet::Subscribe(m) => subscribe_of(s, m),
-        Packet::PingReq => ping(b" PingReq"),
-        Packet::PingResp => ping(b" PingResp"),
-    }
+    kind(counts::number_in(p));
+    fields(s, p);
 }

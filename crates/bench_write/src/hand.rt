@@ -1,30 +1,34 @@
 // A row of the tables in main: what is handed over, field by field in the order below, a bar between two; fields left out are empty.
 use crate::show;
 use crate::text;
+use ack_write::AckHead;
 use length_puts::write_remaining_length;
 use packet_parts::head::PacketHead;
 use packet_write::size;
 use packet_write::write;
-use puback_write::PubAckHead;
 use publish_plan::head::PublishHead;
+use records::ack_record::AckKind;
 use records::answer::Limit;
 use records::answer::Written;
-use records::puback_record::PubAckReason;
+use records::reply_record::ReplyKind;
 use records::qos::QoS;
 use records::span::MaybeU8;
 use records::span::MaybeU16;
 use records::span::MaybeU32;
 use records::span::Span;
+use reply_write::ReplyHead;
 use string_puts::write_mqtt_bytes;
 use subscribe_write::SubscribeHead;
+use unsubscribe_write::UnsubscribeHead;
 use wire::string;
 ghost use Prim.Native.Nat.{_≤_};
 
 // The words of the line.
 const WHAT: usize = 0;
 
-// What is written: L a length, T a text, else a record: 0 or 1 a Publish at that QoS, F one with every property; A a PubAck, N one with
-// NoMatchingSubscribers; S a Subscribe, I one with the identifier 268,435,456; Q a PingReq, R a PingResp.
+// What is written: L a length, T a text, else a record: 0 or 1 a Publish at that QoS, F one with every property; 4 to 7 the acknowledgement of
+// that kind; S a Subscribe, I one with the identifier 268,435,456, Z one with 0; 9 a SubAck, V an UnsubAck; U an Unsubscribe; Q a PingReq, R
+// a PingResp.
 const KIND: usize = 1;
 
 // How many bytes the output has, of which 44 at most are shown.
@@ -40,7 +44,7 @@ const TOPIC: usize = 5;
 
 const PAYLOAD: usize = 6;
 
-// Of a Publish or a PubAck: empty without a property set, - for a set, + for one with a string: a response topic, a reason string.
+// Of all but a Subscribe: empty without a property set, - for a set, + for one with a string: a response topic, a reason string.
 const SET: usize = 7;
 
 const USER: usize = 8;
@@ -57,10 +61,14 @@ const CONTENT: usize = 13;
 
 const REASON: usize = 14;
 
-// One filter of one byte, or none.
+// Filters or topics of one byte each, at most two.
 const FILTERS: usize = 15;
 
+// A byte for each: options, or reasons.
 const OPTIONS: usize = 16;
+
+// The reason of an acknowledgement.
+const CODE: usize = 17;
 
 fn field<'a>(row: &'a [u8], n: usize) -> &'a [u8] {
     text::part(row, b'|', n)
@@ -167,28 +175,60 @@ fn full(row: &[u8]) -> PacketHead {
     })
 }
 
-fn reason(row: &[u8]) -> PubAckReason {
-    if mark(row, KIND) == b'A' {
-        return PubAckReason::Success;
+fn ack_kind(row: &[u8]) -> AckKind {
+    match mark(row, KIND) {
+        b'4' => AckKind::PubAck,
+        b'5' => AckKind::PubRec,
+        b'6' => AckKind::PubRel,
+        _ => AckKind::PubComp,
     }
-    PubAckReason::NoMatchingSubscribers
+}
+
+fn code(row: &[u8]) -> u8 {
+    (number(row, CODE) % 256) as u8
 }
 
 fn ack(row: &[u8]) -> PacketHead {
     let set = mark(row, SET);
-    PacketHead::PubAck(PubAckHead {
+    PacketHead::Ack(AckHead {
+        kind: ack_kind(row),
         pkid: pkid(row),
-        reason: reason(row),
+        reason: code(row),
         block: set != 0,
         reason_string: set == b'+',
     })
 }
 
-fn id(row: &[u8]) -> MaybeU32 {
-    if mark(row, KIND) == b'S' {
-        return MaybeU32::Absent;
+fn reply_kind(row: &[u8]) -> ReplyKind {
+    if mark(row, KIND) == b'9' {
+        return ReplyKind::SubAck;
     }
-    MaybeU32::Present(268435456)
+    ReplyKind::UnsubAck
+}
+
+fn reply(row: &[u8]) -> PacketHead {
+    let set = mark(row, SET);
+    PacketHead::Reply(ReplyHead {
+        kind: reply_kind(row),
+        pkid: pkid(row),
+        block: set != 0,
+        reason_string: set == b'+',
+    })
+}
+
+fn leave(row: &[u8]) -> PacketHead {
+    PacketHead::Unsubscribe(UnsubscribeHead {
+        pkid: pkid(row),
+        block: mark(row, SET) != 0,
+    })
+}
+
+fn id(row: &[u8]) -> MaybeU32 {
+    match mark(row, KIND) {
+        b'I' => MaybeU32::Present(268435456),
+        b'Z' => MaybeU32::Present(0),
+        _ => MaybeU32::Absent,
+    }
 }
 
 fn wish(row: &[u8]) -> PacketHead {
@@ -203,8 +243,10 @@ fn head(row: &[u8]) -> PacketHead {
     match mark(row, KIND) {
         b'0' | b'1' => message(row),
         b'F' => full(row),
-        b'A' | b'N' => ack(row),
-        b'S' | b'I' => wish(row),
+        b'4'..=b'7' => ack(row),
+        b'S' | b'I' | b'Z' => wish(row),
+        b'9' | b'V' => reply(row),
+        b'U' => leave(row),
         b'Q' => PacketHead::PingReq,
         _ => PacketHead::PingResp,
     }
@@ -216,7 +258,7 @@ fn put(
     topic: &[u8],
     user_lengths: &[usize],
     ids: &[u32],
-    filter_lengths: &[usize],
+    entry_lengths: &[usize],
     out: &mut [u8],
 ) -> Written {
     let payload = field(row, PAYLOAD);
@@ -225,8 +267,8 @@ fn put(
     let correlation = field(row, CORRELATION);
     let content = field(row, CONTENT);
     let reason = field(row, REASON);
-    let filters = field(row, FILTERS);
-    let options = field(row, OPTIONS);
+    let texts = field(row, FILTERS);
+    let entries = field(row, OPTIONS);
     let limit = limit(row);
     let head = head(row);
     show::sized(size(
@@ -240,9 +282,9 @@ fn put(
         content,
         payload,
         reason,
-        filters,
-        filter_lengths,
-        options,
+        texts,
+        entry_lengths,
+        entries,
     ));
     write(
         head,
@@ -255,9 +297,9 @@ fn put(
         content,
         payload,
         reason,
-        filters,
-        filter_lengths,
-        options,
+        texts,
+        entry_lengths,
+        entries,
         limit,
         &mut *out,
     )
@@ -266,16 +308,16 @@ fn put(
 fn record(row: &[u8], topic: &[u8], out: &mut [u8]) -> Written {
     let lengths = user_lengths(row);
     let ids = identifiers(row);
-    let one = [1];
+    let ones = [1, 1];
     let users = count(row, USER_LENGTHS);
     let given = count(row, IDENTIFIERS);
-    let filters = least(field(row, FILTERS).len(), 1);
+    let filters = least(field(row, FILTERS).len(), 2);
     put(
         row,
         topic,
         &lengths[..users],
         &ids[..given],
-        &one[..filters],
+        &ones[..filters],
         &mut *out,
     )
 }

@@ -1,6 +1,6 @@
-// Runs 01's worked values of writing, a line for each, and counts them: the leaf writers, then records through `packet_write`, the size
+// Runs 01's and 02's worked values of writing, a line for each, and counts them: the leaf writers, then records through `packet_write`, the size
 // asked alone before the write. Each line ends with the output, which held aa before, or its first 44 bytes. The file stdout was written
-// from 01. hand.rt has the fields of a row.
+// from 01 and 02. hand.rt has the fields of a row.
 mod hand;
 mod show;
 mod text;
@@ -82,11 +82,11 @@ fn others(rows: u64) -> u64 {
         filter a, no options|S|10||1|||||||||||a\n\
         no filters, identifier 268435456|I|10||1\n\
         no filters|S|10||1\n\
-        PubAck|A|11||10\n\
-        PubAck, empty set|A|11||10|||-\n\
-        PubAck, reason 0x10|N|11||10\n\
-        PubAck, reason string a|A|11||10|||+|||||||a\n\
-        PubAck, payload|A|11||10||hi\n\
+        PubAck|4|11||10\n\
+        PubAck, empty set|4|11||10|||-\n\
+        PubAck, reason 0x10|4|11||10|||||||||||||16\n\
+        PubAck, reason string a|4|11||10|||+|||||||a\n\
+        PubAck, payload|4|11||10||hi\n\
         PingReq|Q|3\n\
         PingResp|R|3\n\
         PingReq, limit 1|Q|3|1\n\
@@ -94,8 +94,46 @@ fn others(rows: u64) -> u64 {
     )
 }
 
+// 02's six kinds: what is written of each, and the order of 15: before an acknowledgement's texts, after a reply's.
+fn six(rows: u64) -> u64 {
+    hand::table(
+        rows,
+        b"PubRec|5|11||10\n\
+        PubRel|6|11||10\n\
+        PubComp|7|11||10\n\
+        PubRec, reason 0x99|5|11||10|||||||||||||153\n\
+        PubRel, reason 0x92, reason string a|6|11||10|||+|||||||a|||146\n\
+        PubRel, reason 0x10|6|11||10|||||||||||||16\n\
+        PubComp, reason 0x80, reason string not UTF-8|7|11||10|||+|||||||\xFF|||128\n\
+        SubAck, reasons 0x01, 0x80|9|9||1||||||||||||\x01\x80\n\
+        SubAck, no reasons|9|9||1\n\
+        SubAck, reason 0x11|9|9||1||||||||||||\x11\n\
+        SubAck, filter|9|9||1|||||||||||a|\x01\n\
+        UnsubAck, reason 0x11, user k v|V|14||1|||-|kv|1,1|||||||\x11\n\
+        UnsubAck, reason 0x01, user not UTF-8|V|14||1|||-|k\xFF|1,1|||||||\x01\n\
+        Unsubscribe, topics a, b|U|12||1|||||||||||ab\n\
+        Unsubscribe, no topics|U|12||1\n\
+        Unsubscribe, topic not UTF-8|U|12||1|||||||||||\xFF\n\
+        Unsubscribe, topic a, options|U|12||1|||||||||||a|\x01\n",
+    )
+}
+
+// 02's rules: subscription identifier 0 is row 23 where 17 stands for a number, U+0000 in a text row 9.
+fn zeros(rows: u64) -> u64 {
+    hand::table(
+        rows,
+        b"a/b, identifier 0|0|18|||a/b|hi|-|||0\n\
+        a/b, identifier 0, limit 0|0|18|0||a/b|hi|-|||0\n\
+        a/b, identifiers 0, 268435456|0|18|||a/b|hi|-|||0,268435456\n\
+        a/b, identifiers 268435456, 0|0|18|||a/b|hi|-|||268435456,0\n\
+        no filters, identifier 0|Z|10||1\n\
+        a/b, user k U+0000|0|18|||a/b|hi|-|k\x00|1,1\n\
+        Unsubscribe, topic U+0000|U|12||1|||||||||||\x00\n",
+    )
+}
+
 fn main() {
-    let rows = others(messages(texts(lengths(0))));
+    let rows = zeros(six(others(messages(texts(lengths(0))))));
     io::print_decimal(1, rows);
     io::write_all(1, b" rows\n");
 }

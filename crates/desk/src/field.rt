@@ -16,8 +16,8 @@ pub fn id(out: &mut [u8], at: usize, pkid: u16) -> usize {
     number(&mut *out, at, b" id=", pkid as u64)
 }
 
-pub fn hex(out: &mut [u8], at: usize, name: &[u8], b: u8) -> usize {
-    let value = output::word(&mut *out, at, name);
+pub fn reason(out: &mut [u8], at: usize, b: u8) -> usize {
+    let value = output::word(&mut *out, at, b" reason=0x");
     output::hex(&mut *out, value, b)
 }
 

@@ -3,16 +3,18 @@ use crate::field;
 use crate::list;
 use crate::output;
 use codes;
-use codes::reason_code;
+use records::ack_record::Ack;
 use records::packet_record::Packet;
-use records::puback_record::MaybePubAckProperties;
-use records::puback_record::PubAck;
+use records::properties_record::MaybeProperties;
 use records::publish_record::MaybePublishProperties;
 use records::publish_record::Publish;
 use records::publish_record::PublishProperties;
-use records::subscribe_record::MaybeSubscribeProperties;
+use records::reply_record::Reply;
+use records::span::Span;
 use records::subscribe_record::Subscribe;
+use records::unsubscribe_record::Unsubscribe;
 use tables::property::PropertyPlace;
+use wire::string;
 
 // The identifier, which a Publish has at QoS 1 and 2.
 fn identifier(out: &mut [u8], at: usize, q: u8, pkid: u16) -> usize {
@@ -67,75 +69,97 @@ fn publish_block(out: &mut [u8], at: usize, s: &[u8], properties: MaybePublishPr
     }
 }
 
-fn publish_of(out: &mut [u8], at: usize, s: &[u8], m: Publish, taken: usize) -> usize {
+fn publish_of(out: &mut [u8], at: usize, s: &[u8], m: Publish) -> usize {
     let properties = m.properties;
-    let a = field::number(&mut *out, at, b" publish taken=", taken as u64);
-    let b = publish_head(&mut *out, a, s, m);
-    let c = publish_block(&mut *out, b, s, properties);
-    field::part(&mut *out, c, b" payload=\"", s, m.payload)
+    let a = publish_head(&mut *out, at, s, m);
+    let b = publish_block(&mut *out, a, s, properties);
+    field::part(&mut *out, b, b" payload=\"", s, m.payload)
 }
 
-fn subscribe_block(
+// The block of any other kind; what its place does not have is absent.
+fn block(
     out: &mut [u8],
     at: usize,
+    place: PropertyPlace,
     s: &[u8],
-    properties: MaybeSubscribeProperties,
+    properties: MaybeProperties,
 ) -> usize {
     match properties {
-        MaybeSubscribeProperties::Absent => at,
-        MaybeSubscribeProperties::Present(p) => {
+        MaybeProperties::Absent => at,
+        MaybeProperties::Present(p) => {
+            let text = p.reason_string;
             let id = p.id;
-            let block = p.block;
-            let a = field::u32_if(&mut *out, at, b" subscription-id=", id);
-            list::users(&mut *out, a, PropertyPlace::Subscribe, s, block)
+            let held = p.block;
+            let a = field::part_if(&mut *out, at, b" reason-string=\"", s, text);
+            let b = field::u32_if(&mut *out, a, b" subscription-id=", id);
+            list::users(&mut *out, b, place, s, held)
         }
     }
 }
 
-fn subscribe_of(out: &mut [u8], at: usize, s: &[u8], m: Subscribe, taken: usize) -> usize {
+// PubAck, PubRec, PubRel, PubComp.
+fn ack_of(out: &mut [u8], at: usize, s: &[u8], m: Ack) -> usize {
+    let properties = m.properties;
+    let a = field::id(&mut *out, at, m.pkid);
+    let b = field::reason(&mut *out, a, m.reason);
+    block(&mut *out, b, PropertyPlace::Ack, s, properties)
+}
+
+fn subscribe_of(out: &mut [u8], at: usize, s: &[u8], m: Subscribe) -> usize {
     let properties = m.properties;
     let filters = m.filters;
-    let a = field::number(&mut *out, at, b" subscribe taken=", taken as u64);
-    let b = field::id(&mut *out, a, m.pkid);
-    let c = subscribe_block(&mut *out, b, s, properties);
-    list::filters(&mut *out, c, s, filters)
+    let a = field::id(&mut *out, at, m.pkid);
+    let b = block(&mut *out, a, PropertyPlace::Subscribe, s, properties);
+    list::filters(&mut *out, b, s, filters)
 }
 
-fn puback_block(out: &mut [u8], at: usize, s: &[u8], properties: MaybePubAckProperties) -> usize {
-    match properties {
-        MaybePubAckProperties::Absent => at,
-        MaybePubAckProperties::Present(p) => {
-            let text = p.reason_string;
-            let block = p.block;
-            let a = field::part_if(&mut *out, at, b" reason-string=\"", s, text);
-            list::users(&mut *out, a, PropertyPlace::PubAck, s, block)
-        }
-    }
-}
-
-fn puback_of(out: &mut [u8], at: usize, s: &[u8], m: PubAck, taken: usize) -> usize {
-    let reason = m.reason;
+// SubAck, UnsubAck.
+fn reply_of(out: &mut [u8], at: usize, s: &[u8], m: Reply) -> usize {
     let properties = m.properties;
-    let a = field::number(&mut *out, at, b" puback taken=", taken as u64);
-    let b = field::id(&mut *out, a, m.pkid);
-    let c = field::hex(&mut *out, b, b" reason=0x", reason_code(reason));
-    puback_block(&mut *out, c, s, properties)
+    let reasons = m.reasons;
+    let a = field::id(&mut *out, at, m.pkid);
+    let b = block(&mut *out, a, PropertyPlace::Ack, s, properties);
+    list::reasons(&mut *out, b, s, reasons)
 }
 
-// The kind, the count and the fields.
-fn fields(out: &mut [u8], at: usize, s: &[u8], p: Packet, taken: usize) -> usize {
+fn unsubscribe_of(out: &mut [u8], at: usize, s: &[u8], m: Unsubscribe) -> usize {
+    let properties = m.properties;
+    let topics = m.topics;
+    let a = field::id(&mut *out, at, m.pkid);
+    let b = block(&mut *out, a, PropertyPlace::Unsubscribe, s, properties);
+    list::topics(&mut *out, b, s, topics)
+}
+
+// The fields of the kind; a ping has none.
+fn fields(out: &mut [u8], at: usize, s: &[u8], p: Packet) -> usize {
     match p {
-        Packet::Publish(m) => publish_of(&mut *out, at, s, m, taken),
-        Packet::Subscribe(m) => subscribe_of(&mut *out, at, s, m, taken),
-        Packet::PubAck(m) => puback_of(&mut *out, at, s, m, taken),
-        Packet::PingReq => field::number(&mut *out, at, b" pingreq taken=", taken as u64),
-        Packet::PingResp => field::number(&mut *out, at, b" pingresp taken=", taken as u64),
+        Packet::Publish(m) => publish_of(&mut *out, at, s, m),
+        Packet::Ack(_, m) => ack_of(&mut *out, at, s, m),
+        Packet::Subscribe(m) => subscribe_of(&mut *out, at, s, m),
+        Packet::Reply(_, m) => reply_of(&mut *out, at, s, m),
+        Packet::Unsubscribe(m) => unsubscribe_of(&mut *out, at, s, m),
+        Packet::PingReq => at,
+        Packet::PingResp => at,
     }
+}
+
+// The word for a number's kind.
+fn kind_word(out: &mut [u8], at: usize, num: u8) -> usize {
+    let shown = kinds::word_of(num);
+    let bytes = shown.bytes;
+    let text = Span {
+        start: 0,
+        len: shown.len,
+    };
+    output::word(&mut *out, at, string::part(&bytes, text))
 }
 
 // Of the packet p that was read from s.
 pub fn packet(out: &mut [u8], at: usize, offset: u64, s: &[u8], p: Packet, taken: usize) -> usize {
     let a = output::decimal(&mut *out, at, offset);
-    let b = fields(&mut *out, a, s, p, taken);
-    output::word(&mut *out, b, b"\n")
+    let b = output::word(&mut *out, a, b" ");
+    let c = kind_word(&mut *out, b, counts::number_in(p));
+    let d = field::number(&mut *out, c, b" taken=", taken as u64);
+    let e = fields(&mut *out, d, s, p);
+    output::word(&mut *out, e, b"\n")
 }

@@ -1,4 +1,5 @@
-// The fields of lists, each list in one pass over its place: user properties and subscription identifiers of a block, filters of a run.
+// The fields of lists, each list in one pass over its place: user properties and subscription identifiers of a block; filters, topics and
+// reasons of a run.
 use crate::field;
 use crate::output;
 use codes;
@@ -9,6 +10,7 @@ use property_value::Value;
 use records::span::Span;
 use records::subscribe_record::Filter;
 use tables::property::PropertyPlace;
+use wire::got::GotSpan;
 use wire::string;
 
 // The field of a value that is a pair: only user properties are.
@@ -91,6 +93,33 @@ fn filters_in(out: &mut [u8], at: usize, s: &[u8]) -> usize {
     next
 }
 
+// The topics that fill s.
+fn topics_in(out: &mut [u8], at: usize, s: &[u8]) -> usize {
+    let mut next = at;
+    let mut i: usize = 0;
+    while i < s.len() {
+        match string::read_mqtt_string(s, i) {
+            GotSpan::Refused(_) => return next,
+            GotSpan::Value(topic, end) => {
+                next = field::part(&mut *out, next, b" filter=\"", s, topic);
+                i = end;
+            }
+        }
+    }
+    next
+}
+
+// The reasons that are the bytes of s.
+fn reasons_in(out: &mut [u8], at: usize, s: &[u8]) -> usize {
+    let mut next = at;
+    let mut i: usize = 0;
+    while i < s.len() {
+        next = field::reason(&mut *out, next, s[i]);
+        i = i + 1;
+    }
+    next
+}
+
 // The user properties of the block at a place of s.
 pub fn users(out: &mut [u8], at: usize, place: PropertyPlace, s: &[u8], block: Span) -> usize {
     values(&mut *out, at, place, string::part(s, block), true)
@@ -110,4 +139,14 @@ pub fn identifiers(out: &mut [u8], at: usize, s: &[u8], block: Span) -> usize {
 // The filters of the run at a place of s.
 pub fn filters(out: &mut [u8], at: usize, s: &[u8], run: Span) -> usize {
     filters_in(&mut *out, at, string::part(s, run))
+}
+
+// The topics of the run at a place of s.
+pub fn topics(out: &mut [u8], at: usize, s: &[u8], run: Span) -> usize {
+    topics_in(&mut *out, at, string::part(s, run))
+}
+
+// The reasons of the run at a place of s.
+pub fn reasons(out: &mut [u8], at: usize, s: &[u8], run: Span) -> usize {
+    reasons_in(&mut *out, at, string::part(s, run))
 }
