@@ -10,7 +10,7 @@ use Rattle.reading.specs.Place.{asPlaces, heldOf}
 use Rattle.reading.specs.Place as place
 use Rattle.records.specs.Told.{toldError}
 use Rattle.records.specs.Said.{toldAck, toldBlock}
-use Rattle.records.specs.declared.ack_record.Ack.{Ack}
+use Rattle.records.specs.declared.properties_record.MaybeProperties.{MaybeProperties}
 use Rattle.wire.specs.Told.{stringIf, inBlock}
 use Rattle.ack.specs.declared.GotAck.{GotAck}
 use Rattle.ack.specs.declared.GotLastBlock.{GotLastBlock}
@@ -39,10 +39,10 @@ afterIdent rs i end b = ackRestFit asPlaces rs end b >>= acked i
 
 -- ---- the reason string
 
--- 01, table of properties, 31: the reason string of m; absent where there is no block
-abbrev pub reason : Ack → Option (Val place.Span)
-reason m = inBlock (λ ps. ps .reason) (toldBlock (m .properties))
+-- 01, table of properties, 31: the reason string of an acknowledgement or reply; absent where there is no block
+abbrev pub reason : MaybeProperties → Option (Val place.Span)
+reason properties = inBlock (λ ps. ps .reason) (toldBlock properties)
 
--- the part of it in the stream s; demand 1: any record with any stream, so what lies outside is empty, and what is absent
-abbrev pub reasonIn : List ℕ → Ack → List ℕ
-reasonIn s m = stringIf (heldOf s) (reason m)
+-- the bytes of it in the stream s; demand 1: any record with any stream, so what lies outside is empty, and what is absent
+abbrev pub reasonIn : List ℕ → MaybeProperties → List ℕ
+reasonIn s properties = stringIf (heldOf s) (reason properties)

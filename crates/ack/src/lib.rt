@@ -21,7 +21,8 @@ ghost use Rattle.grammar.specs.Record.{kindOf};
 ghost use Rattle.reading.specs.Read.{ackBlockFit, fieldsFit};
 ghost use Rattle.reading.specs.Place.{asPlaces, onGot};
 ghost use Rattle.records.specs.Told.{toldString, toldAckKind};
-ghost use Rattle.ack.specs.Told.{toldGotAck, toldLastBlock, behindReason, afterIdent, reason, reasonIn};
+ghost use Rattle.wire.specs.Part.{PartAt, placeIf};
+ghost use Rattle.ack.specs.Told.{toldGotAck, toldLastBlock, behindReason, afterIdent, reason};
 
 pub enum GotAck {
     Value(Ack),
@@ -96,10 +97,9 @@ pub fn read(kind: AckKind, s: &[u8], at: usize) -> GotAck
 }
 
 // Where the reason string stands; absent where there is no block.
-fn reason_place(m: Ack) -> MaybeSpan
-    ensures { λ r. ⌜ toldString r ≡ reason m ⌝ }
+fn reason_place(properties: MaybeProperties) -> MaybeSpan
+    ensures { λ r. ⌜ toldString r ≡ reason properties ⌝ }
 {
-    let properties = m.properties;
     match properties {
         MaybeProperties::Absent => MaybeSpan::Absent,
         MaybeProperties::Present(p) => {
@@ -109,9 +109,9 @@ fn reason_place(m: Ack) -> MaybeSpan
     }
 }
 
-// The reason string of `m`, which was read from `s`; the empty part if it is absent or lies outside.
-pub fn reason_string<'a>(s: &'a [u8], m: Ack) -> &'a [u8]
-    ensures { λ r. ⌜ now r ≡ reasonIn (now (s .entry)) m ⌝ }
+// The reason string of an acknowledgement or reply with these properties, which was read from `s`; the empty part if it is absent or lies outside.
+pub fn reason_string<'a>(s: &'a [u8], properties: MaybeProperties) -> &'a [u8]
+    ensures { λ r. ⌜ PartAt (s .entry) (placeIf (reason properties)) r ⌝ }
 {
-    string::part_if(s, reason_place(m))
+    string::part_if(s, reason_place(properties))
 }

@@ -3,22 +3,24 @@ use mathlib.Core.Path.{_≡_, refl, ap, _∙_}
 use mathlib.Core.Option.{Option, none, some}
 use mathlib.Core.List.{List}
 use Prim.Native.Nat.{ℕ}
-use Rattle.grammar.specs.Tables.{publishPlace, ackPlace}
-use Rattle.grammar.specs.Record.{Val, num, str, duo, PublishProps, Props, publish, ack}
+use Rattle.grammar.specs.Tables.{publishPlace, ackPlace, reasonsOf}
+use Rattle.grammar.specs.Record.{Val, num, str, duo, PublishProps, Props, publish, ack, reply}
 use Rattle.grammar.specs.Record as record-of
 use Rattle.grammar.specs.Sentence.{Value, Packet}
 use Rattle.reading.specs.Reader.{Fit, got, bad}
-use Rattle.reading.specs.Read.{asBytes}
-use Rattle.reading.specs.Place.{Span, heldOf, valuesAt, onGot, onSome, ifSome, sayVal, sayPublishProps, sayProps, say}
+use Rattle.reading.specs.Read.{asBytes, reasonsFit}
+use Rattle.reading.specs.Place.{Span, heldOf, again, valuesAt, onGot, onSome, ifSome, sayVal, sayPublishProps, sayProps, say}
 use Rattle.reading.proofs.Reading.{bad-got, from-got, from-bind}
-use Rattle.records.specs.Told.{toldAckKind}
+use Rattle.records.specs.Told.{toldAckKind, toldReplyKind, toldSpan}
 use Rattle.records.specs.Said.{toldPublishBlock, toldBlock, toldPacket}
 use Rattle.records.specs.declared.packet_record.Packet as code
 use Rattle.records.specs.declared.ack_record.Ack.{Ack}
 use Rattle.records.specs.declared.ack_record.AckKind.{AckKind}
 use Rattle.records.specs.declared.publish_record.Publish.{Publish}
+use Rattle.records.specs.declared.reply_record.Reply.{Reply}
+use Rattle.records.specs.declared.reply_record.ReplyKind.{ReplyKind}
 use Rattle.wire.specs.Told.{stringIf, inBlock}
-use Rattle.promises.specs.Reading.{itself, PublishParts, AckParts}
+use Rattle.promises.specs.Reading.{itself, PublishParts, ReasonPart}
 
 module _ (s : List ℕ) where
   -- ---- a string of a block
@@ -72,12 +74,17 @@ module _ (s : List ℕ) where
         },
       )
 
-  -- ---- the publish acknowledgements
+  -- ---- the acknowledgements and replies
 
   reason-said : (p : Props Span (λ A. Span)) (q : Props (List ℕ) List) → sayProps s ackPlace p ≡ got q → Said (p .reason) (q .reason)
   reason-said p = from-bind (valuesAt asBytes s (p .user) ackPlace 38) _ λ us e. from-got (λ q. Said (p .reason) (q .reason)) _ refl
 
-  pub ack-parts : (k : AckKind) (m : Ack) (v : Packet) → say s (toldPacket (code.Packet.Ack k m)) ≡ got v → (w : record-of.Ack (List ℕ) List) × (v ≡ ack (toldAckKind k) w) × AckParts s m w
+  pub ack-parts : (k : AckKind) (m : Ack) (v : Packet) → say s (toldPacket (code.Packet.Ack k m)) ≡ got v → (w : record-of.Ack (List ℕ) List) × (v ≡ ack (toldAckKind k) w) × ReasonPart s (m .properties) (w .props)
   ack-parts k m = from-bind (ifSome (sayProps s ackPlace) (toldBlock (m .properties))) _ λ ps e.
-      from-got (λ (v : Packet). (w : record-of.Ack (List ℕ) List) × (v ≡ ack (toldAckKind k) w) × AckParts s m w) _
+      from-got (λ (v : Packet). (w : record-of.Ack (List ℕ) List) × (v ≡ ack (toldAckKind k) w) × ReasonPart s (m .properties) (w .props)) _
+      (_, refl, record { reason = part-said (λ p. p .reason) (λ q. q .reason) (sayProps s ackPlace) reason-said (toldBlock (m .properties)) ps e })
+
+  pub reply-parts : (k : ReplyKind) (m : Reply) (v : Packet) → say s (toldPacket (code.Packet.Reply k m)) ≡ got v → (w : record-of.Reply (List ℕ) List) × (v ≡ reply (toldReplyKind k) w) × ReasonPart s (m .properties) (w .props)
+  reply-parts k m = from-bind (ifSome (sayProps s ackPlace) (toldBlock (m .properties))) _ λ ps e. from-bind (again (reasonsFit (reasonsOf (toldReplyKind k))) s (toldSpan (m .reasons))) _ λ cs i.
+      from-got (λ (v : Packet). (w : record-of.Reply (List ℕ) List) × (v ≡ reply (toldReplyKind k) w) × ReasonPart s (m .properties) (w .props)) _
       (_, refl, record { reason = part-said (λ p. p .reason) (λ q. q .reason) (sayProps s ackPlace) reason-said (toldBlock (m .properties)) ps e })

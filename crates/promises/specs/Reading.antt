@@ -1,5 +1,6 @@
 -- What the parts and the items of a record are to say. Assumes nothing.
 use mathlib.Core.Path.{_≡_}
+use mathlib.Core.Option.{Option}
 use mathlib.Core.List.{List}
 use Prim.Native.Nat.{ℕ}
 use Rattle.grammar.specs.Tables.{Place}
@@ -10,7 +11,7 @@ use Rattle.records.specs.Answered.{toldUser, toldIdentifier, toldFilterItem}
 use Rattle.records.specs.declared.answer.UserItem.{UserItem}
 use Rattle.records.specs.declared.answer.IdentifierItem.{IdentifierItem}
 use Rattle.records.specs.declared.answer.FilterItem.{FilterItem}
-use Rattle.records.specs.declared.ack_record.Ack.{Ack}
+use Rattle.records.specs.declared.properties_record.MaybeProperties.{MaybeProperties}
 use Rattle.records.specs.declared.publish_record.Publish.{Publish}
 use Rattle.records.specs.declared.span.Span.{Span}
 use Rattle.wire.specs.Told.{stringIf, inBlock}
@@ -38,9 +39,9 @@ pub record PublishParts (s : List ℕ) (m : Publish) (w : record-of.Publish (Lis
   pub correlation : correlationIn s m ≡ stringIf itself (inBlock (λ ps. ps .correlation) (w .props))
   pub content : contentIn s m ≡ stringIf itself (inBlock (λ ps. ps .content) (w .props))
 
--- the same of the reason string of a publish acknowledgement
-pub record AckParts (s : List ℕ) (m : Ack) (w : record-of.Ack (List ℕ) List) : Type 0 where
-  pub reason : reasonIn s m ≡ stringIf itself (inBlock (λ ps. ps .reason) (w .props))
+-- the same of the reason string of an acknowledgement or reply with these properties
+pub record ReasonPart (s : List ℕ) (properties : MaybeProperties) (w : Option (record-of.Props (List ℕ) List)) : Type 0 where
+  pub reason : reasonIn s properties ≡ stringIf itself (inBlock (λ ps. ps .reason) w)
 
 -- ---- items
 

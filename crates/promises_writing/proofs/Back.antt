@@ -43,10 +43,10 @@ use Rattle.records.specs.declared.reply_record.ReplyKind.{ReplyKind}
 use Rattle.records.specs.declared.unsubscribe_record.Unsubscribe.{Unsubscribe}
 use Rattle.packet.specs.Told.{Says}
 use Rattle.packet.specs.Told as reading
-use Rattle.promises.specs.Reading.{PublishParts, AckParts, UserItems, IdentifierItems, FilterItems, ReasonItems, TopicItems}
+use Rattle.promises.specs.Reading.{PublishParts, ReasonPart, UserItems, IdentifierItems, FilterItems, ReasonItems, TopicItems}
 use Rattle.promises.proofs.Reading.{sentence-read}
 use Rattle.promises.proofs.Reading as promises
-use Rattle.promises.proofs.Parts.{publish-parts, ack-parts}
+use Rattle.promises.proofs.Parts.{publish-parts, ack-parts, reply-parts}
 use Rattle.promises.proofs.Items.{publish-items, ack-items, subscribe-items, reply-items, unsubscribe-items, filter-items, reason-items, topic-items}
 use Rattle.packet_parts.specs.Parts.{Parts, foreign}
 use Rattle.packet_write.specs.Union.{own, unionOf}
@@ -162,7 +162,7 @@ module _ (limit : Limit) (alone : Bool) (h : Handed) (before after : List ℕ) (
         let b : accepted (said h) n ≡ accepted v n = got-inj (sym a ∙ e) in
         cc
 
-    -- ---- the parts of a Publish and of its acknowledgements, as the functions of `publish_parts` and `ack` give them
+    -- ---- the parts of a Publish, an acknowledgement and a reply, as the functions of `publish_parts` and `ack` give them
 
     told-by : (p : code.Packet) → r ≡ Read.Packet p n → say (frameBytes h ++ rest) (toldPacket p) ≡ got (said h)
     told-by p e =
@@ -174,8 +174,11 @@ module _ (limit : Limit) (alone : Bool) (h : Handed) (before after : List ℕ) (
     pub publish-back : (x : Publish) → r ≡ Read.Packet (code.Packet.Publish x) n → (v : record-of.Publish (List ℕ) List) × (said h ≡ record-of.publish v) × PublishParts (frameBytes h ++ rest) x v
     publish-back x e = publish-parts (frameBytes h ++ rest) x (said h) (told-by (code.Packet.Publish x) e)
 
-    pub ack-back : (k : AckKind) (x : Ack) → r ≡ Read.Packet (code.Packet.Ack k x) n → (v : record-of.Ack (List ℕ) List) × (said h ≡ record-of.ack (toldAckKind k) v) × AckParts (frameBytes h ++ rest) x v
+    pub ack-back : (k : AckKind) (x : Ack) → r ≡ Read.Packet (code.Packet.Ack k x) n → (v : record-of.Ack (List ℕ) List) × (said h ≡ record-of.ack (toldAckKind k) v) × ReasonPart (frameBytes h ++ rest) (x .properties) (v .props)
     ack-back k x e = ack-parts (frameBytes h ++ rest) k x (said h) (told-by (code.Packet.Ack k x) e)
+
+    pub reply-back : (k : ReplyKind) (x : Reply) → r ≡ Read.Packet (code.Packet.Reply k x) n → (v : record-of.Reply (List ℕ) List) × (said h ≡ record-of.reply (toldReplyKind k) v) × ReasonPart (frameBytes h ++ rest) (x .properties) (v .props)
+    reply-back k x e = reply-parts (frameBytes h ++ rest) k x (said h) (told-by (code.Packet.Reply k x) e)
 
   -- the output itself, read
   pub output-read : (r : Read) → reading.Meets Limit.Unlimited after r → ReadsAs after r (said h) n

@@ -9,18 +9,20 @@ use records::span::MaybeU32;
 use records::span::Span;
 use wire::string;
 ghost use mathlib.Core.Path.{_≡_};
-ghost use Rattle.publish_parts.specs.Parts.{topicIn, payloadIn, Strings, responseIn, correlationIn, contentIn};
+ghost use Rattle.records.specs.Told.{toldSpan};
+ghost use Rattle.wire.specs.Part.{PartAt, placeIf};
+ghost use Rattle.publish_parts.specs.Parts.{Strings, response, correlation, content};
 
 // The topic of `m`, which was read from `s`; the empty part if it lies outside. The same goes for every part.
 pub fn topic<'a>(s: &'a [u8], m: Publish) -> &'a [u8]
-    ensures { λ r. ⌜ now r ≡ topicIn (now (s .entry)) m ⌝ }
+    ensures { λ r. ⌜ PartAt (s .entry) (toldSpan (m .topic)) r ⌝ }
 {
     string::part(s, m.topic)
 }
 
 // The payload of `m`.
 pub fn payload<'a>(s: &'a [u8], m: Publish) -> &'a [u8]
-    ensures { λ r. ⌜ now r ≡ payloadIn (now (s .entry)) m ⌝ }
+    ensures { λ r. ⌜ PartAt (s .entry) (toldSpan (m .payload)) r ⌝ }
 {
     string::part(s, m.payload)
 }
@@ -46,7 +48,7 @@ fn given(m: Publish) -> PublishProperties
 
 // Empty if it is absent, as the next two.
 pub fn response_topic<'a>(s: &'a [u8], m: Publish) -> &'a [u8]
-    ensures { λ r. ⌜ now r ≡ responseIn (now (s .entry)) m ⌝ }
+    ensures { λ r. ⌜ PartAt (s .entry) (placeIf (response m)) r ⌝ }
 {
     let p = given(m);
     let place = p.response_topic;
@@ -55,7 +57,7 @@ pub fn response_topic<'a>(s: &'a [u8], m: Publish) -> &'a [u8]
 
 // The correlation data of `m`.
 pub fn correlation_data<'a>(s: &'a [u8], m: Publish) -> &'a [u8]
-    ensures { λ r. ⌜ now r ≡ correlationIn (now (s .entry)) m ⌝ }
+    ensures { λ r. ⌜ PartAt (s .entry) (placeIf (correlation m)) r ⌝ }
 {
     let p = given(m);
     let place = p.correlation_data;
@@ -64,7 +66,7 @@ pub fn correlation_data<'a>(s: &'a [u8], m: Publish) -> &'a [u8]
 
 // The content type of `m`.
 pub fn content_type<'a>(s: &'a [u8], m: Publish) -> &'a [u8]
-    ensures { λ r. ⌜ now r ≡ contentIn (now (s .entry)) m ⌝ }
+    ensures { λ r. ⌜ PartAt (s .entry) (placeIf (content m)) r ⌝ }
 {
     let p = given(m);
     let place = p.content_type;

@@ -1,9 +1,9 @@
 // Indexes in a run of bytes or in an output: an index past the end is the end, so that no sum can wrap. Whether lengths add up to a run.
 ghost use mathlib.Core.Path.{_≡_};
 ghost use Prim.Native.Nat.{_+_, min};
-ghost use lib.ListN.{take, drop};
 ghost use Rattle.writing.specs.Handed.{addsUp};
 ghost use Rattle.rows.specs.Given.{run as runOf};
+ghost use Rattle.rows.specs.Piece.{PieceAt};
 
 // The index n bytes after `at`, where there are `room` in all.
 pub fn after(room: usize, at: usize, n: usize) -> usize
@@ -20,7 +20,7 @@ pub fn after(room: usize, at: usize, n: usize) -> usize
 
 // The n bytes at an index of the run, or as many as there are.
 pub fn piece<'a>(run: &'a [u8], at: usize, n: usize) -> &'a [u8]
-    ensures { λ r. ⌜ now r ≡ take n (drop at (now (run .entry))) ⌝ }
+    ensures { λ r. ⌜ PieceAt (run .entry) at n r ⌝ }
 {
     if run.len() <= at {
         return &run[..0];

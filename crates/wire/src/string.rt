@@ -9,10 +9,11 @@ use records::span::Span;
 ghost use mathlib.Core.Path.{_≡_};
 ghost use lib.ListN.{length};
 ghost use Rattle.reading.specs.Read.{bytesOf, textOf};
-ghost use Rattle.reading.specs.Place.{asPlaces, heldOf, liesIn};
+ghost use Rattle.reading.specs.Place.{asPlaces, liesIn};
 ghost use Rattle.positions.specs.Position.{fromAt};
 ghost use Rattle.records.specs.Told.{toldSpan, toldString};
-ghost use Rattle.wire.specs.Told.{toldPart, stringIf};
+ghost use Rattle.wire.specs.Part.{PartAt, placeIf};
+ghost use Rattle.wire.specs.Told.{toldPart};
 
 // The place of a string of any bytes.
 pub fn read_mqtt_bytes(s: &[u8], at: usize) -> GotSpan
@@ -59,7 +60,7 @@ pub fn within(s: &[u8], p: Span) -> bool
 
 // The part of `s` at a place; the empty part if it does not lie within.
 pub fn part<'a>(s: &'a [u8], p: Span) -> &'a [u8]
-    ensures { λ r. ⌜ now r ≡ heldOf (now (s .entry)) (toldSpan p) ⌝ }
+    ensures { λ r. ⌜ PartAt (s .entry) (toldSpan p) r ⌝ }
 {
     if within(s, p) {
         let start = p.start;
@@ -72,10 +73,10 @@ pub fn part<'a>(s: &'a [u8], p: Span) -> &'a [u8]
 
 // The same of a place that may be absent, which gives the empty part.
 pub fn part_if<'a>(s: &'a [u8], p: MaybeSpan) -> &'a [u8]
-    ensures { λ r. ⌜ now r ≡ stringIf (heldOf (now (s .entry))) (toldString p) ⌝ }
+    ensures { λ r. ⌜ PartAt (s .entry) (placeIf (toldString p)) r ⌝ }
 {
     match p {
-        MaybeSpan::Absent => &s[..0],
+        MaybeSpan::Absent => part(s, Span { start: 0, len: 0 }),
         MaybeSpan::Present(q) => part(s, q),
     }
 }

@@ -1,7 +1,5 @@
 -- `ack::reason_string` is right since the place is the one that `reason_place` finds, and `part_if` gives what is held there. Assumes nothing.
-use mathlib.Core.Path.{ap, _∙_}
 use borrow.Author.Needs.{needs}
-use Rattle.wire.specs.Told.{stringIf}
 use Rattle.ack.proofs.reason_string.Statement.{statement}
 use Rattle.ack.proofs.reason_string.Tie as tie
 
@@ -12,7 +10,7 @@ part-if-requires : tie.Need-part-if-requires
 part-if-requires c κs = search needs
 
 returns : tie.Need-returns
-returns c = c .part-if .ensures ∙ ap (stringIf _) (c .before .reason-place .ensures)
+returns c = rw (c .before .reason-place .ensures) at (c .part-if .ensures)
 
 pub reason-string-spec : {M : Type 1} → statement M
 reason-string-spec = tie.close (tie.spec reason-place-requires part-if-requires returns)

@@ -54,7 +54,7 @@ add-n c =
     let l = c .before .before .before .before .before .before .before .before .before .loop in
     let k = filter-count _ _ _ _ _ _ (c .before .before .put-filter .ensures) in
     let w = piece-within (now (a .bytes)) (l .from) (getD (now (a .lengths)) (l .i) 0) (l .inv .2) in
-    omega (arith, k, w, ap length (c .before .before .before .before .piece .ensures), l .inv .1, c .before .before .before .before .before .before .before .before .before .before .how-many .ensures, c .before .before .before .before .before .before .before .before .loop-test .taken)
+    omega (arith, k, w, ap length (c .before .before .before .before .piece .ensures .bytes), l .inv .1, c .before .before .before .before .before .before .before .before .before .before .how-many .ensures, c .before .before .before .before .before .before .before .before .loop-test .taken)
 
 after-requires-2 : tie.Need-after-requires-2 Inv-loop μ-loop
 after-requires-2 c κs = search needs
@@ -72,7 +72,7 @@ loop-again c =
     let k = filter-count _ _ _ _ _ _ (c .before .before .before .put-filter .ensures) in
     let w = piece-ends (now (a .bytes)) (l .from) _ (l .inv .2) _ (c .after2 .ensures) in
     let e = ap (flat filterBytes) (filters-cut (run (now (a .bytes)) (now (a .lengths))) (l .i) (l .from) _ (c .after2 .ensures) (now (a .options)) (omega (arith, c .before .before .before .before .before .before .before .before .before .before .before .how-many .ensures, c .before .before .before .before .before .before .before .before .before .loop-test .taken))) in
-    (put-more (l .inv .0) _ _ (e ∙ rw (sym (c .before .before .before .before .before .piece .ensures))) _ (c .before .before .before .before .before .before .before .after .ensures) _ _ (c .before .before .before .put-filter .ensures), omega (arith, k, w, ap length (c .before .before .before .before .before .piece .ensures), l .inv .1), omega (arith, c .after2 .ensures))
+    (put-more (l .inv .0) _ _ (e ∙ rw (sym (c .before .before .before .before .before .piece .ensures .bytes))) _ (c .before .before .before .before .before .before .before .after .ensures) _ _ (c .before .before .before .put-filter .ensures), omega (arith, k, w, ap length (c .before .before .before .before .before .piece .ensures .bytes), l .inv .1), omega (arith, c .after2 .ensures))
 
 same-length : tie.Need-same-length Inv-loop μ-loop
 same-length c = c .before .loop .inv .0 .same

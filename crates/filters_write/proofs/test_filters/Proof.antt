@@ -51,7 +51,7 @@ returns : tie.Need-returns Inv-loop μ-loop
 returns c =
     let a = c .before .before .before .before .before .before .before .before .before .before .before .before .before .args in
     let l = c .before .before .before .before .before .before .before .before .loop in
-    let w = sym (ap toldTested (c .before .e .given .1)) ∙ c .before .before .before .test-filter .ensures ∙ ap (λ (s : List ℕ). judge (fieldTests (filter s (getD (now (a .options)) (l .i) 0)))) (c .before .before .before .before .before .piece .ensures) in
+    let w = sym (ap toldTested (c .before .e .given .1)) ∙ c .before .before .before .test-filter .ensures ∙ ap (λ (s : List ℕ). judge (fieldTests (filter s (getD (now (a .options)) (l .i) 0)))) (c .before .before .before .before .before .piece .ensures .bytes) in
     field-refused (l .inv) _ _ (ap (map filterField) (filters-cut (run (now (a .bytes)) (now (a .lengths))) (l .i) (l .at) _ refl (now (a .options)) (omega arith))) _ w
 
 enum-told : tie.Need-enum-told Inv-loop μ-loop
@@ -70,7 +70,7 @@ loop-again : tie.Need-loop-again Inv-loop μ-loop
 loop-again c =
     let a = c .before .before .before .before .before .before .before .before .before .before .before .before .before .args in
     let l = c .before .before .before .before .before .before .before .before .loop in
-    let w = sym (ap toldTested (c .before .enum-told .given .1)) ∙ c .before .before .before .test-filter .ensures ∙ ap (λ (s : List ℕ). judge (fieldTests (filter s (getD (now (a .options)) (l .i) 0)))) (c .before .before .before .before .before .piece .ensures) in
+    let w = sym (ap toldTested (c .before .enum-told .given .1)) ∙ c .before .before .before .test-filter .ensures ∙ ap (λ (s : List ℕ). judge (fieldTests (filter s (getD (now (a .options)) (l .i) 0)))) (c .before .before .before .before .before .piece .ensures .bytes) in
     field-passed (l .inv) _ _ (ap (map filterField) (filters-cut (run (now (a .bytes)) (now (a .lengths))) (l .i) (l .at) _ (c .after .ensures) (now (a .options)) (omega arith))) w
 
 returns-2 : tie.Need-returns-2 Inv-loop μ-loop

@@ -27,7 +27,7 @@ same-length c = search needs
 returns : tie.Need-returns
 returns c =
     let e = c .before .before .before .before .before .before .before .before .before .args .e in
-    let h = rw (c .before .before .before .before .before .before .before .name .ensures) at (c .before .before .before .part .ensures) in
+    let h = rw (c .before .before .before .before .before .before .before .name .ensures) at (c .before .before .before .part .ensures .bytes) in
     let w = rw (h ∙ name-part (nameOf e) (24 - length (nameOf e))) at (c .before .before .word .ensures) in
     (w, omega (arith, w .behind, name-short e))
 

@@ -63,7 +63,7 @@ put-pair-requires c κs =
     let l = c .before .before .before .before .before .before .before .before .loop in
     let u = piece-ends (now (a .bytes)) (l .from) _ (l .inv .2) _ (c .before .before .before .before .after .ensures) in
     let w = piece-within (now (a .bytes)) (c .before .before .before .before .after .result) (getD (now (a .lengths)) (l .i + 1) 0) (omega (arith, c .before .before .before .before .after .ensures)) in
-    omega (arith, u, w, ap length (c .before .piece .ensures), ap length (c .piece2 .ensures))
+    omega (arith, u, w, ap length (c .before .piece .ensures .bytes), ap length (c .piece2 .ensures .bytes))
 
 add-n : tie.Need-add-n Inv-loop μ-loop
 add-n c =
@@ -72,7 +72,7 @@ add-n c =
     let k = pair-count _ _ _ _ _ _ (c .before .before .put-pair .ensures) in
     let u = piece-ends (now (a .bytes)) (l .from) _ (l .inv .2) _ (c .before .before .before .before .before .before .before .after .ensures) in
     let w = piece-within (now (a .bytes)) (c .before .before .before .before .before .before .before .after .result) (getD (now (a .lengths)) (l .i + 1) 0) (omega (arith, c .before .before .before .before .before .before .before .after .ensures)) in
-    omega (arith, k, u, w, ap length (c .before .before .before .before .piece .ensures), ap length (c .before .before .before .piece2 .ensures), l .inv .1, c .before .before .before .before .before .before .before .before .before .before .loop-test .taken)
+    omega (arith, k, u, w, ap length (c .before .before .before .before .piece .ensures .bytes), ap length (c .before .before .before .piece2 .ensures .bytes), l .inv .1, c .before .before .before .before .before .before .before .before .before .before .loop-test .taken)
 
 after-requires-3 : tie.Need-after-requires-3 Inv-loop μ-loop
 after-requires-3 c κs = search needs
@@ -92,7 +92,7 @@ loop-again c =
     let u = piece-ends (now (a .bytes)) (l .from) _ (l .inv .2) _ (mid .ensures) in
     let w = piece-ends (now (a .bytes)) (mid .result) _ (omega (arith, mid .ensures)) _ (c .after3 .ensures) in
     let e = pairs-cut (run (now (a .bytes)) (now (a .lengths))) (l .i) (l .from) _ _ (mid .ensures) (c .after3 .ensures) (c .before .before .before .before .before .before .before .before .before .before .before .loop-test .taken) in
-    (put-more (l .inv .0) _ _ (e ∙ rw (sym (c .before .before .before .before .before .piece .ensures), sym (c .before .before .before .before .piece2 .ensures))) _ (c .before .before .before .before .before .before .before .after2 .ensures) _ _ (c .before .before .before .put-pair .ensures), omega (arith, k, u, w, ap length (c .before .before .before .before .before .piece .ensures), ap length (c .before .before .before .before .piece2 .ensures), l .inv .1), omega (arith, c .after3 .ensures), omega (arith, c .before .before .before .before .before .before .before .before .before .before .before .loop-test .taken))
+    (put-more (l .inv .0) _ _ (e ∙ rw (sym (c .before .before .before .before .before .piece .ensures .bytes), sym (c .before .before .before .before .piece2 .ensures .bytes))) _ (c .before .before .before .before .before .before .before .after2 .ensures) _ _ (c .before .before .before .put-pair .ensures), omega (arith, k, u, w, ap length (c .before .before .before .before .before .piece .ensures .bytes), ap length (c .before .before .before .before .piece2 .ensures .bytes), l .inv .1), omega (arith, c .after3 .ensures), omega (arith, c .before .before .before .before .before .before .before .before .before .before .before .loop-test .taken))
 
 same-length : tie.Need-same-length Inv-loop μ-loop
 same-length c = c .before .loop .inv .0 .same

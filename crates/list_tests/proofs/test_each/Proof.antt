@@ -44,7 +44,7 @@ returns : tie.Need-returns Inv-loop μ-loop
 returns c =
     let a = c .before .before .before .before .before .before .before .before .before .before .args in
     let l = c .before .before .before .before .before .before .before .loop in
-    let w = sym (ap toldTested (c .before .e .given .1)) ∙ c .before .before .before .test-word .ensures ∙ ap (λ (s : List ℕ). judge (fieldTests (word s))) (c .before .before .before .before .piece .ensures) in
+    let w = sym (ap toldTested (c .before .e .given .1)) ∙ c .before .before .before .test-word .ensures ∙ ap (λ (s : List ℕ). judge (fieldTests (word s))) (c .before .before .before .before .piece .ensures .bytes) in
     field-refused (l .inv) _ _ (ap (map word) (strings-cut (run (now (a .bytes)) (now (a .lengths))) (l .i) (l .at) _ refl (c .before .before .before .before .before .before .loop-test .taken))) _ w
 
 enum-told : tie.Need-enum-told Inv-loop μ-loop
@@ -63,7 +63,7 @@ loop-again : tie.Need-loop-again Inv-loop μ-loop
 loop-again c =
     let a = c .before .before .before .before .before .before .before .before .before .before .args in
     let l = c .before .before .before .before .before .before .before .loop in
-    let w = sym (ap toldTested (c .before .enum-told .given .1)) ∙ c .before .before .before .test-word .ensures ∙ ap (λ (s : List ℕ). judge (fieldTests (word s))) (c .before .before .before .before .piece .ensures) in
+    let w = sym (ap toldTested (c .before .enum-told .given .1)) ∙ c .before .before .before .test-word .ensures ∙ ap (λ (s : List ℕ). judge (fieldTests (word s))) (c .before .before .before .before .piece .ensures .bytes) in
     field-passed (l .inv) _ _ (ap (map word) (strings-cut (run (now (a .bytes)) (now (a .lengths))) (l .i) (l .at) _ (c .after .ensures) (c .before .before .before .before .before .before .loop-test .taken))) w
 
 returns-2 : tie.Need-returns-2 Inv-loop μ-loop

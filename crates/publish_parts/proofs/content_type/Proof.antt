@@ -1,7 +1,5 @@
 -- `publish_parts::content_type` is right since the place is the one that is given, and `part_if` gives what is held there. Assumes nothing.
-use mathlib.Core.Path.{ap, _∙_}
 use borrow.Author.Needs.{needs}
-use Rattle.wire.specs.Told.{stringIf}
 use Rattle.publish_parts.proofs.content_type.Statement.{statement}
 use Rattle.publish_parts.proofs.content_type.Tie as tie
 
@@ -12,7 +10,7 @@ part-if-requires : tie.Need-part-if-requires
 part-if-requires c κs = search needs
 
 returns : tie.Need-returns
-returns c = c .part-if .ensures ∙ ap (stringIf _) (c .before .given .ensures .content-type)
+returns c = rw (c .before .given .ensures .content-type) at (c .part-if .ensures)
 
 pub content-type-spec : {M : Type 1} → statement M
 content-type-spec = tie.close (tie.spec given-requires part-if-requires returns)

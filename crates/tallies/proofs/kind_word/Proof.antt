@@ -41,7 +41,7 @@ returns : tie.Need-returns
 returns c =
     let num = c .before .before .before .before .before .before .before .before .before .before .before .before .before .before .args .num in
     let p = c .before .before .before .before .before .before .before .before .before .before .put-word .ensures in
-    let h = rw (c .before .before .before .before .before .before .before .word-of .ensures) at (c .before .before .before .part .ensures) in
+    let h = rw (c .before .before .before .before .before .before .before .word-of .ensures) at (c .before .before .before .part .ensures .bytes) in
     let w = rw (h ∙ name-part (wordOf num) (11 - length (wordOf num))) at (c .before .before .put-word2 .ensures) in
     (then p w, omega (arith, p .behind, w .behind, word-short num))
 

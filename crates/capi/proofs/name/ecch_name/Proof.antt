@@ -21,7 +21,7 @@ same-length : tie.Need-same-length
 same-length c = search needs
 
 returns : tie.Need-returns
-returns c = name-put _ (nameAt (c .before .before .before .before .before .before .before .before .before .args .number)) (c .before .before .before .before .before .before .before .name-at .ensures) (c .before .before .before .before .part .ensures) (c .before .before .put-bytes .ensures)
+returns c = name-put _ (nameAt (c .before .before .before .before .before .before .before .before .before .args .number)) (c .before .before .before .before .before .before .before .name-at .ensures) (c .before .before .before .before .part .ensures .bytes) (c .before .before .put-bytes .ensures)
 
 pub ecch-name-spec : {M : Type 1} → statement M
 ecch-name-spec =

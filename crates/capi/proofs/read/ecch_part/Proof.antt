@@ -9,7 +9,7 @@ part-requires : tie.Need-part-requires
 part-requires c κs = search needs
 
 returns : tie.Need-returns
-returns c = ap length (c .part .ensures)
+returns c = ap length (c .part .ensures .bytes)
 
 pub ecch-part-spec : {M : Type 1} → statement M
 ecch-part-spec = tie.close (tie.spec part-requires returns)

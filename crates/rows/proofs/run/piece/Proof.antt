@@ -1,5 +1,9 @@
 -- `rows::run::piece` is right since a part that is cut off at the end is as many bytes as there are. Assumes nothing.
+use mathlib.Core.Path.{refl}
+use native.Mathlib.Omega.{arith}
 use borrow.Author.Needs.{needs}
+use borrow.Author.Tests.{lt-ltb, le-ltb}
+use lib.ListN.{length}
 use denote.Ref.{now}
 use Rattle.rows.proofs.Laws.Run.{piece-none, piece-some}
 use Rattle.rows.proofs.run.piece.Statement.{statement}
@@ -9,7 +13,13 @@ slice-aggregate-result : tie.Need-slice-aggregate-result
 slice-aggregate-result c = search needs
 
 returns : tie.Need-returns
-returns c = let a = c .before .before .before .args in piece-none (now (a .run)) (a .at) (a .n) (c .before .if1 .taken)
+returns c =
+    let a = c .before .before .before .args in
+    record {
+      bytes = piece-none (now (a .run)) (a .at) (a .n) (c .before .if1 .taken);
+      block = refl;
+      start = rw (le-ltb (a .at) (length (now (a .run))) (c .before .if1 .taken)) (omega arith);
+    }
 
 after-requires : tie.Need-after-requires
 after-requires c κs = search needs
@@ -26,7 +36,11 @@ part-result-end c = search needs
 returns-2 : tie.Need-returns-2
 returns-2 c =
     let a = c .before .before .before .before .args in
-    piece-some (now (a .run)) (a .at) (a .n) (c .before .before .if1 .left) _ (c .before .after .ensures)
+    record {
+      bytes = piece-some (now (a .run)) (a .at) (a .n) (c .before .before .if1 .left) _ (c .before .after .ensures);
+      block = refl;
+      start = rw (lt-ltb (a .at) (length (now (a .run))) (c .before .before .if1 .left)) (omega arith);
+    }
 
 pub piece-spec : {M : Type 1} → statement M
 piece-spec =

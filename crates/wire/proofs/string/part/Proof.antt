@@ -1,5 +1,5 @@
 -- `wire::string::part` meets its contract: the part is handed back if it lies within. Assumes nothing.
-use mathlib.Core.Path.{sym, _∙_}
+use mathlib.Core.Path.{refl, sym, _∙_}
 use Prim.Native.Nat.{_+_}
 use native.Mathlib.Omega.{arith}
 use native.Mathlib.Nat.{add-sub-cancel-left}
@@ -8,7 +8,7 @@ use borrow.Author.Tests.{leb-true, leb-false}
 use lib.ListN.{length}
 use denote.Ref.{now}
 use Rattle.records.specs.Told.{toldSpan}
-use Rattle.wire.proofs.Laws.{held-within, held-outside}
+use Rattle.wire.proofs.Laws.{held-within, held-outside, start-within, start-outside}
 use Rattle.wire.proofs.string.part.Statement.{statement}
 use Rattle.wire.proofs.string.part.Tie as tie
 
@@ -35,7 +35,11 @@ returns : tie.Need-returns
 returns c =
     let a = c .before .before .before .before .args in
     let h = leb-true (a .p .start + a .p .len) (length (now (a .s))) (sym (c .before .before .within .ensures) ∙ c .before .if1 .taken) in
-    rw (add-sub-cancel-left) (held-within (now (a .s)) (toldSpan (a .p)) h)
+    record {
+      bytes = rw (add-sub-cancel-left) (held-within (now (a .s)) (toldSpan (a .p)) h);
+      block = refl;
+      start = rw (start-within (now (a .s)) (toldSpan (a .p)) h) (omega arith);
+    }
 
 slice-aggregate-result : tie.Need-slice-aggregate-result
 slice-aggregate-result c = search needs
@@ -43,7 +47,12 @@ slice-aggregate-result c = search needs
 returns-2 : tie.Need-returns-2
 returns-2 c =
     let a = c .before .before .before .before .args in
-    held-outside (now (a .s)) (toldSpan (a .p)) (leb-false (a .p .start + a .p .len) (length (now (a .s))) (sym (c .before .before .within .ensures) ∙ c .before .if1 .left))
+    let h = leb-false (a .p .start + a .p .len) (length (now (a .s))) (sym (c .before .before .within .ensures) ∙ c .before .if1 .left) in
+    record {
+      bytes = held-outside (now (a .s)) (toldSpan (a .p)) h;
+      block = refl;
+      start = rw (start-outside (now (a .s)) (toldSpan (a .p)) h) (omega arith);
+    }
 
 pub part-spec : {M : Type 1} → statement M
 part-spec =

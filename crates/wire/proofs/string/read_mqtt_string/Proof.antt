@@ -28,7 +28,7 @@ returns : tie.Need-returns
 returns c =
     let a = c .before .before .before .before .before .before .before .before .args in
     let h = string-stands (now (a .s)) (a .at) _ (sym (ap toldPart (c .before .before .before .before .p .given .1)) ∙ c .before .before .before .before .before .before .read-mqtt-bytes .ensures) in
-    text-fine (now (a .s)) (a .at) h (sym (c .if1 .taken) ∙ c .before .is-utf8 .ensures ∙ ap isText (c .before .before .part .ensures))
+    text-fine (now (a .s)) (a .at) h (sym (c .if1 .taken) ∙ c .before .is-utf8 .ensures ∙ ap isText (c .before .before .part .ensures .bytes))
 
 returns-2 : tie.Need-returns-2
 returns-2 c =
@@ -39,7 +39,7 @@ returns-3 : tie.Need-returns-3
 returns-3 c =
     let a = c .before .before .before .before .before .before .before .before .args in
     let h = string-stands (now (a .s)) (a .at) _ (sym (ap toldPart (c .before .before .before .before .p .given .1)) ∙ c .before .before .before .before .before .before .read-mqtt-bytes .ensures) in
-    text-broken (now (a .s)) (a .at) h (sym (c .if1 .left) ∙ c .before .is-utf8 .ensures ∙ ap isText (c .before .before .part .ensures))
+    text-broken (now (a .s)) (a .at) h (sym (c .if1 .left) ∙ c .before .is-utf8 .ensures ∙ ap isText (c .before .before .part .ensures .bytes))
 
 pub read-mqtt-string-spec : {M : Type 1} → statement M
 read-mqtt-string-spec =
