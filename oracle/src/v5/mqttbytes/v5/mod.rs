@@ -1,12 +1,18 @@
-// CHANGED: this file of rumqttc 0.25.1 (Apache-2.0) is trimmed to Publish, Subscribe, PubAck, PingReq and PingResp, and `length` is made
-// public for the benchmark. trim.diff shows every change. The other files of this folder are the crate's, unchanged.
+// CHANGED: this file of rumqttc 0.25.1 (Apache-2.0) is trimmed: Connect, ConnAck, Disconnect, Auth and `codec` are left out, and `length` is
+// made public for the benchmark. trim.diff shows every change. The other files of this folder are the crate's, unchanged.
 use std::slice::Iter;
 
 pub use self::{
     ping::{PingReq, PingResp},
     puback::{PubAck, PubAckProperties, PubAckReason},
+    pubcomp::{PubComp, PubCompProperties, PubCompReason},
     publish::{Publish, PublishProperties},
+    pubrec::{PubRec, PubRecProperties, PubRecReason},
+    pubrel::{PubRel, PubRelProperties, PubRelReason},
+    suback::{SubAck, SubAckProperties, SubscribeReasonCode},
     subscribe::{Filter, RetainForwardRule, Subscribe, SubscribeProperties},
+    unsuback::{UnsubAck, UnsubAckProperties, UnsubAckReason},
+    unsubscribe::{Unsubscribe, UnsubscribeProperties},
 };
 
 use super::*;
@@ -14,8 +20,14 @@ use bytes::{Buf, BufMut, Bytes, BytesMut};
 
 mod ping;
 mod puback;
+mod pubcomp;
 mod publish;
+mod pubrec;
+mod pubrel;
+mod suback;
 mod subscribe;
+mod unsuback;
+mod unsubscribe;
 
 #[derive(Clone, Debug, PartialEq, Eq)]
 pub enum Packet {
@@ -24,6 +36,12 @@ pub enum Packet {
     PingReq(PingReq),
     PingResp(PingResp),
     Subscribe(Subscribe),
+    SubAck(SubAck),
+    PubRec(PubRec),
+    PubRel(PubRel),
+    PubComp(PubComp),
+    Unsubscribe(Unsubscribe),
+    UnsubAck(UnsubAck),
 }
 
 impl Packet {
@@ -54,9 +72,33 @@ impl Packet {
                 let subscribe = Subscribe::read(fixed_header, packet)?;
                 Packet::Subscribe(subscribe)
             }
+            PacketType::Unsubscribe => {
+                let unsubscribe = Unsubscribe::read(fixed_header, packet)?;
+                Packet::Unsubscribe(unsubscribe)
+            }
             PacketType::PubAck => {
                 let puback = PubAck::read(fixed_header, packet)?;
                 Packet::PubAck(puback)
+            }
+            PacketType::PubRec => {
+                let pubrec = PubRec::read(fixed_header, packet)?;
+                Packet::PubRec(pubrec)
+            }
+            PacketType::PubRel => {
+                let pubrel = PubRel::read(fixed_header, packet)?;
+                Packet::PubRel(pubrel)
+            }
+            PacketType::PubComp => {
+                let pubcomp = PubComp::read(fixed_header, packet)?;
+                Packet::PubComp(pubcomp)
+            }
+            PacketType::SubAck => {
+                let suback = SubAck::read(fixed_header, packet)?;
+                Packet::SubAck(suback)
+            }
+            PacketType::UnsubAck => {
+                let unsuback = UnsubAck::read(fixed_header, packet)?;
+                Packet::UnsubAck(unsuback)
             }
             PacketType::PingReq => Packet::PingReq(PingReq),
             PacketType::PingResp => Packet::PingResp(PingResp),
@@ -80,7 +122,13 @@ impl Packet {
         match self {
             Self::Publish(publish) => publish.write(write),
             Self::Subscribe(subscription) => subscription.write(write),
+            Self::Unsubscribe(unsubscribe) => unsubscribe.write(write),
             Self::PubAck(ack) => ack.write(write),
+            Self::SubAck(ack) => ack.write(write),
+            Self::UnsubAck(unsuback) => unsuback.write(write),
+            Self::PubRec(pubrec) => pubrec.write(write),
+            Self::PubRel(pubrel) => pubrel.write(write),
+            Self::PubComp(pubcomp) => pubcomp.write(write),
             Self::PingReq(_) => PingReq::write(write),
             Self::PingResp(_) => PingResp::write(write),
         }
@@ -90,7 +138,13 @@ impl Packet {
         match self {
             Self::Publish(publish) => publish.size(),
             Self::Subscribe(subscription) => subscription.size(),
+            Self::Unsubscribe(unsubscribe) => unsubscribe.size(),
             Self::PubAck(ack) => ack.size(),
+            Self::SubAck(ack) => ack.size(),
+            Self::UnsubAck(unsuback) => unsuback.size(),
+            Self::PubRec(pubrec) => pubrec.size(),
+            Self::PubRel(pubrel) => pubrel.size(),
+            Self::PubComp(pubcomp) => pubcomp.size(),
             Self::PingReq(req) => req.size(),
             Self::PingResp(resp) => resp.size(),
         }
