@@ -1,5 +1,6 @@
-//! A reader of 01's rules (D1 to D3 as in the port) in safe Rust, written by hand from 01: it gives parts of the caller's stream, copies
-//! nothing and allocates nothing. It is the mark for speed. `FAST` picks the text validator: std's behind a test for ASCII, or byte by byte.
+//! A reader of the rules of 01 and 02 (D1 to D3 as in the port) in safe Rust, written by hand from them: it gives parts of the caller's
+//! stream, copies nothing and allocates nothing. It is the mark for speed. `FAST` picks the text validator: std's behind a test for ASCII,
+//! or byte by byte.
 #[derive(Clone, Copy, Debug, PartialEq, Eq)]
 pub struct No {
     pub no: u8,
@@ -44,23 +45,41 @@ pub struct Sub<'a> {
     pub sid: Option<u32>,
     pub filters: &'a [u8],
 }
+/// PubAck, PubRec, PubRel and PubComp
 #[derive(Clone, Copy, Debug)]
 pub struct Ack<'a> {
+    pub kind: u8,
     pub id: u16,
     pub reason: u8,
     pub block: &'a [u8],
     pub rstr: Option<&'a [u8]>,
 }
+/// SubAck and UnsubAck
+#[derive(Clone, Copy, Debug)]
+pub struct Reply<'a> {
+    pub kind: u8,
+    pub id: u16,
+    pub block: &'a [u8],
+    pub rstr: Option<&'a [u8]>,
+    pub reasons: &'a [u8],
+}
+#[derive(Clone, Copy, Debug)]
+pub struct Unsub<'a> {
+    pub id: u16,
+    pub block: &'a [u8],
+    pub topics: &'a [u8],
+}
 #[derive(Clone, Copy, Debug)]
 pub enum Rec<'a> {
     Publish(Pub<'a>),
+    Ack(Ack<'a>),
     Subscribe(Sub<'a>),
-    PubAck(Ack<'a>),
-    PingReq,
-    PingResp,
+    Reply(Reply<'a>),
+    Unsubscribe(Unsub<'a>),
+    Ping(u8),
 }
 
-/// value and byte count; Err(2) on a fourth byte with its top bit set, Err(7) if it is cut off
+/// value and byte count; Err(2) on a fourth byte with its top bit set or on more bytes than needed, Err(7) if it is cut off
 #[inline(always)]
 pub fn var(s: &[u8]) -> Result<(u32, usize), u8> {
     match s.first() {
@@ -74,6 +93,10 @@ pub fn var(s: &[u8]) -> Result<(u32, usize), u8> {
             None => return Err(7),
             Some(&b) => {
                 v |= ((b & 0x7F) as u32) << (7 * i);
+                // a last group of 0 behind others is not needed
+                if b == 0 {
+                    return Err(2);
+                }
                 if b < 0x80 {
                     return Ok((v, i + 1));
                 }
@@ -130,6 +153,7 @@ fn bytes_<'a>(s: &mut &'a [u8]) -> Result<&'a [u8], No> {
     *s = r;
     Ok(a)
 }
+/// every byte in 1..=0x7F: the top bit of b - 1 or of b is set just where it is not
 #[inline(always)]
 fn ascii(s: &[u8]) -> bool {
     let mut acc = 0u8;
@@ -137,22 +161,23 @@ fn ascii(s: &[u8]) -> bool {
         let mut c = s.chunks_exact(8);
         let mut w = 0u64;
         for k in &mut c {
-            w |= u64::from_le_bytes(k.try_into().unwrap());
+            let k = u64::from_le_bytes(k.try_into().unwrap());
+            w |= k | k.wrapping_sub(0x0101_0101_0101_0101);
         }
         if w & 0x8080_8080_8080_8080 != 0 {
             return false;
         }
         for b in c.remainder() {
-            acc |= *b;
+            acc |= *b | b.wrapping_sub(1);
         }
     } else {
         for b in s {
-            acc |= *b;
+            acc |= *b | b.wrapping_sub(1);
         }
     }
     acc < 0x80
 }
-/// Unicode table 3-7, a byte at a time
+/// Unicode table 3-7 without U+0000, a byte at a time
 #[inline(never)]
 pub fn plain_utf8(s: &[u8]) -> bool {
     let mut i = 0;
@@ -160,6 +185,9 @@ pub fn plain_utf8(s: &[u8]) -> bool {
     while i < n {
         let b = s[i];
         if b < 0x80 {
+            if b == 0 {
+                return false;
+            }
             i += 1;
             continue;
         }
@@ -195,7 +223,7 @@ pub fn plain_utf8(s: &[u8]) -> bool {
 fn text_<'a, const FAST: bool>(s: &mut &'a [u8]) -> Result<&'a [u8], No> {
     let t = bytes_(s)?;
     let ok = if FAST {
-        ascii(t) || std::str::from_utf8(t).is_ok()
+        ascii(t) || std::str::from_utf8(t).is_ok() && !t.contains(&0)
     } else {
         plain_utf8(t)
     };
@@ -203,6 +231,23 @@ fn text_<'a, const FAST: bool>(s: &mut &'a [u8]) -> Result<&'a [u8], No> {
         Ok(t)
     } else {
         Err(no(9))
+    }
+}
+/// a single-valued property: 22 if it is there already, before its value is read
+#[inline(always)]
+fn once<T>(slot: &mut Option<T>, k: u8, value: impl FnOnce() -> Result<T, No>) -> Result<(), No> {
+    if slot.is_some() {
+        return Err(no1(22, k as u64));
+    }
+    *slot = Some(value()?);
+    Ok(())
+}
+/// a subscription identifier, which is not 0
+#[inline(always)]
+fn id_(s: &mut &[u8]) -> Result<u32, No> {
+    match var_(s)? {
+        0 => Err(no(23)),
+        id => Ok(id),
     }
 }
 #[inline(always)]
@@ -243,16 +288,16 @@ fn publish<'a, const FAST: bool>(first: u8, mut s: &'a [u8]) -> Result<Pub<'a>, 
                 text_::<FAST>(&mut b)?;
                 p.users += 1;
             }
-            1 => p.pfi = Some(u8_(&mut b)?),
-            2 => p.expiry = Some(u32_(&mut b)?),
-            35 => p.alias = Some(u16_(&mut b)?),
-            8 => p.response = Some(text_::<FAST>(&mut b)?),
-            9 => p.correlation = Some(bytes_(&mut b)?),
+            1 => once(&mut p.pfi, k, || u8_(&mut b))?,
+            2 => once(&mut p.expiry, k, || u32_(&mut b))?,
+            35 => once(&mut p.alias, k, || u16_(&mut b))?,
+            8 => once(&mut p.response, k, || text_::<FAST>(&mut b))?,
+            9 => once(&mut p.correlation, k, || bytes_(&mut b))?,
             11 => {
-                var_(&mut b)?;
+                id_(&mut b)?;
                 p.ids += 1;
             }
-            3 => p.content = Some(text_::<FAST>(&mut b)?),
+            3 => once(&mut p.content, k, || text_::<FAST>(&mut b))?,
             k => return Err(no1(10, k as u64)),
         }
     }
@@ -275,7 +320,7 @@ fn subscribe<'a, const FAST: bool>(mut s: &'a [u8]) -> Result<Sub<'a>, No> {
     while !b.is_empty() {
         let k = u8_(&mut b)?;
         match k {
-            11 => sid = Some(var_(&mut b)?),
+            11 => once(&mut sid, k, || id_(&mut b))?,
             38 => {
                 text_::<FAST>(&mut b)?;
                 text_::<FAST>(&mut b)?;
@@ -299,36 +344,16 @@ fn subscribe<'a, const FAST: bool>(mut s: &'a [u8]) -> Result<Sub<'a>, No> {
     }
     Ok(Sub { id, block, sid, filters })
 }
-fn puback<'a, const FAST: bool>(mut s: &'a [u8]) -> Result<Ack<'a>, No> {
-    let id = u16_(&mut s)?;
-    if s.is_empty() {
-        return Ok(Ack {
-            id,
-            reason: 0,
-            block: s,
-            rstr: None,
-        });
-    }
-    let reason = u8_(&mut s)?;
-    match reason {
-        0 | 0x10 | 0x80 | 0x83 | 0x87 | 0x90 | 0x91 | 0x97 | 0x99 => {}
-        k => return Err(no1(15, k as u64)),
-    }
-    if s.is_empty() {
-        return Ok(Ack {
-            id,
-            reason,
-            block: s,
-            rstr: None,
-        });
-    }
-    let block = block_(&mut s)?;
+/// the block of an acknowledgement or a reply, and its reason string
+#[inline(always)]
+fn ack_block<'a, const FAST: bool>(s: &mut &'a [u8]) -> Result<(&'a [u8], Option<&'a [u8]>), No> {
+    let block = block_(s)?;
     let mut b = block;
     let mut rstr = None;
     while !b.is_empty() {
         let k = u8_(&mut b)?;
         match k {
-            31 => rstr = Some(text_::<FAST>(&mut b)?),
+            31 => once(&mut rstr, k, || text_::<FAST>(&mut b))?,
             38 => {
                 text_::<FAST>(&mut b)?;
                 text_::<FAST>(&mut b)?;
@@ -336,10 +361,82 @@ fn puback<'a, const FAST: bool>(mut s: &'a [u8]) -> Result<Ack<'a>, No> {
             k => return Err(no1(10, k as u64)),
         }
     }
+    Ok((block, rstr))
+}
+#[inline(always)]
+fn listed(kind: u8, reason: u8) -> bool {
+    match kind {
+        4 | 5 => matches!(reason, 0 | 0x10 | 0x80 | 0x83 | 0x87 | 0x90 | 0x91 | 0x97 | 0x99),
+        6 | 7 => matches!(reason, 0 | 0x92),
+        9 => matches!(reason, 0..=2 | 0x80 | 0x83 | 0x87 | 0x8F | 0x91 | 0x97 | 0x9E | 0xA1 | 0xA2),
+        _ => matches!(reason, 0 | 0x11 | 0x80 | 0x83 | 0x87 | 0x8F | 0x91),
+    }
+}
+fn ack<'a, const FAST: bool>(kind: u8, mut s: &'a [u8]) -> Result<Ack<'a>, No> {
+    let id = u16_(&mut s)?;
+    let mut a = Ack {
+        kind,
+        id,
+        reason: 0,
+        block: &s[..0],
+        rstr: None,
+    };
+    if s.is_empty() {
+        return Ok(a);
+    }
+    a.reason = u8_(&mut s)?;
+    if !listed(kind, a.reason) {
+        return Err(no1(15, a.reason as u64));
+    }
+    if s.is_empty() {
+        return Ok(a);
+    }
+    (a.block, a.rstr) = ack_block::<FAST>(&mut s)?;
     if !s.is_empty() {
         return Err(no(7));
     }
-    Ok(Ack { id, reason, block, rstr })
+    Ok(a)
+}
+fn reply<'a, const FAST: bool>(kind: u8, mut s: &'a [u8]) -> Result<Reply<'a>, No> {
+    let id = u16_(&mut s)?;
+    let (block, rstr) = ack_block::<FAST>(&mut s)?;
+    if s.is_empty() {
+        return Err(no(13));
+    }
+    for k in s {
+        if !listed(kind, *k) {
+            return Err(no1(15, *k as u64));
+        }
+    }
+    Ok(Reply {
+        kind,
+        id,
+        block,
+        rstr,
+        reasons: s,
+    })
+}
+fn unsubscribe<'a, const FAST: bool>(mut s: &'a [u8]) -> Result<Unsub<'a>, No> {
+    let id = u16_(&mut s)?;
+    let block = block_(&mut s)?;
+    let mut b = block;
+    while !b.is_empty() {
+        match u8_(&mut b)? {
+            38 => {
+                text_::<FAST>(&mut b)?;
+                text_::<FAST>(&mut b)?;
+            }
+            k => return Err(no1(10, k as u64)),
+        }
+    }
+    let topics = s;
+    if s.is_empty() {
+        return Err(no(13));
+    }
+    while !s.is_empty() {
+        text_::<FAST>(&mut s)?;
+    }
+    Ok(Unsub { id, block, topics })
 }
 /// (answer, taken)
 #[inline(always)]
@@ -352,19 +449,19 @@ pub fn read<const FAST: bool>(s: &[u8], limit: Option<u32>) -> (Result<Rec<'_>, 
         Err(2) => return (Err(no(2)), 0),
         Err(_) => return (Err(no1(1, 1)), 0),
     };
+    let f = 1 + k + r;
     if let Some(m) = limit {
-        if r > m as usize {
+        if f > m as usize {
             return (
                 Err(No {
                     no: 3,
-                    a: r as u64,
+                    a: f as u64,
                     b: m as u64,
                 }),
                 0,
             );
         }
     }
-    let f = 1 + k + r;
     if s.len() < f {
         return (Err(no1(1, (f - s.len()) as u64)), 0);
     }
@@ -372,12 +469,13 @@ pub fn read<const FAST: bool>(s: &[u8], limit: Option<u32>) -> (Result<Rec<'_>, 
     let body = &s[1 + k..f];
     let a = match kind {
         0 | 15 => Err(no1(4, kind as u64)),
-        12 => Ok(Rec::PingReq),
-        13 => Ok(Rec::PingResp),
+        12 | 13 => Ok(Rec::Ping(kind)),
         _ if r == 0 => Err(no(5)),
         3 => publish::<FAST>(s[0], body).map(Rec::Publish),
+        4..=7 => ack::<FAST>(kind, body).map(Rec::Ack),
         8 => subscribe::<FAST>(body).map(Rec::Subscribe),
-        4 => puback::<FAST>(body).map(Rec::PubAck),
+        9 | 11 => reply::<FAST>(kind, body).map(Rec::Reply),
+        10 => unsubscribe::<FAST>(body).map(Rec::Unsubscribe),
         _ => Err(no1(6, kind as u64)),
     };
     (a, f)

@@ -13,7 +13,11 @@ pub fn length(s: &[u8], at: usize, out: &mut u32) -> usize {
         let b = s[next] as u32;
         next += 1;
         if b < 128 {
-            *out = value + b * unit;
+            let n = value + b * unit;
+            if next - at > 1 && n < unit {
+                return 0;
+            }
+            *out = n;
             return next;
         }
         if 4 <= next - at {
@@ -26,7 +30,7 @@ pub fn length(s: &[u8], at: usize, out: &mut u32) -> usize {
 
 fn begin(b: u8) -> Option<(usize, u8, u8)> {
     Some(match b {
-        0..=0x7F => (0, 0x80, 0xBF),
+        0x01..=0x7F => (0, 0x80, 0xBF),
         0xC2..=0xDF => (1, 0x80, 0xBF),
         0xE0 => (2, 0xA0, 0xBF),
         0xE1..=0xEC => (2, 0x80, 0xBF),
@@ -35,7 +39,7 @@ fn begin(b: u8) -> Option<(usize, u8, u8)> {
         0xF0 => (3, 0x90, 0xBF),
         0xF1..=0xF3 => (3, 0x80, 0xBF),
         0xF4 => (3, 0x80, 0x8F),
-        0x80..=0xC1 | 0xF5..=0xFF => return None,
+        0 | 0x80..=0xC1 | 0xF5..=0xFF => return None,
     })
 }
 
@@ -66,8 +70,15 @@ fn pass_chars(s: &[u8], at: usize, end: usize) -> usize {
     i
 }
 
+fn flaw(b: u8) -> u8 {
+    if b.wrapping_sub(1) < 127 {
+        return 0;
+    }
+    128
+}
+
 fn is_ascii(s: &[u8]) -> bool {
-    s.iter().fold(0, |all, b| all | b) < 128
+    s.iter().fold(0, |all, b| all | flaw(*b)) < 128
 }
 
 fn pass_chunk(s: &[u8], at: usize) -> usize {
@@ -88,7 +99,7 @@ fn pass_chunk(s: &[u8], at: usize) -> usize {
     pass_chars(s, at, end)
 }
 
-/// Is `s` well-formed UTF-8?
+/// Is `s` well-formed UTF-8 without U+0000?
 #[inline(never)]
 pub fn is_utf8(s: &[u8]) -> bool {
     let mut i = 0;

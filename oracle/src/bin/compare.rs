@@ -3,9 +3,9 @@
 use oracle::compare::corpus::Corpus;
 use oracle::compare::frames::{self, one_in, pick, Frame};
 use oracle::compare::hold::{entries, Hold};
-use oracle::compare::model::Entries;
-use oracle::compare::shape::{Given, Lent, Span};
-use oracle::compare::{given, port};
+use oracle::compare::model::{self, Entries, Switches};
+use oracle::compare::shape::{first_byte, is_ack, place_of, Given, Lent, Lists, Place, Span, KINDS};
+use oracle::compare::{given, model_write, port};
 use oracle::streams::Dice;
 use std::collections::BTreeMap;
 use std::time::Instant;
@@ -61,60 +61,110 @@ impl Run {
         self.say("every first byte with every body of 1 and 2 bytes");
     }
 
-    /// Every first byte of a kind that is carried with every body of three bytes.
-    fn bodies_of_three(&mut self) {
+    /// Every body of three bytes, behind `head`; a sample of them in a part of the whole.
+    fn three_behind(&mut self, first: u8, head: &[u8]) {
         let step = if self.share == 100 { 1 } else { 1009 };
-        for first in (0..=255u8).filter(|a| matches!(a >> 4, 3 | 4 | 8 | 12 | 13)) {
-            for n in (0..1u32 << 24).step_by(step) {
-                self.hold.read(&[first, 3, (n >> 16) as u8, (n >> 8) as u8, n as u8], None);
-            }
-            if first % 16 == 15 {
-                self.say(&format!("every body of 3 bytes, first byte up to {first:02X}"));
+        let mut s = vec![first, head.len() as u8 + 3];
+        s.extend(head);
+        let at = s.len();
+        s.extend([0; 3]);
+        for n in (0..1u32 << 24).step_by(step) {
+            s[at..].copy_from_slice(&n.to_be_bytes()[1..]);
+            self.hold.read(&s, None);
+        }
+    }
+
+    /// Every first byte of a Publish, and that of each other kind carried, with every body of three bytes.
+    fn bodies_of_three(&mut self) {
+        let others = KINDS.iter().map(|(kind, _)| first_byte(*kind)).filter(|first| *first != 0x30);
+        for first in (0x30..0x40).chain(others) {
+            self.three_behind(first, &[]);
+        }
+        self.say("every body of 3 bytes");
+    }
+
+    /// Each kind with every three bytes behind its identifier, or behind the empty topic of a Publish; acknowledgements behind a reason too.
+    fn bodies_behind(&mut self) {
+        for (kind, _) in KINDS.iter().take(9) {
+            self.three_behind(first_byte(*kind), if *kind == 3 { &[0, 0] } else { &[0, 1] });
+            if is_ack(*kind) {
+                self.three_behind(first_byte(*kind), &[0, 1, 0]);
             }
         }
+        self.say("every 3 bytes behind an identifier, an empty topic, a reason");
     }
 
     fn read_body(&mut self, first: u8, body: &[u8]) {
         let mut s = vec![first];
-        frames::spell(&mut s, body.len() as u32, false);
+        frames::spell(&mut s, body.len() as u32, 0);
         s.extend(body);
         self.hold.read(&s, None);
     }
 
-    /// Every options byte, in the first filter and behind another; every reason, alone and with blocks, good and bad.
+    /// Every options byte, in the first filter and behind another; every reason of every kind, alone and with blocks, good and bad.
     fn every_option_and_reason(&mut self) {
+        let tails: [&[u8]; 9] = [
+            &[],
+            &[0],
+            &[0x80],
+            &[1],
+            &[0, 0xFF],
+            &[1, 0xFF],
+            &[3, 31, 0, 0],
+            &[5, 38, 0, 0, 0, 0],
+            &[3, 31, 0, 0, 1],
+        ];
         for o in 0..=255 {
             self.read_body(0x82, &[0, 1, 0, 0, 1, b'a', o]);
             self.read_body(0x82, &[0, 1, 0, 0, 0, o]);
             for first in 0..=255 {
                 self.read_body(0x82, &[0, 1, 0, 0, 1, b'a', first, 0, 1, b'b', o]);
             }
-            for tail in [
-                &[][..],
-                &[0],
-                &[0x80],
-                &[1],
-                &[0, 0xFF],
-                &[1, 0xFF],
-                &[3, 31, 0, 0],
-                &[5, 38, 0, 0, 0, 0],
-                &[3, 31, 0, 0, 1],
-            ] {
-                self.read_body(0x40, &[&[0, 1, o], tail].concat());
+            for kind in 4..=7 {
+                for tail in tails {
+                    self.read_body(first_byte(kind), &[&[0, 1, o], tail].concat());
+                }
+            }
+            for kind in [9, 11] {
+                for block in tails {
+                    self.read_body(first_byte(kind), &[&[0, 1], block, &[o]].concat());
+                }
+                for first in 0..=255 {
+                    self.read_body(first_byte(kind), &[0, 1, 0, first, o]);
+                    self.read_body(first_byte(kind), &[0, 1, 3, 31, 0, 0, first, 0, o]);
+                }
             }
         }
         self.say("every options byte and every reason");
     }
 
+    /// What stands before the block in each kind, and what may end the frame behind it.
+    fn heads() -> [(u8, Place, &'static [u8], &'static [u8]); 10] {
+        let of = |kind| place_of(kind).unwrap();
+        [
+            (0x30, of(3), &[0, 0], &[]),
+            (0x32, of(3), &[0, 0, 0, 1], &[7]),
+            (0x40, of(4), &[0, 1, 0], &[]),
+            (0x50, of(5), &[0, 1, 0x10], &[]),
+            (0x62, of(6), &[0, 1, 0x92], &[]),
+            (0x70, of(7), &[0, 1, 0], &[]),
+            (0x82, of(8), &[0, 1], &[0, 1, b'a', 1]),
+            (0x90, of(9), &[0, 1], &[1]),
+            (0xA2, of(10), &[0, 1], &[0, 1, b'a']),
+            (0xB0, of(11), &[0, 1], &[0x11]),
+        ]
+    }
+
     /// Every identifier in every place with values that fit one property or another, the block's length right and off by one.
     fn every_property(&mut self) {
-        let values: [&[u8]; 12] = [
+        let values: [&[u8]; 13] = [
             &[],
             &[0],
             &[0, 0],
             &[0, 0, 0, 0],
             &[0, 1, b'a'],
             &[0, 1, 0x80],
+            &[0, 1, 0],
             &[0, 1, b'a', 0, 1, b'b'],
             &[0, 1, b'a', 0, 1, 0xFF],
             &[0x80, 0],
@@ -126,12 +176,12 @@ impl Run {
             for value in values {
                 for (before, twice) in [(false, false), (true, false), (false, true)] {
                     for off in [-1i32, 0, 1, 2] {
-                        for tail in [&[][..], &[0, 0, 0], &[k, 0, 1, b'a', 1]] {
-                            let one: Vec<u8> = [&[k], value].concat();
-                            let mut block: Vec<u8> = if before { vec![38, 0, 0, 0, 0] } else { vec![] };
-                            (0..1 + twice as u8).for_each(|_| block.extend(&one));
-                            let l = (block.len() as i32 + off) as u8;
-                            for (first, head) in [(0x30, &[0, 0][..]), (0x32, &[0, 0, 0, 1]), (0x82, &[0, 1]), (0x40, &[0, 1, 0])] {
+                        let one: Vec<u8> = [&[k], value].concat();
+                        let mut block: Vec<u8> = if before { vec![38, 0, 0, 0, 0] } else { vec![] };
+                        (0..1 + twice as u8).for_each(|_| block.extend(&one));
+                        let l = (block.len() as i32 + off) as u8;
+                        for (first, _, head, end) in Self::heads() {
+                            for tail in [end, &[0, 0, 0], &[k, 0, 1, b'a', 1]] {
                                 self.read_body(first, &[head, &[l], &block, tail].concat());
                             }
                         }
@@ -139,16 +189,177 @@ impl Run {
                 }
             }
         }
-        self.say("every identifier in every place");
+        self.say("every property identifier in every place");
     }
 
-    /// No limit, or one about R.
+    /// A well-formed property.
+    fn property(k: u8) -> &'static [u8] {
+        match k {
+            1 => &[1, 1],
+            2 => &[2, 0, 0, 0, 1],
+            3 => &[3, 0, 1, b't'],
+            8 => &[8, 0, 0],
+            9 => &[9, 0, 1, 0xFF],
+            11 => &[11, 1],
+            31 => &[31, 0, 1, b'r'],
+            35 => &[35, 0, 1],
+            _ => &[38, 0, 1, b'k', 0, 0],
+        }
+    }
+
+    /// Every two and three properties of every place behind each other, and the identifier alone of one that came before.
+    fn every_double(&mut self) {
+        for (first, place, head, end) in Self::heads() {
+            for a in model::row(place) {
+                for b in model::row(place) {
+                    let two = [Self::property(*a), Self::property(*b)].concat();
+                    for c in model::row(place) {
+                        let three = [&two, Self::property(*c)].concat();
+                        for block in [&two, &three, &[&two[..], &[*c]].concat()] {
+                            self.read_body(first, &[head, &[block.len() as u8], block, end].concat());
+                        }
+                    }
+                }
+            }
+        }
+        self.say("every two and three properties of every place");
+    }
+
+    /// Numbers in every spelling, as R, as L and as an identifier, whole and cut off.
+    fn every_spelling(&mut self) {
+        let numbers = (0..300).chain([16_383, 16_384, 16_385, 2_097_151, 2_097_152, 268_435_455]);
+        for n in numbers {
+            for more in 0..4 {
+                let mut spelt = vec![];
+                frames::spell(&mut spelt, n, more);
+                // one byte more, and the top bit of the last byte set
+                let mut endless = spelt.clone();
+                *endless.last_mut().unwrap() |= 128;
+                for number in [&spelt, &endless, &[&endless[..], &[1]].concat()] {
+                    self.spelled(number, n);
+                }
+            }
+        }
+        self.say("every spelling of numbers");
+    }
+
+    fn spelled(&mut self, number: &[u8], n: u32) {
+        let body = |len: usize| vec![0; len.min(300)];
+        for (first, _, head, end) in Self::heads() {
+            // as R
+            for len in [0, 3, n as usize] {
+                self.hold.read(&[&[first], number, &body(len)].concat(), None);
+                self.hold.read(&[&[first], number, &body(len)].concat(), Some(n));
+            }
+            // as L, of user properties that fill it where they can
+            let pairs = [38, 0, 0, 0, 0].repeat(n.min(300) as usize / 5);
+            self.read_body(first, &[head, number, &pairs, end].concat());
+            self.read_body(first, &[head, number].concat());
+            // as an identifier
+            let property = [&[11], number].concat();
+            self.read_body(first, &[head, &[property.len() as u8], &property, end].concat());
+            self.read_body(first, &[head, &[property.len() as u8], &property].concat());
+        }
+    }
+
+    /// U+0000 at every index of texts of up to 130 bytes, in every text of every kind, and as bytes where these are no text.
+    fn every_nul(&mut self) {
+        let firsts = |s: &[u8]| (s.len() as u16).to_be_bytes();
+        for len in (0..40).chain([47, 48, 63, 64, 65, 79, 80, 81, 128, 130]) {
+            for at in 0..=len {
+                let mut t = vec![b'a'; len];
+                // at the last turn there is none
+                if at < len {
+                    t[at] = 0;
+                }
+                let text = [&firsts(&t)[..], &t].concat();
+                for (first, place, head, end) in Self::heads() {
+                    let texts = model::row(place).iter().filter(|k| matches!(k, 3 | 8 | 9 | 31 | 38));
+                    for k in texts {
+                        let values = if *k == 38 {
+                            vec![[&text, &[0, 0][..]].concat(), [&[0, 0], &text[..]].concat()]
+                        } else {
+                            vec![text.clone()]
+                        };
+                        for v in values {
+                            let mut body = head.to_vec();
+                            frames::spell(&mut body, v.len() as u32 + 1, 0);
+                            self.read_body(first, &[&body[..], &[*k], &v[..], end].concat());
+                        }
+                    }
+                }
+                self.read_body(0x30, &[&text, &[0][..]].concat());
+                self.read_body(0x82, &[&[0, 1, 0], &text[..], &[0]].concat());
+                self.read_body(0xA2, &[&[0, 1, 0], &text[..]].concat());
+                self.write_nul(&t);
+            }
+        }
+        self.say("U+0000 at every index");
+    }
+
+    /// The same text written, in every place.
+    fn write_nul(&mut self, t: &[u8]) {
+        let lent = Lent {
+            present: true,
+            bytes: t.to_vec(),
+        };
+        let pair = |kind, key: bool| Given {
+            kind,
+            block: true,
+            users: t.to_vec(),
+            user_lengths: if key { vec![t.len(), 0] } else { vec![0, t.len()] },
+            ..entry_of(kind)
+        };
+        for (kind, _) in KINDS.iter().take(9) {
+            self.write_some(&pair(*kind, true));
+            self.write_some(&pair(*kind, false));
+            if place_of(*kind) == Some(Place::Ack) {
+                self.write_some(&Given {
+                    block: true,
+                    reason_string: lent.clone(),
+                    ..entry_of(*kind)
+                });
+            }
+        }
+        let publish = Given {
+            block: true,
+            ..entry_of(3)
+        };
+        self.write_some(&Given {
+            response: lent.clone(),
+            ..publish.clone()
+        });
+        self.write_some(&Given {
+            correlation: lent.clone(),
+            ..publish.clone()
+        });
+        self.write_some(&Given {
+            content: lent,
+            ..publish.clone()
+        });
+        self.write_some(&Given {
+            topic: t.to_vec().into(),
+            ..publish
+        });
+        self.write_some(&Given {
+            filters: t.to_vec(),
+            filter_lengths: vec![t.len()],
+            ..entry_of(8)
+        });
+        self.write_some(&Given {
+            topics: t.to_vec(),
+            topic_lengths: vec![t.len()],
+            ..entry_of(10)
+        });
+    }
+
+    /// No limit, or one about R and F.
     fn limit(&mut self, s: &[u8]) -> Option<u32> {
-        let r = s.len() as u32;
+        let f = s.len() as u32;
         match self.dice.below(12) {
-            0 => Some(r.saturating_sub(2)),
-            1 => Some(r.saturating_sub(3)),
-            2 => Some(r),
+            0 => Some(f.saturating_sub(self.dice.below(6) as u32)),
+            1 => Some(f.saturating_sub(1)),
+            2 => Some(f),
             3 => Some(self.dice.below(8) as u32),
             4 => Some(u32::MAX),
             _ => None,
@@ -186,13 +397,16 @@ impl Run {
 
     /// The lists of a frame that is accepted, each item, and the number after the last.
     fn items_of_read(&mut self, s: &[u8]) {
-        use oracle::compare::{model, shape::Lists};
         let mut lists = Lists::default();
-        if let (Ok(r), _) = model::read(s, None, 0, &mut lists) {
-            let most = lists.users.len().max(lists.ids.len()).max(lists.filters.len());
-            let places: Vec<Span> = r.block.into_iter().chain((r.kind == 8).then_some(r.filters)).collect();
-            for p in places {
-                (0..=most).for_each(|n| self.hold.items(s, p, n));
+        if let (Ok(r), _) = model::read(s, None, &Switches::of(0), &mut lists) {
+            let entries = match r.kind {
+                8 => Some(r.filters),
+                9 | 11 => Some(r.reasons),
+                10 => Some(r.topics),
+                _ => None,
+            };
+            for p in r.block.into_iter().chain(entries) {
+                (0..=lists.most()).for_each(|n| self.hold.items(s, p, n));
             }
         }
     }
@@ -200,8 +414,8 @@ impl Run {
     fn random(&mut self, count: u64) {
         for i in 0..count {
             let f = frames::well_formed(&mut self.dice);
-            let longer = one_in(&mut self.dice, 12);
-            let s = f.stream(longer);
+            let more = frames::winded(&mut self.dice);
+            let s = f.stream(more);
             self.hold.read(&s, None);
             let limit = self.limit(&s);
             self.hold.read(&s, limit);
@@ -224,7 +438,7 @@ impl Run {
     }
 
     fn write_some(&mut self, g: &Given) {
-        let size = oracle::compare::model_write::size(g, 0).unwrap_or(20).min(300_000) as usize;
+        let size = model_write::size(g, &Switches::of(0)).unwrap_or(20).min(300_000) as usize;
         let limit = match self.dice.below(8) {
             0 => Some(size.saturating_sub(1) as u32),
             1 => Some(size as u32),
@@ -252,34 +466,64 @@ impl Run {
         self.say("records written, and read again");
     }
 
-    /// Every options byte, reason and QoS written.
+    /// Every options byte, reason and QoS written, with no other fault and with one before or behind it.
     fn every_write(&mut self) {
         for o in 0..=255 {
-            let g = Given {
-                kind: 8,
-                filters: vec![b'a'],
-                filter_lengths: vec![1],
-                options: vec![o],
-                ..Given::default()
-            };
-            self.write_some(&g);
-            for block in [false, true] {
-                self.write_some(&Given {
-                    kind: 4,
-                    reason: o,
-                    block,
-                    ..Given::default()
-                });
-                self.write_some(&Given {
-                    kind: 3,
-                    qos: o,
-                    id: o as u16 % 3,
-                    block,
-                    ..Given::default()
-                });
+            for faults in 0..4 {
+                self.write_byte(o, faults & 1 != 0, faults & 2 != 0);
             }
         }
         self.say("every options byte, reason and QoS written");
+    }
+
+    /// The byte in each place that it has in a record; `bad` gives the block a text that is none, `none` takes away what the block belongs to.
+    fn write_byte(&mut self, o: u8, bad: bool, none: bool) {
+        let faulty = |g: Given| Given {
+            block: bad && !none,
+            users: if bad { vec![0xFF] } else { vec![] },
+            user_lengths: if bad { vec![1, 0] } else { vec![] },
+            ..g
+        };
+        let filter = Given {
+            filters: vec![b'a'],
+            filter_lengths: vec![1],
+            options: vec![o],
+            ..entry_of(8)
+        };
+        self.write_some(&faulty(filter));
+        for kind in 4..=7 {
+            for block in [false, true] {
+                let ack = Given {
+                    reason: o,
+                    ..entry_of(kind)
+                };
+                let ack = faulty(ack);
+                self.write_some(&Given {
+                    block: ack.block || block,
+                    ..ack
+                });
+            }
+        }
+        for kind in [9, 11] {
+            for id in 0..2 {
+                for reasons in [vec![o], vec![0, o], vec![o, 3]] {
+                    self.write_some(&faulty(Given {
+                        id,
+                        reasons,
+                        ..entry_of(kind)
+                    }));
+                }
+            }
+        }
+        for block in [false, true] {
+            self.write_some(&Given {
+                kind: 3,
+                qos: o,
+                id: o as u16 % 3,
+                block,
+                ..Given::default()
+            });
+        }
     }
 
     /// The smallest records of docs/DIFFERENCES.md, and about the largest R.
@@ -332,21 +576,62 @@ impl Run {
             };
             self.hold.write(&g, None, 16);
             self.hold.write(&g, Some(7), 16);
-            let g = Given {
-                kind: 4,
+            let topics = Given {
+                topics: g.filters,
+                topic_lengths: g.filter_lengths,
+                ..entry_of(10)
+            };
+            self.hold.write(&topics, None, 16);
+            self.hold.write(&topics, Some(7), 16);
+            let mut pairs = Given {
                 block: true,
-                users: g.filters,
+                users: topics.topics,
                 user_lengths: vec![65_535; count / 2 * 2],
                 ..Given::default()
             };
+            for kind in [4, 5, 6, 7, 9, 10, 11] {
+                let with = Given {
+                    users: std::mem::take(&mut pairs.users),
+                    user_lengths: pairs.user_lengths.clone(),
+                    block: true,
+                    ..entry_of(kind)
+                };
+                self.hold.write(&with, None, 16);
+                pairs.users = with.users;
+            }
+        }
+        for bytes in [most - 3, most - 2, most + 70_000] {
+            let g = Given {
+                reasons: vec![0; bytes],
+                ..entry_of(9)
+            };
             self.hold.write(&g, None, 16);
+            self.hold.write(&g, Some(5), 16);
         }
         self.say("records about the largest R");
     }
 }
 
+/// A record of the kind that is accepted, with one entry where it needs one and no block.
+fn entry_of(kind: u8) -> Given {
+    let g = Given { kind, ..Given::default() };
+    match kind {
+        8 => Given {
+            filter_lengths: vec![0],
+            options: vec![0],
+            ..g
+        },
+        9 | 11 => Given { reasons: vec![0], ..g },
+        10 => Given {
+            topic_lengths: vec![0],
+            ..g
+        },
+        _ => g,
+    }
+}
+
 /// The frames of 01's table, and the smallest ones of docs/DIFFERENCES.md.
-const LISTED: [&str; 37] = [
+const LISTED: [&str; 70] = [
     "",
     "30",
     "30 80",
@@ -384,10 +669,51 @@ const LISTED: [&str; 37] = [
     "40 06 00 01 00 01 FF 00",
     "D0 02 01 02",
     "F0 05",
+    // 02, P1
+    "50 02 00 0A",
+    "62 02 00 0A",
+    "70 02 00 0A",
+    "90 04 00 01 00 00",
+    "A2 05 00 01 00 00 00",
+    "B0 04 00 01 00 11",
+    "50 03 00 00 01",
+    "62 03 00 00 01",
+    "70 03 00 00 01",
+    "50 05 00 00 01 01 FF",
+    "50 05 00 00 00 00 FF",
+    "90 02 00 00",
+    "90 03 00 00 00",
+    "A2 03 00 00 00",
+    "B0 03 00 00 00",
+    "90 04 00 00 00 03",
+    "B0 04 00 00 00 01",
+    "90 04 00 00 01 00",
+    "B0 02 00 00",
+    "A2 04 00 00 01 00",
+    // 02, P8
+    "30 80 00",
+    "C0 80 00",
+    "30 04 00 00 80 00",
+    "30 06 00 00 03 0B 81 00",
+    "82 07 00 00 80 00 00 00 00",
+    // 02, P9
+    "30 07 00 00 04 01 00 01 00",
+    "82 0A 00 00 04 0B 01 0B 01 00 00 00",
+    "40 0A 00 00 00 06 1F 00 00 1F 00 00",
+    "30 05 00 00 02 0B 00",
+    "82 08 00 00 02 0B 00 00 00 00",
+    "82 07 00 00 00 00 01 00 00",
+    "A2 06 00 00 00 00 01 00",
+    "30 07 00 00 04 03 00 01 00",
 ];
 
 fn unhex(s: &str) -> Vec<u8> {
     s.split_whitespace().map(|b| u8::from_str_radix(b, 16).unwrap()).collect()
+}
+
+/// A record with no entry.
+fn of_none(kind: u8) -> Given {
+    Given { kind, ..Given::default() }
 }
 
 /// The records of docs/DIFFERENCES.md, and whether each goes under a limit.
@@ -441,6 +767,43 @@ fn listed_records() -> Vec<(Given, Option<u32>)> {
         (most, Some(5)),
         (plain, None),
         (text, None),
+        // 02, P1
+        (Given { reason: 1, ..entry_of(6) }, None),
+        (
+            Given {
+                reasons: vec![3],
+                ..entry_of(9)
+            },
+            None,
+        ),
+        (of_none(9), None),
+        (of_none(10), None),
+        (of_none(11), None),
+        // 02, P9
+        (
+            Given {
+                block: true,
+                ids: vec![0],
+                ..entry_of(3)
+            },
+            None,
+        ),
+        (
+            Given {
+                block: true,
+                sid: Some(0),
+                ..entry_of(8)
+            },
+            None,
+        ),
+        (
+            Given {
+                topics: vec![0],
+                topic_lengths: vec![1],
+                ..entry_of(10)
+            },
+            None,
+        ),
     ];
     let pings = [12, 13]
         .into_iter()
@@ -455,7 +818,7 @@ fn listed(run: &mut Run) {
     }
     for s in LISTED {
         let s = unhex(s);
-        for limit in [None, Some(0), Some(3), Some(4), Some(7), Some(8), Some(u32::MAX)] {
+        for limit in [None, Some(0), Some(3), Some(4), Some(7), Some(8), Some(9), Some(10), Some(u32::MAX)] {
             run.hold.read(&s, limit);
         }
         run.items_of_read(&s);
@@ -473,6 +836,9 @@ fn corpus(run: &mut Run, file: &str, cap: u32) {
     listed(run);
     run.every_option_and_reason();
     run.every_property();
+    run.every_double();
+    run.every_spelling();
+    run.every_nul();
     for first in 0..=255u8 {
         for body in [&[0][..], &[0, 0], &[0, 0, 0], &[0x80, 1, 2]] {
             run.read_body(first, body);
@@ -504,6 +870,11 @@ fn corpus(run: &mut Run, file: &str, cap: u32) {
             filter_lengths: vec![65_536],
             options: vec![0],
             ..Given::default()
+        },
+        Given {
+            topics: x,
+            topic_lengths: vec![65_536],
+            ..entry_of(10)
         },
     ];
     run.hold.corpus.as_mut().unwrap().long = true;
@@ -538,8 +909,8 @@ fn report(run: &Run) {
         "\n{} reads, {} items, {} writes with their sizes, {seconds} s",
         h.reads, h.items, h.writes
     );
-    println!("answers to reads, by refusal (0: accepted): {:?}", &h.read_answers[..22]);
-    println!("answers to writes, by refusal (0: accepted): {:?}", &h.write_answers[..22]);
+    println!("answers to reads, by refusal (0: accepted): {:?}", &h.read_answers[..24]);
+    println!("answers to writes, by refusal (0: accepted): {:?}", &h.write_answers[..24]);
     println!("panics of the crate: {}", h.panics);
     for (what, classes) in [("reads", &h.read_classes), ("writes", &h.write_classes)] {
         for (class, seen) in classes {
@@ -583,12 +954,16 @@ fn main() {
             listed(&mut run);
             run.every_option_and_reason();
             run.every_property();
+            run.every_double();
+            run.every_spelling();
+            run.every_nul();
             run.every_write();
             run.writes(run.scaled(4_000_000));
             run.random(run.scaled(4_000_000));
             run.large_writes();
             run.streams();
             run.short_bodies();
+            run.bodies_behind();
             run.bodies_of_three();
         }
     }

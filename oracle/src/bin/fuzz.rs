@@ -2,7 +2,7 @@
 //! oracle/fuzz builds it, with coverage counted in the crate's text, the model and the hand-written reader.
 #![no_main]
 use oracle::compare::hold::Hold;
-use oracle::compare::shape::{Given, Lent, Span};
+use oracle::compare::shape::{is_reply, Given, Lent, Span};
 use oracle::limit;
 use std::cell::RefCell;
 
@@ -43,10 +43,10 @@ impl Feed<'_> {
     }
     fn record(&mut self) -> Given {
         let mut g = Given {
-            kind: [3, 8, 4, 12, 13][self.byte() as usize % 5],
+            kind: 3 + self.byte() % 11,
             ..Given::default()
         };
-        if g.kind > 8 {
+        if g.kind > 11 {
             return g;
         }
         let on = self.byte();
@@ -74,9 +74,17 @@ impl Feed<'_> {
                 g.filter_lengths = self.lengths();
                 g.options = self.run();
             }
-            _ => {
-                g.reason = self.byte();
+            10 => {
+                g.topics = self.run();
+                g.topic_lengths = self.lengths();
+            }
+            kind => {
                 g.reason_string = self.lent(on & 2 != 0);
+                if is_reply(kind) {
+                    g.reasons = self.run();
+                } else {
+                    g.reason = self.byte();
+                }
             }
         }
         g

@@ -1,6 +1,7 @@
 //! Chooses answers and writes them to a file that a program without Rust can replay. oracle/README.md describes the file. What is expected
 //! is the crate's answer where the class is empty, and that of the rules where an entry of docs/DIFFERENCES.md tells why they differ.
-use super::model::{entry, Entries, REASON_NAME};
+use super::hold::Found;
+use super::model::{entry, Entries, REASON_NAME, REPLY_NAME};
 use super::port::numbers;
 use super::shape::*;
 use std::collections::{HashMap, HashSet};
@@ -56,7 +57,7 @@ fn answer(row: &mut Vec<u8>, no: u8, filled: &[u64]) {
 
 fn start(kind: u8, class: Entries) -> Vec<u8> {
     let mut row = vec![kind];
-    u32s(&mut row, class as u64);
+    row.extend(class.to_be_bytes());
     row
 }
 
@@ -76,7 +77,7 @@ impl Corpus {
             return;
         }
         *self.buckets.entry(bucket).or_default() += 1;
-        let class = u32::from_be_bytes([row[1], row[2], row[3], row[4]]);
+        let class = Entries::from_be_bytes(row[1..9].try_into().unwrap());
         *self.tally.entry((row[0], no, class)).or_default() += 1;
         self.rows.push(row);
     }
@@ -87,11 +88,11 @@ impl Corpus {
         }
         let first = s.first().copied().unwrap_or(0);
         let filled = numbers(rules);
-        let mut bucket = vec![1, first as u64 >> 4, class as u64, limit.is_some() as u64];
+        let mut bucket = vec![1, first as u64 >> 4, class, limit.is_some() as u64];
         let no = match &rules.0 {
             Err(e) => {
                 // every identifier and every reason, once
-                let each = matches!((e.no, class), (10, 0) | (15, REASON_NAME)) && limit.is_none();
+                let each = matches!((e.no, class), (10, 0) | (15, REASON_NAME | REPLY_NAME)) && limit.is_none();
                 bucket.extend([e.no as u64, if each { 4 + e.a } else { e.a.min(4) }]);
                 e.no
             }
@@ -111,7 +112,9 @@ impl Corpus {
                     r.reason_string.is_some(),
                 ];
                 let options = lists.filters.first().map_or(0, |f| f.1 as u64);
-                bucket.extend([0, bits(&set), bits(&more), r.reason as u64, r.qos as u64, options]);
+                let reasons = lists.reasons.first().map_or(0, |k| *k as u64) + 256 * lists.reasons.len().min(2) as u64;
+                let topics = lists.topics.len().min(2) as u64;
+                bucket.extend([0, bits(&set), bits(&more), r.reason as u64, r.qos as u64, options, reasons, topics]);
                 0
             }
         };
@@ -127,23 +130,26 @@ impl Corpus {
         self.keep(bucket, cap, no, row);
     }
 
-    pub fn items(&mut self, s: &[u8], p: Span, n: usize, rules: &[Option<Lists>], filters: &Option<Vec<(Span, u8)>>) {
+    pub fn items(&mut self, s: &[u8], p: Span, n: usize, found: &Found) {
         if s.len() > BYTES || p.start > u32::MAX as usize || p.len > u32::MAX as usize || n > u32::MAX as usize {
             return;
         }
-        for (kind, lists) in [3, 8, 4].into_iter().zip(rules) {
-            let item = lists.as_ref().and_then(|l| l.users.get(n));
+        for kind in 2..=12 {
+            let item = found.user(kind, n);
             let filled = item.map(|(k, v)| vec![k.start as u64, k.len as u64, v.start as u64, v.len as u64]);
             self.item(38, kind, s, p, n, filled);
         }
-        let item = rules[0].as_ref().and_then(|l| l.ids.get(n));
-        self.item(11, 3, s, p, n, item.map(|id| vec![*id as u64]));
-        let item = filters.as_ref().and_then(|l| l.get(n));
-        let filled = item.map(|(path, o)| {
-            let o = *o as u64;
+        self.item(11, 3, s, p, n, found.identifier(n).map(|id| vec![id as u64]));
+        let filled = found.filter(n).map(|(path, o)| {
+            let o = o as u64;
             vec![path.start as u64, path.len as u64, o & 3, o >> 2 & 1, o >> 3 & 1, o >> 4]
         });
         self.item(0, 8, s, p, n, filled);
+        for kind in 8..=12 {
+            self.item(9, kind, s, p, n, found.reason(kind, n).map(|k| vec![k as u64]));
+        }
+        let filled = found.topic(n).map(|t| vec![t.start as u64, t.len as u64]);
+        self.item(10, 10, s, p, n, filled);
     }
 
     fn item(&mut self, list: u8, kind: u8, s: &[u8], p: Span, n: usize, filled: Option<Vec<u64>>) {
@@ -180,8 +186,10 @@ impl Corpus {
         put: &[u8],
     ) {
         let lents = [&g.response, &g.correlation, &g.content, &g.reason_string];
-        let held = g.topic.len() + g.payload.len() + g.users.len() + g.filters.len() + lents.iter().map(|l| l.bytes.len()).sum::<usize>();
-        let large = g.user_lengths.iter().chain(&g.filter_lengths).any(|n| *n > u32::MAX as usize);
+        let runs = g.topic.len() + g.payload.len() + g.users.len() + g.filters.len() + g.topics.len() + g.reasons.len();
+        let held = runs + lents.iter().map(|l| l.bytes.len()).sum::<usize>();
+        let mut lists = g.user_lengths.iter().chain(&g.filter_lengths).chain(&g.topic_lengths);
+        let large = lists.any(|n| *n > u32::MAX as usize);
         if (held > BYTES || room > 2 * BYTES) && !self.long || held > 140_000 || large {
             return;
         }
@@ -208,7 +216,7 @@ impl Corpus {
                 lent(&mut row, &g.content);
                 run(&mut row, &g.payload);
             }
-            4 => {
+            4..=7 => {
                 u16s(&mut row, g.id as usize);
                 row.extend([g.reason, g.block as u8]);
                 lent(&mut row, &g.reason_string);
@@ -224,6 +232,22 @@ impl Corpus {
                 run(&mut row, &g.filters);
                 lengths(&mut row, &g.filter_lengths);
                 run(&mut row, &g.options);
+            }
+            9 | 11 => {
+                u16s(&mut row, g.id as usize);
+                row.push(g.block as u8);
+                lent(&mut row, &g.reason_string);
+                run(&mut row, &g.users);
+                lengths(&mut row, &g.user_lengths);
+                run(&mut row, &g.reasons);
+            }
+            10 => {
+                u16s(&mut row, g.id as usize);
+                row.push(g.block as u8);
+                run(&mut row, &g.users);
+                lengths(&mut row, &g.user_lengths);
+                run(&mut row, &g.topics);
+                lengths(&mut row, &g.topic_lengths);
             }
             _ => {}
         }
@@ -243,10 +267,11 @@ impl Corpus {
             g.sid.is_some(),
         ];
         let present: Vec<bool> = lents.iter().map(|l| l.present).collect();
-        let mut bucket = vec![g.kind as u64, class as u64, no as u64, no_size as u64, limit.is_some() as u64];
+        let mut bucket = vec![g.kind as u64, class, no as u64, no_size as u64, limit.is_some() as u64];
         if no == 0 {
             let options = g.options.first().map_or(0, |o| *o as u64 & 63);
-            bucket.extend([bits(&set), bits(&present), g.reason as u64, g.qos as u64, options]);
+            let reasons = g.reasons.first().map_or(0, |k| *k as u64);
+            bucket.extend([bits(&set), bits(&present), g.reason as u64, g.qos as u64, options, reasons]);
         }
         let cap = match no {
             _ if self.long => 1,

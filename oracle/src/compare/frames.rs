@@ -1,6 +1,6 @@
 //! Frames: well-formed ones of every kind with every property, and damaged copies of them.
-use super::model::{row, REASONS};
-use super::shape::Place;
+use super::model::{is_list, reasons, row};
+use super::shape::{first_byte, place_of, Place};
 use crate::streams::Dice;
 
 /// A frame before its length is spelled: the first byte, the body, and where in the body lengths stand.
@@ -11,12 +11,11 @@ pub struct Frame {
     pub marks: Vec<usize>,
 }
 
-pub const TEXTS: [&str; 12] = [
+pub const TEXTS: [&str; 11] = [
     "",
     "a",
     "a/b",
     "hi",
-    "\0",
     "ä",
     "€",
     "😀",
@@ -38,7 +37,9 @@ pub const BROKEN: [&[u8]; 10] = [
     b"a\xE2\x82",
     b"\xEF\xBF\xBF",
 ];
-pub const NUMBERS: [u32; 9] = [0, 1, 127, 128, 16_383, 16_384, 2_097_151, 2_097_152, 268_435_455];
+/// Texts that hold U+0000: alone, in front, behind, between others, behind eight and sixteen bytes of ASCII.
+pub const WITH_NUL: [&str; 7] = ["\0", "\0a", "a\0", "ä\0b", "12345678\0", "1234567890123456\0x", "€\0"];
+pub const NUMBERS: [u32; 8] = [1, 127, 128, 16_383, 16_384, 2_097_151, 2_097_152, 268_435_455];
 
 pub fn pick<T: Copy>(d: &mut Dice, of: &[T]) -> T {
     of[d.below(of.len() as u64) as usize]
@@ -50,6 +51,9 @@ pub fn one_in(d: &mut Dice, n: u64) -> bool {
 }
 
 pub fn text(d: &mut Dice) -> Vec<u8> {
+    if one_in(d, 100) {
+        return pick(d, &WITH_NUL).as_bytes().to_vec();
+    }
     match d.below(40) {
         0 => (0..d.below(200)).map(|_| b' ' + d.below(95) as u8).collect(),
         1 => "😀€".repeat(d.below(30) as usize).into_bytes(),
@@ -62,12 +66,31 @@ pub fn bytes(d: &mut Dice, most: u64) -> Vec<u8> {
     (0..d.below(most + 1)).map(|_| d.below(256) as u8).collect()
 }
 
-/// A variable length number, now and then longer than it need be.
-pub fn spell(out: &mut Vec<u8>, n: u32, longer: bool) {
+/// A subscription identifier, now and then 0.
+pub fn identifier(d: &mut Dice) -> u32 {
+    if one_in(d, 40) {
+        0
+    } else {
+        pick(d, &NUMBERS)
+    }
+}
+
+/// A variable length number with so many bytes more than it needs, four at most.
+pub fn spell(out: &mut Vec<u8>, n: u32, more: usize) {
+    let start = out.len();
     crate::streams::spell(out, n);
-    if longer && n < 2_097_152 {
+    for _ in 0..more.min(4 + start - out.len()) {
         *out.last_mut().unwrap() += 128;
         out.push(0);
+    }
+}
+
+/// How many bytes a number is too long: mostly none.
+pub fn winded(d: &mut Dice) -> usize {
+    if one_in(d, 50) {
+        1 + d.below(3) as usize
+    } else {
+        0
     }
 }
 
@@ -85,8 +108,8 @@ impl Frame {
             35 => self.body.extend((d.below(65_536) as u16).to_be_bytes()),
             9 => self.string(&bytes(d, 6)),
             11 => {
-                let (n, longer) = (pick(d, &NUMBERS), one_in(d, 8));
-                spell(&mut self.body, n, longer);
+                let (n, more) = (identifier(d), winded(d));
+                spell(&mut self.body, n, more);
             }
             38 => {
                 self.string(&text(d));
@@ -106,38 +129,45 @@ impl Frame {
             2 => d.below(10),
             _ => 1 + d.below(3),
         };
+        let mut met = 0u64;
         for _ in 0..count {
             let k = pick(d, row(place));
-            inner.property(k, d);
+            // a single-valued one is seldom doubled
+            if met >> k & 1 == 0 || is_list(place, k) || one_in(d, 20) {
+                met |= 1 << k;
+                inner.property(k, d);
+            }
         }
         self.marks.push(self.body.len());
-        spell(&mut self.body, inner.body.len() as u32, one_in(d, 12));
+        spell(&mut self.body, inner.body.len() as u32, winded(d));
         self.marks.extend(inner.marks.iter().map(|m| m + self.body.len()));
         self.body.extend(inner.body);
     }
-    /// The stream, its length spelled as `longer` says.
-    pub fn stream(&self, longer: bool) -> Vec<u8> {
+    /// The stream, its length spelled with so many bytes more than it needs.
+    pub fn stream(&self, more: usize) -> Vec<u8> {
         let mut out = vec![self.first];
-        spell(&mut out, self.body.len() as u32, longer);
+        spell(&mut out, self.body.len() as u32, more);
         out.extend(&self.body);
         out
     }
 }
 
-/// A sentence of the grammar.
+/// A sentence of the grammar, but for a doubled property, an identifier 0, U+0000 and a number that is too long now and then.
 pub fn well_formed(d: &mut Dice) -> Frame {
     let mut f = Frame {
         first: 0,
         body: vec![],
         marks: vec![],
     };
+    let kind = pick(d, &[3, 3, 3, 3, 3, 3, 3, 4, 5, 6, 7, 8, 8, 8, 9, 9, 10, 10, 11, 11, 12, 13]);
+    f.first = if one_in(d, 4) {
+        kind << 4 | d.below(16) as u8
+    } else {
+        first_byte(kind)
+    };
     let id = if one_in(d, 8) { 0 } else { 1 + d.below(65_535) as u16 };
-    match d.below(16) {
-        0 => {
-            f.first = pick(d, &[0xC0, 0xD0]) + d.below(16) as u8;
-            f.body = if one_in(d, 3) { bytes(d, 4) } else { vec![] };
-        }
-        1..=8 => {
+    match kind {
+        3 => {
             let qos = d.below(3) as u8;
             f.first = 0x30 + d.below(2) as u8 * 8 + qos * 2 + d.below(2) as u8;
             let topic = if one_in(d, 8) { bytes(d, 5) } else { text(d) };
@@ -147,29 +177,44 @@ pub fn well_formed(d: &mut Dice) -> Frame {
             }
             f.block(Place::Publish, d);
             f.body.extend(bytes(d, 8));
+            return f;
         }
-        9..=12 => {
-            f.first = if one_in(d, 4) { 0x80 + d.below(16) as u8 } else { 0x82 };
-            f.body.extend(id.to_be_bytes());
-            f.block(Place::Subscribe, d);
-            for _ in 0..1 + d.below(3) {
-                f.string(&text(d));
-                f.body
-                    .push(d.below(3) as u8 + d.below(4) as u8 * 4 + d.below(3) as u8 * 16 + d.below(4) as u8 * 64);
-            }
+        12 | 13 => {
+            f.body = if one_in(d, 3) { bytes(d, 4) } else { vec![] };
+            return f;
         }
-        _ => {
-            f.first = if one_in(d, 4) { 0x40 + d.below(16) as u8 } else { 0x40 };
-            f.body.extend(id.to_be_bytes());
-            let reason = pick(d, &REASONS);
+        _ => {}
+    }
+    f.body.extend(id.to_be_bytes());
+    let place = place_of(kind).unwrap();
+    let count = 1 + d.below(3);
+    match kind {
+        4..=7 => {
+            let reason = pick(d, reasons(kind));
             match d.below(8) {
                 0 => {}
                 1 => f.body.push(reason),
                 _ => {
                     f.body.push(reason);
-                    f.block(Place::PubAck, d);
+                    f.block(place, d);
                 }
             }
+        }
+        8 => {
+            f.block(place, d);
+            for _ in 0..count {
+                f.string(&text(d));
+                f.body
+                    .push(d.below(3) as u8 + d.below(4) as u8 * 4 + d.below(3) as u8 * 16 + d.below(4) as u8 * 64);
+            }
+        }
+        10 => {
+            f.block(place, d);
+            (0..count).for_each(|_| f.string(&text(d)));
+        }
+        _ => {
+            f.block(place, d);
+            (0..count).for_each(|_| f.body.push(pick(d, reasons(kind))));
         }
     }
     f
@@ -180,7 +225,7 @@ fn byte(d: &mut Dice) -> u8 {
     match d.below(4) {
         0 => d.below(256) as u8,
         1 => pick(d, &[1, 2, 3, 8, 9, 11, 31, 35, 38]),
-        2 => pick(d, &[0, 0x7F, 0x80, 0xFF, 0x33, 0x30, 0x03]),
+        2 => pick(d, &[0, 0x7F, 0x80, 0xFF, 0x33, 0x30, 0x03, 0x92, 0x8F, 0xA2, 0x11]),
         _ => d.below(12) as u8,
     }
 }
@@ -209,6 +254,8 @@ fn harm(f: &mut Frame, d: &mut Dice) {
             f.body.truncate(a);
             f.body.extend(&other.body[b..]);
         }
+        // another kind, or other flags
+        _ if one_in(d, 2) => f.first = f.first & 0x0F | (d.below(16) as u8) << 4,
         _ => f.first = f.first & 0xF0 | d.below(16) as u8,
     }
 }
@@ -219,7 +266,7 @@ pub fn damaged(f: &Frame, d: &mut Dice) -> Vec<u8> {
     for _ in 0..1 + d.below(3) {
         harm(&mut f, d);
     }
-    let mut s = f.stream(one_in(d, 12));
+    let mut s = f.stream(winded(d));
     let n = s.len() as u64;
     match d.below(12) {
         0 => s.truncate(d.below(n) as usize),

@@ -1,7 +1,7 @@
 //! Records to write: such that are accepted, and such that meet each refusal.
-use super::frames::{bytes, one_in, pick, text, BROKEN, NUMBERS};
-use super::model::REASONS;
-use super::shape::{Given, Lent};
+use super::frames::{bytes, identifier, one_in, pick, text, BROKEN};
+use super::model::reasons;
+use super::shape::{is_ack, is_reply, Given, Lent};
 use crate::streams::Dice;
 use bytes::Bytes;
 
@@ -26,7 +26,16 @@ fn number(d: &mut Dice) -> u32 {
     match d.below(12) {
         0 => 268_435_456,
         1 => u32::MAX,
-        _ => pick(d, &NUMBERS),
+        _ => identifier(d),
+    }
+}
+
+/// A reason that the kind lists, mostly.
+fn reason(d: &mut Dice, kind: u8) -> u8 {
+    if one_in(d, 60) {
+        d.below(256) as u8
+    } else {
+        pick(d, reasons(kind))
     }
 }
 
@@ -57,10 +66,10 @@ fn some<T>(d: &mut Dice, v: T) -> Option<T> {
 /// Only what a kind has is given to it. With `long`, some strings have 65,535 bytes and more.
 pub fn record(d: &mut Dice, long: bool) -> Given {
     let mut g = Given {
-        kind: pick(d, &[3, 3, 3, 3, 8, 8, 8, 4, 4, 12, 13]),
+        kind: pick(d, &[3, 3, 3, 3, 3, 3, 4, 5, 6, 7, 8, 8, 8, 9, 9, 10, 10, 10, 11, 11, 12, 13]),
         ..Given::default()
     };
-    if g.kind > 8 {
+    if g.kind > 11 {
         return g;
     }
     g.id = if one_in(d, 8) { 0 } else { d.below(65_536) as u16 };
@@ -104,15 +113,22 @@ pub fn record(d: &mut Dice, long: bool) -> Given {
                 g.options.push(0);
             }
         }
-        _ => {
-            g.reason = if one_in(d, 30) { d.below(256) as u8 } else { pick(d, &REASONS) };
-            if one_in(d, 3) {
-                g.reason = 0;
-            }
-            if filled {
-                g.reason_string = lent(d, long);
-            }
+        10 => {
+            let count = if one_in(d, 12) { 0 } else { 1 + d.below(3) };
+            (g.topics, g.topic_lengths) = run(d, count, long);
+            unfit(&mut g.topic_lengths, d);
         }
+        _ => {}
+    }
+    if is_ack(g.kind) {
+        g.reason = if one_in(d, 3) { 0 } else { reason(d, g.kind) };
+    }
+    if is_reply(g.kind) {
+        let count = if one_in(d, 12) { 0 } else { 1 + d.below(4) };
+        g.reasons = (0..count).map(|_| reason(d, g.kind)).collect();
+    }
+    if filled && (is_ack(g.kind) || is_reply(g.kind)) {
+        g.reason_string = lent(d, long);
     }
     g
 }

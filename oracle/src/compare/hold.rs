@@ -1,7 +1,7 @@
 //! Holds one input at a time against all sides, counts, and says where they part. A run fails where (a) the port is not the model with every
 //! switch off, (b) the crate's text is not the model with all on, or (c) the two differ and no listed entry tells why.
 use super::corpus::Corpus;
-use super::model::Entries;
+use super::model::{Entries, Switches};
 use super::shape::*;
 use super::{model, model_write, port, text};
 use bytes::BytesMut;
@@ -31,24 +31,15 @@ pub struct Hold {
     pub corpus: Option<Corpus>,
     /// print each input with its answers
     pub show: bool,
-    read_sets: Vec<Entries>,
-    write_sets: Vec<Entries>,
     of_port: Lists,
     of_rules: Lists,
     of_crate: Lists,
     of_set: Lists,
 }
 
-/// The sets of entries, smaller ones first.
-fn sets(all: Entries) -> Vec<Entries> {
-    let mut sets: Vec<Entries> = (0..=all).filter(|s| s & !all == 0).collect();
-    sets.sort_by_key(|s| (s.count_ones(), *s));
-    sets
-}
-
 /// The numbers of the entries.
 pub fn entries(class: Entries) -> String {
-    let named: Vec<String> = (1..=32)
+    let named: Vec<String> = (1..=64)
         .filter(|n| class & model::entry(*n) != 0)
         .map(|n| if n < 8 { format!("D{n}") } else { format!("entry {n}") })
         .collect();
@@ -68,13 +59,66 @@ fn note(classes: &mut BTreeMap<Entries, Seen>, class: Entries, bytes: usize, wha
     }
 }
 
+/// What is asked for: the n-th item at a place.
+struct At<'a> {
+    s: &'a [u8],
+    p: Span,
+    n: usize,
+}
+
+impl std::fmt::Debug for At<'_> {
+    fn fmt(&self, f: &mut std::fmt::Formatter) -> std::fmt::Result {
+        write!(
+            f,
+            "number {} of start {} length {} in {}",
+            self.n,
+            self.p.start,
+            self.p.len,
+            hex(self.s)
+        )
+    }
+}
+
+/// What the rules find at a place, by places and kinds; none where it is not well-formed.
+pub struct Found {
+    /// after PLACES
+    blocks: [Option<Lists>; 4],
+    filters: Option<Vec<(Span, u8)>>,
+    /// of SubAck and UnsubAck
+    reasons: [Option<Vec<u8>>; 2],
+    topics: Option<Vec<Span>>,
+}
+
+const PLACES: [Place; 4] = [Place::Publish, Place::Subscribe, Place::Ack, Place::Unsubscribe];
+
+impl Found {
+    pub fn user(&self, kind: u8, n: usize) -> Option<(Span, Span)> {
+        let place = place_of(kind)?;
+        let at = PLACES.iter().position(|p| *p == place)?;
+        self.blocks[at].as_ref()?.users.get(n).copied()
+    }
+    pub fn identifier(&self, n: usize) -> Option<u32> {
+        self.blocks[0].as_ref()?.ids.get(n).copied()
+    }
+    pub fn filter(&self, n: usize) -> Option<(Span, u8)> {
+        self.filters.as_ref()?.get(n).copied()
+    }
+    pub fn reason(&self, kind: u8, n: usize) -> Option<u8> {
+        let run = match kind {
+            9 => &self.reasons[0],
+            11 => &self.reasons[1],
+            _ => return None,
+        };
+        run.as_ref()?.get(n).copied()
+    }
+    pub fn topic(&self, n: usize) -> Option<Span> {
+        self.topics.as_ref()?.get(n).copied()
+    }
+}
+
 impl Hold {
     pub fn new() -> Self {
-        Hold {
-            read_sets: sets(model::ALL),
-            write_sets: sets(model_write::ALL),
-            ..Hold::default()
-        }
+        Hold::default()
     }
 
     fn fail(&mut self, which: &str, what: String) {
@@ -86,9 +130,9 @@ impl Hold {
 
     /// The smallest set of entries with which the model gives the text's answer.
     fn class_of_read(&mut self, s: &[u8], limit: Option<u64>, said: &text::Text) -> Option<Entries> {
-        let Hold { read_sets, of_set, .. } = self;
-        read_sets.iter().copied().find(|on| {
-            let answer = model::read(s, limit, *on, of_set);
+        let of_set = &mut self.of_set;
+        model::smallest(|by| {
+            let answer = model::read(s, limit, by, of_set);
             text::same(said, &answer, of_set, s)
         })
     }
@@ -99,8 +143,8 @@ impl Hold {
         let most = limit.map(u64::from);
         let said = text::read(s, limit);
         let answered = port::read(s, most, &mut self.of_port);
-        let rules = model::read(s, most, 0, &mut self.of_rules);
-        let modelled = model::read(s, most, model::ALL, &mut self.of_crate);
+        let rules = model::read(s, most, &Switches::of(0), &mut self.of_rules);
+        let modelled = model::read(s, most, &Switches::of(model::ALL), &mut self.of_crate);
         let alike = text::same(&said, &answered, &self.of_port, s);
         let class = if text::same(&said, &rules, &self.of_rules, s) {
             0
@@ -156,7 +200,7 @@ impl Hold {
     pub fn read_wide(&mut self, s: &[u8], limit: u64) {
         self.reads += 1;
         let answered = port::read(s, Some(limit), &mut self.of_port);
-        let rules = model::read(s, Some(limit), 0, &mut self.of_rules);
+        let rules = model::read(s, Some(limit), &Switches::of(0), &mut self.of_rules);
         if answered != rules || self.of_port != self.of_rules {
             self.fail(
                 "(a): the port does not answer by the rules",
@@ -165,51 +209,48 @@ impl Hold {
         }
     }
 
-    /// Asks for the n-th item of each list at any place of any bytes.
-    pub fn items(&mut self, s: &[u8], p: Span, n: usize) {
-        self.items += 5;
-        let rules: Vec<Option<Lists>> = PLACES.iter().map(|place| model::block_items(*place, s, p)).collect();
-        let run = model::run_items(s, p);
-        for (place, lists) in PLACES.iter().zip(&rules) {
-            let expected = lists.as_ref().and_then(|l| l.users.get(n).copied()).ok_or(no(21));
-            let answered = port::user(*place, s, p, n);
-            if answered != expected {
-                self.fail(
-                    "(a): item",
-                    format!("  {place:?} {p:?} {n} of {}\n  port {answered:?}\n  rules {expected:?}", hex(s)),
-                );
-            }
-        }
-        let expected = rules[0].as_ref().and_then(|l| l.ids.get(n).copied()).ok_or(no(21));
-        let answered = port::identifier(s, p, n);
+    /// One item of the port against that of the rules, if these find a well-formed place and an item there.
+    fn item<T: PartialEq + std::fmt::Debug>(&mut self, (list, kind): (&str, u8), answered: Result<T, No>, item: Option<T>, at: &At) {
+        self.items += 1;
+        let expected = item.ok_or(no(21));
         if answered != expected {
-            self.fail(
-                "(a): item",
-                format!("  identifier {p:?} {n} of {}\n  port {answered:?}\n  rules {expected:?}", hex(s)),
-            );
-        }
-        let expected = run.as_ref().and_then(|l| l.get(n).copied()).ok_or(no(21));
-        let answered = port::filter(s, p, n);
-        if answered != expected {
-            self.fail(
-                "(a): item",
-                format!("  filter {p:?} {n} of {}\n  port {answered:?}\n  rules {expected:?}", hex(s)),
-            );
+            let shown = format!("  {list} of {}, {at:?}\n  port {answered:?}\n  rules {expected:?}", name(kind));
+            self.fail("(a): item", shown);
         }
         if self.show {
-            println!("item {n} of start {} length {} in {}", p.start, p.len, hex(s));
-            PLACES
-                .iter()
-                .for_each(|place| println!("    pair in {place:?}: {:?}", port::user(*place, s, p, n)));
-            println!("    identifier: {:?}\n    filter: {:?}", port::identifier(s, p, n), answered);
+            println!("    {list} of {}: {answered:?}", name(kind));
         }
+    }
+
+    /// Asks for the n-th item of each list at any place of any bytes.
+    pub fn items(&mut self, s: &[u8], p: Span, n: usize) {
+        if self.show {
+            println!("item {n} of start {} length {} in {}", p.start, p.len, hex(s));
+        }
+        let found = Found {
+            blocks: PLACES.map(|place| model::block_items(place, s, p)),
+            filters: model::run_items(s, p),
+            reasons: [9, 11].map(|kind| model::reason_items(kind, s, p)),
+            topics: model::topic_items(s, p),
+        };
+        let at = At { s, p, n };
+        // kinds that have no block or no reasons are asked too
+        for kind in 2..=12 {
+            self.item(("pair", kind), port::user(kind, s, p, n), found.user(kind, n), &at);
+        }
+        self.item(("identifier", 3), port::identifier(s, p, n), found.identifier(n), &at);
+        self.item(("filter", 8), port::filter(s, p, n), found.filter(n), &at);
+        for kind in 8..=12 {
+            self.item(("reason", kind), port::reason(kind, s, p, n), found.reason(kind, n), &at);
+        }
+        self.item(("topic", 10), port::topic(s, p, n), found.topic(n), &at);
         let expected = p.of(s).len();
         let answered = port::part(s, p);
         if answered != expected {
             self.fail("(a): part", format!("  {p:?} of {}\n  port {answered}\n  rules {expected}", hex(s)));
         }
         if let Some(corpus) = &mut self.corpus {
-            corpus.items(s, p, n, &rules, &run);
+            corpus.items(s, p, n, &found);
         }
     }
 
@@ -223,9 +264,9 @@ impl Hold {
         put: &[u8],
     ) -> Option<Entries> {
         let mut out = vec![];
-        self.write_sets.iter().copied().find(|on| {
-            let answer = model_write::write(g, limit, room, *on, &mut out);
-            answer == said.0 && out == put && model_write::size(g, *on) == said.1
+        model::smallest(|by| {
+            let answer = model_write::write(g, limit, room, by, &mut out);
+            answer == said.0 && out == put && model_write::size(g, by) == said.1
         })
     }
 
@@ -238,7 +279,8 @@ impl Hold {
         let mut out = vec![fill; room];
         let answered = (port::write(g, most, &mut out), port::size(g));
         let mut by_rules = vec![];
-        let rules = (model_write::write(g, most, room, 0, &mut by_rules), model_write::size(g, 0));
+        let off = Switches::of(0);
+        let rules = (model_write::write(g, most, room, &off, &mut by_rules), model_write::size(g, &off));
         let kept = out.get(by_rules.len()..).is_some_and(|rest| rest.iter().all(|b| *b == fill));
         let alike = kept && out[..by_rules.len()] == by_rules;
         if answered != rules || !alike {
@@ -294,10 +336,8 @@ impl Hold {
         let mut put = BytesMut::new();
         let said = (text::write(&packet, limit, &mut put), text::size(&packet));
         let mut by_model = vec![];
-        let modelled = (
-            model_write::write(g, most, room, model_write::ALL, &mut by_model),
-            model_write::size(g, model_write::ALL),
-        );
+        let on = Switches::of(model_write::ALL);
+        let modelled = (model_write::write(g, most, room, &on, &mut by_model), model_write::size(g, &on));
         let shown = || {
             format!(
                 "  {}\n  limit {limit:?} room {room}\n  port {answered:?} {}\n  crate {said:?} {}\n  model {modelled:?} {}",
@@ -343,6 +383,7 @@ fn record(r: &Record, lists: &Lists, s: &[u8]) -> String {
     let run = |p: Span| format!("[{}]", hex(p.of(s)));
     let pairs: Vec<String> = lists.users.iter().map(|(a, b)| run(*a) + "=" + &run(*b)).collect();
     let filters: Vec<String> = lists.filters.iter().map(|(p, o)| format!("{} options {o:02X}", run(*p))).collect();
+    let kind = name(r.kind);
     match r.kind {
         3 => format!(
             "accepted: Publish qos {} id {} topic {} payload {} identifiers {:?} pairs {pairs:?}",
@@ -352,19 +393,26 @@ fn record(r: &Record, lists: &Lists, s: &[u8]) -> String {
             run(r.payload),
             lists.ids
         ),
-        8 => format!("accepted: Subscribe id {} identifier {:?} pairs {pairs:?} filters {filters:?}", r.id, r.sid),
-        4 => format!("accepted: PubAck id {} reason {:02X} pairs {pairs:?}", r.id, r.reason),
-        12 => "accepted: PingReq".into(),
-        _ => "accepted: PingResp".into(),
+        8 => format!(
+            "accepted: Subscribe id {} identifier {:?} pairs {pairs:?} filters {filters:?}",
+            r.id, r.sid
+        ),
+        4..=7 => format!("accepted: {kind} id {} reason {:02X} pairs {pairs:?}", r.id, r.reason),
+        9 | 11 => format!("accepted: {kind} id {} pairs {pairs:?} reasons [{}]", r.id, hex(&lists.reasons)),
+        10 => {
+            let topics: Vec<String> = lists.topics.iter().map(|t| run(*t)).collect();
+            format!("accepted: Unsubscribe id {} pairs {pairs:?} topics {topics:?}", r.id)
+        }
+        _ => format!("accepted: {kind}"),
     }
 }
 
 /// How much is handed over.
 fn weight(g: &Given) -> usize {
     let runs = g.topic.len() + g.payload.len() + g.users.len() + g.filters.len() + g.response.bytes.len() + g.correlation.bytes.len();
-    let lists = g.user_lengths.len() + g.ids.len() + g.filter_lengths.len() + g.options.len();
+    let lists = g.user_lengths.len() + g.ids.len() + g.filter_lengths.len() + g.options.len() + g.topic_lengths.len();
     let numbers = g.block as usize + g.format.is_some() as usize + g.expiry.is_some() as usize + g.alias.is_some() as usize;
-    runs + g.content.bytes.len() + g.reason_string.bytes.len() + 2 * lists + numbers
+    runs + g.topics.len() + g.reasons.len() + g.content.bytes.len() + g.reason_string.bytes.len() + 2 * lists + numbers
 }
 
 /// What a record is, in one line, long runs left out.
@@ -402,8 +450,9 @@ fn short(g: &Given) -> String {
             g.filter_lengths,
             run(&g.options)
         ),
-        4 => format!(
-            "PubAck id {} reason {:02X} block {} 31 {} 38 {} {:?}",
+        4..=7 => format!(
+            "{} id {} reason {:02X} block {} 31 {} 38 {} {:?}",
+            name(g.kind),
             g.id,
             g.reason,
             g.block,
@@ -411,7 +460,25 @@ fn short(g: &Given) -> String {
             run(&g.users),
             g.user_lengths
         ),
-        12 => "PingReq".into(),
-        _ => "PingResp".into(),
+        9 | 11 => format!(
+            "{} id {} block {} 31 {} 38 {} {:?} reasons {}",
+            name(g.kind),
+            g.id,
+            g.block,
+            lent(&g.reason_string),
+            run(&g.users),
+            g.user_lengths,
+            run(&g.reasons)
+        ),
+        10 => format!(
+            "Unsubscribe id {} block {} 38 {} {:?} topics {} {:?}",
+            g.id,
+            g.block,
+            run(&g.users),
+            g.user_lengths,
+            run(&g.topics),
+            g.topic_lengths
+        ),
+        kind => name(kind).into(),
     }
 }

@@ -1,9 +1,10 @@
-//! A model of the reader. With every switch off it reads by 01's rules; each switch puts one listed difference of the crate back, and with
-//! all on it is to answer as the crate does, for every stream. A switch is the bit of its entry in docs/DIFFERENCES.md.
+//! A model of the reader. With every switch off it reads by the rules of 01 and 02; each switch puts one listed difference of the crate back,
+//! and with all on it is to answer as the crate does, for every stream. A switch is the bit of its entry in docs/DIFFERENCES.md.
 use super::shape::*;
+use std::cell::Cell;
 
 /// A set of entries of docs/DIFFERENCES.md: entry n is bit n - 1.
-pub type Entries = u32;
+pub type Entries = u64;
 pub const fn entry(n: u32) -> Entries {
     1 << (n - 1)
 }
@@ -15,24 +16,99 @@ pub const D2: Entries = entry(2);
 pub const D3: Entries = entry(3);
 /// 6: the text that is compared does not carry the other kinds either, and says so by another error.
 pub const KIND: Entries = entry(8);
-/// A PubAck's bad reason has another name.
+/// An acknowledgement's bad reason has another name.
 pub const REASON_NAME: Entries = entry(14);
-/// A PubAck's reason is looked at after the block.
+/// An acknowledgement's reason is looked at after the block.
 pub const REASON_LAST: Entries = entry(15);
-/// Bytes after a PubAck's block are let pass.
+/// Bytes after an acknowledgement's block are let pass.
 pub const AFTER_BLOCK: Entries = entry(16);
-pub const ALL: Entries = D1 | D2 | D3 | KIND | REASON_NAME | REASON_LAST | AFTER_BLOCK;
+/// P2: the limit is held to R, and 3 says R.
+pub const LIMIT: Entries = entry(30);
+/// P8: a number may have more bytes than it needs.
+pub const WINDED: Entries = entry(31);
+/// P9: of a doubled property the last counts.
+pub const TWICE: Entries = entry(32);
+/// P9: a subscription identifier may be 0, read or written.
+pub const ZERO: Entries = entry(33);
+/// P9: text may hold U+0000, read or written.
+pub const NUL: Entries = entry(34);
+/// A bad reason of a SubAck or UnsubAck has another name.
+pub const REPLY_NAME: Entries = entry(35);
+/// A SubAck or UnsubAck with no reason is 7.
+pub const NO_REASON: Entries = entry(36);
+/// An Unsubscribe with no topic is read.
+pub const NO_TOPIC: Entries = entry(37);
+pub const ALL: Entries =
+    D1 | D2 | D3 | KIND | REASON_NAME | REASON_LAST | AFTER_BLOCK | LIMIT | WINDED | TWICE | ZERO | NUL | REPLY_NAME | NO_REASON | NO_TOPIC;
 
-pub const REASONS: [u8; 9] = [0x00, 0x10, 0x80, 0x83, 0x87, 0x90, 0x91, 0x97, 0x99];
+/// Which entries are switched on; keeps which were asked for.
+pub struct Switches {
+    on: Entries,
+    asked: Cell<Entries>,
+}
+
+impl Switches {
+    pub fn of(on: Entries) -> Self {
+        Switches { on, asked: Cell::new(0) }
+    }
+    pub fn has(&self, e: Entries) -> bool {
+        self.asked.set(self.asked.get() | e);
+        self.on & e != 0
+    }
+}
+
+/// The smallest set of entries with which `right` holds, the lowest of several. A set is grown by what was asked for and was off: a set that
+/// leaves all of that off has the same run, so no smaller set is passed over.
+pub fn smallest(mut right: impl FnMut(&Switches) -> bool) -> Option<Entries> {
+    let mut sets = vec![0];
+    while !sets.is_empty() {
+        let mut larger = vec![];
+        for on in sets {
+            let by = Switches::of(on);
+            if right(&by) {
+                return Some(on);
+            }
+            let mut open = by.asked.get() & !on;
+            while open != 0 {
+                let lowest = open & open.wrapping_neg();
+                larger.push(on | lowest);
+                open ^= lowest;
+            }
+        }
+        larger.sort_unstable();
+        larger.dedup();
+        sets = larger;
+    }
+    None
+}
+
 const PUBLISH: [u8; 8] = [1, 2, 35, 8, 9, 38, 11, 3];
 const SUBSCRIBE: [u8; 2] = [11, 38];
-const PUBACK: [u8; 2] = [31, 38];
+const ACK: [u8; 2] = [31, 38];
+const UNSUBSCRIBE: [u8; 1] = [38];
 
 pub fn row(place: Place) -> &'static [u8] {
     match place {
         Place::Publish => &PUBLISH,
         Place::Subscribe => &SUBSCRIBE,
-        Place::PubAck => &PUBACK,
+        Place::Ack => &ACK,
+        Place::Unsubscribe => &UNSUBSCRIBE,
+    }
+}
+
+/// 38, and 11 in Publish, are lists; any other is single-valued.
+pub fn is_list(place: Place, k: u8) -> bool {
+    k == 38 || k == 11 && place == Place::Publish
+}
+
+/// The reasons that a kind lists.
+pub fn reasons(kind: u8) -> &'static [u8] {
+    match kind {
+        4 | 5 => &[0x00, 0x10, 0x80, 0x83, 0x87, 0x90, 0x91, 0x97, 0x99],
+        6 | 7 => &[0x00, 0x92],
+        9 => &[0x00, 0x01, 0x02, 0x80, 0x83, 0x87, 0x8F, 0x91, 0x97, 0x9E, 0xA1, 0xA2],
+        11 => &[0x00, 0x11, 0x80, 0x83, 0x87, 0x8F, 0x91],
+        _ => &[],
     }
 }
 
@@ -43,7 +119,7 @@ enum Number {
     Long,
 }
 
-fn number(s: &[u8], at: usize, end: usize) -> Number {
+fn number(s: &[u8], at: usize, end: usize, by: &Switches) -> Number {
     let mut value = 0;
     for k in 0..4 {
         if at + k >= end {
@@ -52,10 +128,19 @@ fn number(s: &[u8], at: usize, end: usize) -> Number {
         let b = s[at + k] as usize;
         value += b % 128 * 128usize.pow(k as u32);
         if b < 128 {
+            // a last group of 0 behind others is not needed
+            if b == 0 && k > 0 && !by.has(WINDED) {
+                return Number::Long;
+            }
             return Number::Value(value, at + k + 1);
         }
     }
     Number::Long
+}
+
+/// Is it text? U+0000 is none, unless NUL is on.
+pub fn is_text(s: &[u8], by: &Switches) -> bool {
+    std::str::from_utf8(s).is_ok() && (!s.contains(&0) || by.has(NUL))
 }
 
 /// Reads from `at` up to `end`, which is the end of the frame or of the block.
@@ -63,12 +148,18 @@ struct Walk<'a> {
     s: &'a [u8],
     at: usize,
     end: usize,
-    on: Entries,
+    by: &'a Switches,
 }
 
 impl Walk<'_> {
     fn left(&self) -> usize {
         self.end - self.at
+    }
+    fn rest(&self) -> Span {
+        Span {
+            start: self.at,
+            len: self.left(),
+        }
     }
     /// A number of `width` bytes, or 7.
     fn fixed(&mut self, width: usize) -> Result<u64, No> {
@@ -81,12 +172,12 @@ impl Walk<'_> {
     }
     /// Cut off it is 7, with D3 InsufficientBytes(1).
     fn number(&mut self) -> Result<usize, No> {
-        match number(self.s, self.at, self.end) {
+        match number(self.s, self.at, self.end, self.by) {
             Number::Value(value, next) => {
                 self.at = next;
                 Ok(value)
             }
-            Number::Cut if self.on & D3 != 0 => Err(no1(1, 1)),
+            Number::Cut if self.by.has(D3) => Err(no1(1, 1)),
             Number::Cut => Err(no(7)),
             Number::Long => Err(no(2)),
         }
@@ -102,16 +193,21 @@ impl Walk<'_> {
     }
     fn text(&mut self) -> Result<Span, No> {
         let span = self.string()?;
-        match std::str::from_utf8(span.of(self.s)) {
-            Ok(_) => Ok(span),
-            Err(_) => Err(no(9)),
+        if is_text(span.of(self.s), self.by) {
+            Ok(span)
+        } else {
+            Err(no(9))
         }
     }
-    /// One property after its identifier `k`.
-    fn value(&mut self, k: u8, place: Place, r: &mut Record, lists: &mut Lists) -> Result<(), No> {
+    /// One property after its identifier `k`; `met` has a bit for each that came before it.
+    fn value(&mut self, k: u8, met: &mut u64, place: Place, r: &mut Record, lists: &mut Lists) -> Result<(), No> {
         if !row(place).contains(&k) {
             return Err(no1(10, k as u64));
         }
+        if *met >> k & 1 == 1 && !is_list(place, k) && !self.by.has(TWICE) {
+            return Err(no1(22, k as u64));
+        }
+        *met |= 1 << k;
         match k {
             1 => r.format = Some(self.fixed(1)? as u8),
             2 => r.expiry = Some(self.fixed(4)? as u32),
@@ -126,6 +222,9 @@ impl Walk<'_> {
             }
             _ => {
                 let id = self.number()? as u32;
+                if id == 0 && !self.by.has(ZERO) {
+                    return Err(no(23));
+                }
                 match place {
                     Place::Publish => lists.ids.push(id),
                     _ => r.sid = Some(id),
@@ -138,16 +237,16 @@ impl Walk<'_> {
     /// byte more than it has.
     fn properties(&mut self, len: usize, place: Place, r: &mut Record, lists: &mut Lists) -> Result<(), No> {
         let outer = self.end;
-        if self.on & D2 == 0 {
+        if !self.by.has(D2) {
             self.end = self.at + len;
         }
-        let mut counted = 0;
+        let (mut counted, mut met) = (0, 0);
         while counted < len {
             let before = self.at;
             let k = self.fixed(1)? as u8;
-            self.value(k, place, r, lists)?;
+            self.value(k, &mut met, place, r, lists)?;
             counted += self.at - before;
-            if k == 11 && self.on & D1 != 0 {
+            if k == 11 && self.by.has(D1) {
                 counted += 1;
             }
         }
@@ -159,7 +258,7 @@ impl Walk<'_> {
         if len == 0 {
             return Ok(());
         }
-        if len > self.left() && self.on & D2 == 0 {
+        if len > self.left() && !self.by.has(D2) {
             return Err(no1(8, len as u64));
         }
         r.block = Some(Span { start: self.at, len });
@@ -178,10 +277,7 @@ impl Walk<'_> {
             }
         }
         self.block(Place::Publish, r, lists)?;
-        r.payload = Span {
-            start: self.at,
-            len: self.left(),
-        };
+        r.payload = self.rest();
         Ok(())
     }
     fn filters(&mut self, lists: &mut Lists) -> Result<(), No> {
@@ -204,33 +300,67 @@ impl Walk<'_> {
     fn subscribe(&mut self, r: &mut Record, lists: &mut Lists) -> Result<(), No> {
         r.id = self.fixed(2)? as u16;
         self.block(Place::Subscribe, r, lists)?;
-        r.filters = Span {
-            start: self.at,
-            len: self.left(),
-        };
+        r.filters = self.rest();
         self.filters(lists)
     }
-    fn reason(&self, k: u8) -> Result<(), No> {
-        if REASONS.contains(&k) {
+    fn topics(&mut self, lists: &mut Lists) -> Result<(), No> {
+        if self.left() == 0 && !self.by.has(NO_TOPIC) {
+            return Err(no(13));
+        }
+        while self.left() > 0 {
+            let topic = self.text()?;
+            lists.topics.push(topic);
+        }
+        Ok(())
+    }
+    fn unsubscribe(&mut self, r: &mut Record, lists: &mut Lists) -> Result<(), No> {
+        r.id = self.fixed(2)? as u16;
+        self.block(Place::Unsubscribe, r, lists)?;
+        r.topics = self.rest();
+        self.topics(lists)
+    }
+    fn reasons(&mut self, kind: u8, lists: &mut Lists) -> Result<(), No> {
+        if self.left() == 0 {
+            return Err(no(if self.by.has(NO_REASON) { 7 } else { 13 }));
+        }
+        while self.left() > 0 {
+            let k = self.fixed(1)? as u8;
+            if !reasons(kind).contains(&k) {
+                let name = if self.by.has(REPLY_NAME) { SUBSCRIBE_CODE } else { 15 };
+                return Err(no1(name, k as u64));
+            }
+            lists.reasons.push(k);
+        }
+        Ok(())
+    }
+    fn reply(&mut self, r: &mut Record, lists: &mut Lists) -> Result<(), No> {
+        r.id = self.fixed(2)? as u16;
+        self.block(Place::Ack, r, lists)?;
+        r.reasons = self.rest();
+        self.reasons(r.kind, lists)
+    }
+    fn reason(&self, kind: u8, k: u8) -> Result<(), No> {
+        if reasons(kind).contains(&k) {
             return Ok(());
         }
-        let name = if self.on & REASON_NAME != 0 { RETURN_CODE } else { 15 };
+        let name = if self.by.has(REASON_NAME) { RETURN_CODE } else { 15 };
         Err(no1(name, k as u64))
     }
-    fn puback(&mut self, r: &mut Record, lists: &mut Lists) -> Result<(), No> {
+    fn ack(&mut self, r: &mut Record, lists: &mut Lists) -> Result<(), No> {
         r.id = self.fixed(2)? as u16;
         if self.left() == 0 {
             return Ok(());
         }
         r.reason = self.fixed(1)? as u8;
-        if self.on & REASON_LAST == 0 {
-            self.reason(r.reason)?;
-        }
+        let good = self.reason(r.kind, r.reason);
         if self.left() > 0 {
-            self.block(Place::PubAck, r, lists)?;
+            if good.is_err() && !self.by.has(REASON_LAST) {
+                return good;
+            }
+            self.block(Place::Ack, r, lists)?;
         }
-        self.reason(r.reason)?;
-        if self.left() > 0 && self.on & AFTER_BLOCK == 0 {
+        good?;
+        if self.left() > 0 && !self.by.has(AFTER_BLOCK) {
             return Err(no(7));
         }
         Ok(())
@@ -238,36 +368,41 @@ impl Walk<'_> {
 }
 
 /// The answer to a stream under a limit; the lists of an accepted record are left in `lists`.
-pub fn read(s: &[u8], limit: Option<u64>, on: Entries, lists: &mut Lists) -> Answer {
+pub fn read(s: &[u8], limit: Option<u64>, by: &Switches, lists: &mut Lists) -> Answer {
     lists.clear();
     if s.len() < 2 {
         return (Err(no1(1, 2 - s.len() as u64)), 0);
     }
-    let (r, start) = match number(s, 1, s.len()) {
+    let (r, start) = match number(s, 1, s.len(), by) {
         Number::Value(r, start) => (r, start),
         Number::Cut => return (Err(no1(1, 1)), 0),
         Number::Long => return (Err(no(2)), 0),
     };
-    if let Some(most) = limit {
+    let end = start + r;
+    if let Some(most) = limit.filter(|most| end as u64 > *most) {
+        if !by.has(LIMIT) {
+            return (Err(no2(3, end as u64, most)), 0);
+        }
         if r as u64 > most {
             return (Err(no2(3, r as u64, most)), 0);
         }
     }
-    let end = start + r;
     if s.len() < end {
         return (Err(no1(1, (end - s.len()) as u64)), 0);
     }
     let kind = s[0] >> 4;
     let mut record = Record { kind, ..Record::default() };
-    let mut walk = Walk { s, at: start, end, on };
+    let mut walk = Walk { s, at: start, end, by };
     let done = match kind {
         0 | 15 => Err(no1(4, kind as u64)),
         12 | 13 => Ok(()),
         _ if r == 0 => Err(no(5)),
         3 => walk.publish(s[0], &mut record, lists),
-        4 => walk.puback(&mut record, lists),
+        4..=7 => walk.ack(&mut record, lists),
         8 => walk.subscribe(&mut record, lists),
-        _ if on & KIND != 0 => Err(no(TRIMMED)),
+        9 | 11 => walk.reply(&mut record, lists),
+        10 => walk.unsubscribe(&mut record, lists),
+        _ if by.has(KIND) => Err(no(TRIMMED)),
         _ => Err(no1(6, kind as u64)),
     };
     if done.is_err() {
@@ -276,30 +411,39 @@ pub fn read(s: &[u8], limit: Option<u64>, on: Entries, lists: &mut Lists) -> Ans
     (done.map(|_| record), end)
 }
 
-/// The lists of the block at `p`, if it is a well-formed one of the place (21 otherwise).
-pub fn block_items(place: Place, s: &[u8], p: Span) -> Option<Lists> {
+/// What the rules find at the place `p`, if it lies within the bytes and is well-formed (21 otherwise).
+fn at_place(s: &[u8], p: Span, walked: impl FnOnce(&mut Walk, &mut Lists) -> Result<(), No>) -> Option<Lists> {
     let end = p.start.checked_add(p.len).filter(|end| *end <= s.len())?;
+    let by = Switches::of(0);
     let mut walk = Walk {
         s,
         at: p.start,
         end,
-        on: 0,
+        by: &by,
     };
-    let (mut record, mut lists) = (Record::default(), Lists::default());
-    walk.properties(p.len, place, &mut record, &mut lists).ok()?;
+    let mut lists = Lists::default();
+    walked(&mut walk, &mut lists).ok()?;
     Some(lists)
 }
 
-/// The filters of the run at `p`, if it is a well-formed one.
+/// The lists of the block at `p`.
+pub fn block_items(place: Place, s: &[u8], p: Span) -> Option<Lists> {
+    at_place(s, p, |walk, lists| walk.properties(p.len, place, &mut Record::default(), lists))
+}
+
+/// The filters of the run at `p`.
 pub fn run_items(s: &[u8], p: Span) -> Option<Vec<(Span, u8)>> {
-    let end = p.start.checked_add(p.len).filter(|end| *end <= s.len())?;
-    let mut walk = Walk {
-        s,
-        at: p.start,
-        end,
-        on: 0,
-    };
-    let mut lists = Lists::default();
-    walk.filters(&mut lists).ok()?;
-    Some(lists.filters)
+    at_place(s, p, |walk, lists| walk.filters(lists)).map(|l| l.filters)
+}
+
+/// The reasons of the run at `p`; no kind but SubAck and UnsubAck has such.
+pub fn reason_items(kind: u8, s: &[u8], p: Span) -> Option<Vec<u8>> {
+    at_place(s, p, |walk, lists| walk.reasons(kind, lists))
+        .map(|l| l.reasons)
+        .filter(|_| is_reply(kind))
+}
+
+/// The topics of the run at `p`.
+pub fn topic_items(s: &[u8], p: Span) -> Option<Vec<Span>> {
+    at_place(s, p, |walk, lists| walk.topics(lists)).map(|l| l.topics)
 }

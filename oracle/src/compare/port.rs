@@ -3,7 +3,7 @@
 use super::shape::*;
 
 /// The numbers of `record`, after enum ecch_record_layout.
-pub const RECORD: usize = 38;
+pub const RECORD: usize = 42;
 
 /// A record's numbers, as ecch_read fills them.
 pub fn numbers(answer: &Answer) -> [u64; RECORD] {
@@ -47,6 +47,12 @@ pub fn numbers(answer: &Answer) -> [u64; RECORD] {
     set(30, &maybe(r.content));
     set(33, &maybe(r.reason_string));
     set(36, &value(r.sid.map(u64::from)));
+    if is_reply(r.kind) {
+        set(38, &span(r.reasons));
+    }
+    if r.kind == 10 {
+        set(40, &span(r.topics));
+    }
     n
 }
 
@@ -78,6 +84,8 @@ fn told(n: &[u64; RECORD]) -> Record {
         content: maybe(30),
         reason_string: maybe(33),
         sid: value(36).map(|v| v as u32),
+        reasons: span(38),
+        topics: span(40),
     };
     let back = numbers(&(Ok(r.clone()), n[0] as usize));
     if back == *n {
@@ -91,7 +99,7 @@ fn told(n: &[u64; RECORD]) -> Record {
 mod side {
     use super::*;
     type Bytes = *const u8;
-    /// The arguments of a Publish, as the header has them.
+    /// The arguments, as the header has them.
     macro_rules! externs {
         ($($name:ident($($arg:ident: $type:ty),* $(,)?) -> $gives:ty;)*) => {
             #[link(name = "ecchjulmina", kind = "static")]
@@ -104,6 +112,8 @@ mod side {
         ecch_user_property(stream: Bytes, n: usize, kind: u8, start: usize, len: usize, nth: usize, item: *mut u64, item_len: usize) -> u32;
         ecch_subscription_identifier(stream: Bytes, n: usize, start: usize, len: usize, nth: usize, item: *mut u64, item_len: usize) -> u32;
         ecch_filter(stream: Bytes, n: usize, start: usize, len: usize, nth: usize, item: *mut u64, item_len: usize) -> u32;
+        ecch_reason(stream: Bytes, n: usize, kind: u8, start: usize, len: usize, nth: usize, item: *mut u64, item_len: usize) -> u32;
+        ecch_topic(stream: Bytes, n: usize, start: usize, len: usize, nth: usize, item: *mut u64, item_len: usize) -> u32;
         ecch_publish_size(dup: u8, qos: u8, retain: u8, pkid: u16, topic: Bytes, topic_len: usize, block: u8, format_on: u8, format: u8,
             expiry_on: u8, expiry: u32, alias_on: u8, alias: u16, response_on: u8, response: Bytes, response_len: usize, correlation_on: u8,
             correlation: Bytes, correlation_len: usize, user: Bytes, user_len: usize, user_lengths: *const usize, user_lengths_len: usize,
@@ -126,17 +136,42 @@ mod side {
         ecch_puback_write(pkid: u16, reason: u8, block: u8, reason_string_on: u8, reason_string: Bytes, reason_string_len: usize,
             user: Bytes, user_len: usize, user_lengths: *const usize, user_lengths_len: usize, limited: u8, limit: usize, out: *mut u8,
             out_len: usize, answer: *mut u64, answer_len: usize) -> u32;
+        ecch_pubrec_size(pkid: u16, reason: u8, block: u8, reason_string_on: u8, reason_string: Bytes, reason_string_len: usize,
+            user: Bytes, user_len: usize, user_lengths: *const usize, user_lengths_len: usize, answer: *mut u64, answer_len: usize) -> u32;
+        ecch_pubrec_write(pkid: u16, reason: u8, block: u8, reason_string_on: u8, reason_string: Bytes, reason_string_len: usize,
+            user: Bytes, user_len: usize, user_lengths: *const usize, user_lengths_len: usize, limited: u8, limit: usize, out: *mut u8,
+            out_len: usize, answer: *mut u64, answer_len: usize) -> u32;
+        ecch_pubrel_size(pkid: u16, reason: u8, block: u8, reason_string_on: u8, reason_string: Bytes, reason_string_len: usize,
+            user: Bytes, user_len: usize, user_lengths: *const usize, user_lengths_len: usize, answer: *mut u64, answer_len: usize) -> u32;
+        ecch_pubrel_write(pkid: u16, reason: u8, block: u8, reason_string_on: u8, reason_string: Bytes, reason_string_len: usize,
+            user: Bytes, user_len: usize, user_lengths: *const usize, user_lengths_len: usize, limited: u8, limit: usize, out: *mut u8,
+            out_len: usize, answer: *mut u64, answer_len: usize) -> u32;
+        ecch_pubcomp_size(pkid: u16, reason: u8, block: u8, reason_string_on: u8, reason_string: Bytes, reason_string_len: usize,
+            user: Bytes, user_len: usize, user_lengths: *const usize, user_lengths_len: usize, answer: *mut u64, answer_len: usize) -> u32;
+        ecch_pubcomp_write(pkid: u16, reason: u8, block: u8, reason_string_on: u8, reason_string: Bytes, reason_string_len: usize,
+            user: Bytes, user_len: usize, user_lengths: *const usize, user_lengths_len: usize, limited: u8, limit: usize, out: *mut u8,
+            out_len: usize, answer: *mut u64, answer_len: usize) -> u32;
+        ecch_suback_size(pkid: u16, block: u8, reason_string_on: u8, reason_string: Bytes, reason_string_len: usize, user: Bytes,
+            user_len: usize, user_lengths: *const usize, user_lengths_len: usize, reasons: Bytes, reasons_len: usize, answer: *mut u64,
+            answer_len: usize) -> u32;
+        ecch_suback_write(pkid: u16, block: u8, reason_string_on: u8, reason_string: Bytes, reason_string_len: usize, user: Bytes,
+            user_len: usize, user_lengths: *const usize, user_lengths_len: usize, reasons: Bytes, reasons_len: usize, limited: u8,
+            limit: usize, out: *mut u8, out_len: usize, answer: *mut u64, answer_len: usize) -> u32;
+        ecch_unsuback_size(pkid: u16, block: u8, reason_string_on: u8, reason_string: Bytes, reason_string_len: usize, user: Bytes,
+            user_len: usize, user_lengths: *const usize, user_lengths_len: usize, reasons: Bytes, reasons_len: usize, answer: *mut u64,
+            answer_len: usize) -> u32;
+        ecch_unsuback_write(pkid: u16, block: u8, reason_string_on: u8, reason_string: Bytes, reason_string_len: usize, user: Bytes,
+            user_len: usize, user_lengths: *const usize, user_lengths_len: usize, reasons: Bytes, reasons_len: usize, limited: u8,
+            limit: usize, out: *mut u8, out_len: usize, answer: *mut u64, answer_len: usize) -> u32;
+        ecch_unsubscribe_size(pkid: u16, block: u8, user: Bytes, user_len: usize, user_lengths: *const usize, user_lengths_len: usize,
+            topics: Bytes, topics_len: usize, topic_lengths: *const usize, topic_lengths_len: usize, answer: *mut u64,
+            answer_len: usize) -> u32;
+        ecch_unsubscribe_write(pkid: u16, block: u8, user: Bytes, user_len: usize, user_lengths: *const usize, user_lengths_len: usize,
+            topics: Bytes, topics_len: usize, topic_lengths: *const usize, topic_lengths_len: usize, limited: u8, limit: usize,
+            out: *mut u8, out_len: usize, answer: *mut u64, answer_len: usize) -> u32;
         ecch_ping_size(answer: *mut u64, answer_len: usize) -> u32;
         ecch_pingreq_write(limited: u8, limit: usize, out: *mut u8, out_len: usize, answer: *mut u64, answer_len: usize) -> u32;
         ecch_pingresp_write(limited: u8, limit: usize, out: *mut u8, out_len: usize, answer: *mut u64, answer_len: usize) -> u32;
-    }
-
-    fn kind(place: Place) -> u8 {
-        match place {
-            Place::Publish => 3,
-            Place::PubAck => 4,
-            Place::Subscribe => 8,
-        }
     }
 
     pub fn name() -> &'static str {
@@ -177,9 +212,9 @@ mod side {
         }
     }
 
-    pub fn user(place: Place, s: &[u8], p: Span, nth: usize) -> Result<(Span, Span), No> {
+    pub fn user(kind: u8, s: &[u8], p: Span, nth: usize) -> Result<(Span, Span), No> {
         let mut n = [u64::MAX; 4];
-        let got = unsafe { ecch_user_property(s.as_ptr(), s.len(), kind(place), p.start, p.len, nth, n.as_mut_ptr(), 4) };
+        let got = unsafe { ecch_user_property(s.as_ptr(), s.len(), kind, p.start, p.len, nth, n.as_mut_ptr(), 4) };
         let n = item(got, n)?;
         let span = |a: u64, b: u64| Span {
             start: a as usize,
@@ -207,6 +242,23 @@ mod side {
             len: n[1] as usize,
         };
         Ok((path, (n[2] + n[3] * 4 + n[4] * 8 + n[5] * 16) as u8))
+    }
+
+    pub fn reason(kind: u8, s: &[u8], p: Span, nth: usize) -> Result<u8, No> {
+        let mut n = [u64::MAX; 1];
+        let got = unsafe { ecch_reason(s.as_ptr(), s.len(), kind, p.start, p.len, nth, n.as_mut_ptr(), 1) };
+        let n = item(got, n)?;
+        u8::try_from(n[0]).map_err(|_| no(UNKNOWN))
+    }
+
+    pub fn topic(s: &[u8], p: Span, nth: usize) -> Result<Span, No> {
+        let mut n = [u64::MAX; 2];
+        let got = unsafe { ecch_topic(s.as_ptr(), s.len(), p.start, p.len, nth, n.as_mut_ptr(), 2) };
+        let n = item(got, n)?;
+        Ok(Span {
+            start: n[0] as usize,
+            len: n[1] as usize,
+        })
     }
 
     /// A value that is off is handed over all the same: it is not to be looked at.
@@ -240,11 +292,25 @@ mod side {
                 $g.options.as_ptr(), $g.options.len(), $($rest),*)
         };
     }
-    macro_rules! puback {
+    macro_rules! ack {
         ($f:ident, $g:ident, $($rest:expr),*) => {
             $f($g.id, $g.reason, $g.block as u8, $g.reason_string.present as u8, $g.reason_string.bytes.as_ptr(),
                 $g.reason_string.bytes.len(), $g.users.as_ptr(), $g.users.len(), $g.user_lengths.as_ptr(), $g.user_lengths.len(),
                 $($rest),*)
+        };
+    }
+
+    macro_rules! reply {
+        ($f:ident, $g:ident, $($rest:expr),*) => {
+            $f($g.id, $g.block as u8, $g.reason_string.present as u8, $g.reason_string.bytes.as_ptr(), $g.reason_string.bytes.len(),
+                $g.users.as_ptr(), $g.users.len(), $g.user_lengths.as_ptr(), $g.user_lengths.len(), $g.reasons.as_ptr(),
+                $g.reasons.len(), $($rest),*)
+        };
+    }
+    macro_rules! unsubscribe {
+        ($f:ident, $g:ident, $($rest:expr),*) => {
+            $f($g.id, $g.block as u8, $g.users.as_ptr(), $g.users.len(), $g.user_lengths.as_ptr(), $g.user_lengths.len(),
+                $g.topics.as_ptr(), $g.topics.len(), $g.topic_lengths.as_ptr(), $g.topic_lengths.len(), $($rest),*)
         };
     }
 
@@ -254,8 +320,14 @@ mod side {
         let got = unsafe {
             match g.kind {
                 3 => publish!(ecch_publish_size, g, a, 3),
+                4 => ack!(ecch_puback_size, g, a, 3),
+                5 => ack!(ecch_pubrec_size, g, a, 3),
+                6 => ack!(ecch_pubrel_size, g, a, 3),
+                7 => ack!(ecch_pubcomp_size, g, a, 3),
                 8 => subscribe!(ecch_subscribe_size, g, a, 3),
-                4 => puback!(ecch_puback_size, g, a, 3),
+                9 => reply!(ecch_suback_size, g, a, 3),
+                10 => unsubscribe!(ecch_unsubscribe_size, g, a, 3),
+                11 => reply!(ecch_unsuback_size, g, a, 3),
                 _ => ecch_ping_size(a, 3),
             }
         };
@@ -270,8 +342,14 @@ mod side {
         let got = unsafe {
             match g.kind {
                 3 => publish!(ecch_publish_write, g, limited, limit, o, room, a, 3),
+                4 => ack!(ecch_puback_write, g, limited, limit, o, room, a, 3),
+                5 => ack!(ecch_pubrec_write, g, limited, limit, o, room, a, 3),
+                6 => ack!(ecch_pubrel_write, g, limited, limit, o, room, a, 3),
+                7 => ack!(ecch_pubcomp_write, g, limited, limit, o, room, a, 3),
                 8 => subscribe!(ecch_subscribe_write, g, limited, limit, o, room, a, 3),
-                4 => puback!(ecch_puback_write, g, limited, limit, o, room, a, 3),
+                9 => reply!(ecch_suback_write, g, limited, limit, o, room, a, 3),
+                10 => unsubscribe!(ecch_unsubscribe_write, g, limited, limit, o, room, a, 3),
+                11 => reply!(ecch_unsuback_write, g, limited, limit, o, room, a, 3),
                 12 => ecch_pingreq_write(limited, limit, o, room, a, 3),
                 _ => ecch_pingresp_write(limited, limit, o, room, a, 3),
             }
@@ -282,6 +360,7 @@ mod side {
 
 #[cfg(not(feature = "ecchjulmina"))]
 mod side {
+    use super::super::model::Switches;
     use super::super::{model, model_write};
     use super::*;
     use crate::limit::{self, Rec};
@@ -329,22 +408,30 @@ mod side {
                 filters: at(p.filters),
                 ..Record::default()
             },
-            Ok(Rec::PubAck(p)) => Record {
-                kind: 4,
+            Ok(Rec::Ack(p)) => Record {
+                kind: p.kind,
                 id: p.id,
                 reason: p.reason,
                 block: block(p.block),
                 reason_string: p.rstr.map(at),
                 ..Record::default()
             },
-            Ok(Rec::PingReq) => Record {
-                kind: 12,
+            Ok(Rec::Reply(p)) => Record {
+                kind: p.kind,
+                id: p.id,
+                block: block(p.block),
+                reason_string: p.rstr.map(at),
+                reasons: at(p.reasons),
                 ..Record::default()
             },
-            Ok(Rec::PingResp) => Record {
-                kind: 13,
+            Ok(Rec::Unsubscribe(p)) => Record {
+                kind: 10,
+                id: p.id,
+                block: block(p.block),
+                topics: at(p.topics),
                 ..Record::default()
             },
+            Ok(Rec::Ping(kind)) => Record { kind, ..Record::default() },
         };
         (Ok(record), taken)
     }
@@ -353,8 +440,9 @@ mod side {
         s.get(p.start..).and_then(|s| s.get(..p.len)).map_or(0, |s| s.len())
     }
 
-    pub fn user(place: Place, s: &[u8], p: Span, nth: usize) -> Result<(Span, Span), No> {
-        model::block_items(place, s, p)
+    pub fn user(kind: u8, s: &[u8], p: Span, nth: usize) -> Result<(Span, Span), No> {
+        place_of(kind)
+            .and_then(|place| model::block_items(place, s, p))
             .and_then(|l| l.users.get(nth).copied())
             .ok_or(no(21))
     }
@@ -369,40 +457,51 @@ mod side {
         model::run_items(s, p).and_then(|l| l.get(nth).copied()).ok_or(no(21))
     }
 
+    pub fn reason(kind: u8, s: &[u8], p: Span, nth: usize) -> Result<u8, No> {
+        model::reason_items(kind, s, p).and_then(|l| l.get(nth).copied()).ok_or(no(21))
+    }
+
+    pub fn topic(s: &[u8], p: Span, nth: usize) -> Result<Span, No> {
+        model::topic_items(s, p).and_then(|l| l.get(nth).copied()).ok_or(no(21))
+    }
+
     pub fn size(g: &Given) -> Result<u64, No> {
-        model_write::size(g, 0)
+        model_write::size(g, &Switches::of(0))
     }
 
     pub fn write(g: &Given, limit: Option<u64>, out: &mut [u8]) -> Result<u64, No> {
         let mut put = vec![];
-        let answer = model_write::write(g, limit, out.len(), 0, &mut put);
+        let answer = model_write::write(g, limit, out.len(), &Switches::of(0), &mut put);
         out[..put.len()].copy_from_slice(&put);
         answer
     }
 }
 
-pub use side::{filter, identifier, name, part, size, user, write};
+pub use side::{filter, identifier, name, part, reason, size, topic, user, write};
 
-/// The record or the refusal with the bytes taken; `lists` gets the items, each asked for by its number until there is none.
+/// Asks for the items by their numbers until there is none.
+fn each<T>(into: &mut Vec<T>, nth: impl Fn(usize) -> Result<T, No>) {
+    while let Ok(item) = nth(into.len()) {
+        into.push(item);
+    }
+}
+
+/// The record or the refusal with the bytes taken; `lists` gets the items.
 pub fn read(s: &[u8], limit: Option<u64>, lists: &mut Lists) -> Answer {
     lists.clear();
     let answer = side::read(s, limit);
     if let Ok(r) = &answer.0 {
-        if let (Some(block), Some(place)) = (r.block, r.place()) {
-            while let Ok(pair) = side::user(place, s, block, lists.users.len()) {
-                lists.users.push(pair);
-            }
-            while let Ok(id) = side::identifier(s, block, lists.ids.len()) {
-                if place != Place::Publish {
-                    break;
-                }
-                lists.ids.push(id);
+        if let Some(block) = r.block {
+            each(&mut lists.users, |n| side::user(r.kind, s, block, n));
+            if r.kind == 3 {
+                each(&mut lists.ids, |n| side::identifier(s, block, n));
             }
         }
-        if r.kind == 8 {
-            while let Ok(f) = side::filter(s, r.filters, lists.filters.len()) {
-                lists.filters.push(f);
-            }
+        match r.kind {
+            8 => each(&mut lists.filters, |n| side::filter(s, r.filters, n)),
+            9 | 11 => each(&mut lists.reasons, |n| side::reason(r.kind, s, r.reasons, n)),
+            10 => each(&mut lists.topics, |n| side::topic(s, r.topics, n)),
+            _ => {}
         }
     }
     answer

@@ -8,7 +8,7 @@ pub struct No {
     pub b: u64,
 }
 
-/// `InvalidConnectReturnCode(k)`, which the crate's PubAck gives for 15.
+/// `InvalidConnectReturnCode(k)`, which the crate's publish acknowledgements give for 15.
 pub const RETURN_CODE: u8 = 101;
 /// `IncorrectPacketFormat`, what the trimmed text gives for a kind that is not carried.
 pub const TRIMMED: u8 = 102;
@@ -16,6 +16,8 @@ pub const TRIMMED: u8 = 102;
 pub const PANIC: u8 = 103;
 /// An error that no side is known to give.
 pub const UNKNOWN: u8 = 104;
+/// `InvalidSubscribeReasonCode(k)`, which the crate's SubAck and UnsubAck give for 15.
+pub const SUBSCRIBE_CODE: u8 = 105;
 
 pub fn no(no: u8) -> No {
     No { no, a: 0, b: 0 }
@@ -41,20 +43,63 @@ impl Span {
     }
 }
 
-/// Where a property block stands.
+/// Where a property block stands; that of a reply is an acknowledgement's.
 #[derive(Clone, Copy, Debug, PartialEq, Eq)]
 pub enum Place {
     Publish,
     Subscribe,
-    PubAck,
+    Ack,
+    Unsubscribe,
 }
 
-pub const PLACES: [Place; 3] = [Place::Publish, Place::Subscribe, Place::PubAck];
+/// The kinds that are carried, in the order of their numbers.
+pub const KINDS: [(u8, &str); 11] = [
+    (3, "Publish"),
+    (4, "PubAck"),
+    (5, "PubRec"),
+    (6, "PubRel"),
+    (7, "PubComp"),
+    (8, "Subscribe"),
+    (9, "SubAck"),
+    (10, "Unsubscribe"),
+    (11, "UnsubAck"),
+    (12, "PingReq"),
+    (13, "PingResp"),
+];
+
+pub fn name(kind: u8) -> &'static str {
+    KINDS.iter().find(|(k, _)| *k == kind).map_or("none", |(_, name)| name)
+}
+
+pub fn is_ack(kind: u8) -> bool {
+    matches!(kind, 4..=7)
+}
+
+/// SubAck and UnsubAck.
+pub fn is_reply(kind: u8) -> bool {
+    matches!(kind, 9 | 11)
+}
+
+/// The place of the block of a kind that has one.
+pub fn place_of(kind: u8) -> Option<Place> {
+    match kind {
+        3 => Some(Place::Publish),
+        4..=7 | 9 | 11 => Some(Place::Ack),
+        8 => Some(Place::Subscribe),
+        10 => Some(Place::Unsubscribe),
+        _ => None,
+    }
+}
+
+/// The first byte of a kind whose flags are fixed, as it is written.
+pub fn first_byte(kind: u8) -> u8 {
+    kind << 4 | if matches!(kind, 6 | 8 | 10) { 2 } else { 0 }
+}
 
 /// A record as read. What a kind does not have keeps its default.
 #[derive(Clone, Debug, Default, PartialEq, Eq)]
 pub struct Record {
-    /// 3, 4, 8, 12 or 13
+    /// one of KINDS
     pub kind: u8,
     pub dup: bool,
     pub qos: u8,
@@ -75,17 +120,10 @@ pub struct Record {
     pub filters: Span,
     pub reason: u8,
     pub reason_string: Option<Span>,
-}
-
-impl Record {
-    pub fn place(&self) -> Option<Place> {
-        match self.kind {
-            3 => Some(Place::Publish),
-            4 => Some(Place::PubAck),
-            8 => Some(Place::Subscribe),
-            _ => None,
-        }
-    }
+    /// of a SubAck or UnsubAck
+    pub reasons: Span,
+    /// of an Unsubscribe
+    pub topics: Span,
 }
 
 /// The lists of a record, item by item. An option of a filter is its bits 0 to 5.
@@ -94,6 +132,8 @@ pub struct Lists {
     pub users: Vec<(Span, Span)>,
     pub ids: Vec<u32>,
     pub filters: Vec<(Span, u8)>,
+    pub reasons: Vec<u8>,
+    pub topics: Vec<Span>,
 }
 
 impl Lists {
@@ -101,6 +141,13 @@ impl Lists {
         self.users.clear();
         self.ids.clear();
         self.filters.clear();
+        self.reasons.clear();
+        self.topics.clear();
+    }
+    /// The length of the longest.
+    pub fn most(&self) -> usize {
+        let entries = self.filters.len().max(self.reasons.len()).max(self.topics.len());
+        self.users.len().max(self.ids.len()).max(entries)
     }
 }
 
@@ -134,6 +181,11 @@ pub struct Given {
     pub filter_lengths: Vec<usize>,
     pub options: Vec<u8>,
     pub reason: u8,
+    /// of a SubAck or UnsubAck
+    pub reasons: Vec<u8>,
+    /// of an Unsubscribe
+    pub topics: Vec<u8>,
+    pub topic_lengths: Vec<usize>,
 }
 
 /// A string that may be absent; an absent one with bytes is refused (20).

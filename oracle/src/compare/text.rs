@@ -27,6 +27,7 @@ fn refusal(e: Error) -> No {
         Error::OutgoingPacketTooLarge { pkt_size, max } => no2(16, pkt_size as u64, max as u64),
         Error::PayloadTooLong => no(17),
         Error::InvalidConnectReturnCode(k) => no1(RETURN_CODE, k as u64),
+        Error::InvalidSubscribeReasonCode(k) => no1(SUBSCRIBE_CODE, k as u64),
         Error::IncorrectPacketFormat => no(TRIMMED),
         _ => no(UNKNOWN),
     }
@@ -58,21 +59,59 @@ fn same_users(a: &[(String, String)], b: &[(Span, Span)], s: &[u8]) -> bool {
             .all(|((k, v), (p, q))| k.as_bytes() == p.of(s) && v.as_bytes() == q.of(s))
 }
 
-/// The reason's byte, which the text keeps to itself but writes.
-fn code(reason: PubAckReason) -> u8 {
-    REASONS.iter().find(|(r, _)| *r == reason).unwrap().1
+/// The reasons of a kind and their bytes, which the text keeps to itself but writes.
+type Codes<T> = &'static [(T, u8)];
+
+fn code<T: PartialEq>(codes: Codes<T>, reason: &T) -> u8 {
+    codes.iter().find(|(r, _)| r == reason).unwrap().1
 }
 
-const REASONS: [(PubAckReason, u8); 9] = [
-    (PubAckReason::Success, 0x00),
-    (PubAckReason::NoMatchingSubscribers, 0x10),
-    (PubAckReason::UnspecifiedError, 0x80),
-    (PubAckReason::ImplementationSpecificError, 0x83),
-    (PubAckReason::NotAuthorized, 0x87),
-    (PubAckReason::TopicNameInvalid, 0x90),
-    (PubAckReason::PacketIdentifierInUse, 0x91),
-    (PubAckReason::QuotaExceeded, 0x97),
-    (PubAckReason::PayloadFormatInvalid, 0x99),
+fn coded<T: Copy>(codes: Codes<T>, byte: u8) -> Option<T> {
+    codes.iter().find(|(_, k)| *k == byte).map(|(r, _)| *r)
+}
+
+/// The names that PubAckReason and PubRecReason have in common.
+macro_rules! received {
+    ($of:ident) => {
+        &[
+            ($of::Success, 0x00),
+            ($of::NoMatchingSubscribers, 0x10),
+            ($of::UnspecifiedError, 0x80),
+            ($of::ImplementationSpecificError, 0x83),
+            ($of::NotAuthorized, 0x87),
+            ($of::TopicNameInvalid, 0x90),
+            ($of::PacketIdentifierInUse, 0x91),
+            ($of::QuotaExceeded, 0x97),
+            ($of::PayloadFormatInvalid, 0x99),
+        ]
+    };
+}
+const PUBACK: Codes<PubAckReason> = received!(PubAckReason);
+const PUBREC: Codes<PubRecReason> = received!(PubRecReason);
+const PUBREL: Codes<PubRelReason> = &[(PubRelReason::Success, 0x00), (PubRelReason::PacketIdentifierNotFound, 0x92)];
+const PUBCOMP: Codes<PubCompReason> = &[(PubCompReason::Success, 0x00), (PubCompReason::PacketIdentifierNotFound, 0x92)];
+const SUBACK: Codes<SubscribeReasonCode> = &[
+    (SubscribeReasonCode::Success(QoS::AtMostOnce), 0x00),
+    (SubscribeReasonCode::Success(QoS::AtLeastOnce), 0x01),
+    (SubscribeReasonCode::Success(QoS::ExactlyOnce), 0x02),
+    (SubscribeReasonCode::Unspecified, 0x80),
+    (SubscribeReasonCode::ImplementationSpecific, 0x83),
+    (SubscribeReasonCode::NotAuthorized, 0x87),
+    (SubscribeReasonCode::TopicFilterInvalid, 0x8F),
+    (SubscribeReasonCode::PkidInUse, 0x91),
+    (SubscribeReasonCode::QuotaExceeded, 0x97),
+    (SubscribeReasonCode::SharedSubscriptionsNotSupported, 0x9E),
+    (SubscribeReasonCode::SubscriptionIdNotSupported, 0xA1),
+    (SubscribeReasonCode::WildcardSubscriptionsNotSupported, 0xA2),
+];
+const UNSUBACK: Codes<UnsubAckReason> = &[
+    (UnsubAckReason::Success, 0x00),
+    (UnsubAckReason::NoSubscriptionExisted, 0x11),
+    (UnsubAckReason::UnspecifiedError, 0x80),
+    (UnsubAckReason::ImplementationSpecificError, 0x83),
+    (UnsubAckReason::NotAuthorized, 0x87),
+    (UnsubAckReason::TopicFilterInvalid, 0x8F),
+    (UnsubAckReason::PacketIdentifierInUse, 0x91),
 ];
 
 fn rule(r: &RetainForwardRule) -> u8 {
@@ -117,12 +156,33 @@ fn same_subscribe(p: &Subscribe, r: &Record, lists: &Lists, s: &[u8]) -> bool {
     r.kind == 8 && p.pkid == r.id && properties && filters
 }
 
-fn same_puback(p: &PubAck, r: &Record, lists: &Lists, s: &[u8]) -> bool {
+fn same_unsubscribe(p: &Unsubscribe, r: &Record, lists: &Lists, s: &[u8]) -> bool {
     let properties = match &p.properties {
         None => r.block.is_none() && lists.users.is_empty(),
-        Some(q) => r.block.is_some() && same_text(&q.reason_string, r.reason_string, s) && same_users(&q.user_properties, &lists.users, s),
+        Some(q) => r.block.is_some() && same_users(&q.user_properties, &lists.users, s),
     };
-    r.kind == 4 && p.pkid == r.id && code(p.reason) == r.reason && properties
+    let topics = p.filters.len() == lists.topics.len() && p.filters.iter().zip(&lists.topics).all(|(a, b)| a.as_bytes() == b.of(s));
+    r.kind == 10 && p.pkid == r.id && properties && topics
+}
+
+/// Kind, identifier and block, which acknowledgements and replies have alike.
+macro_rules! same_head {
+    ($p:ident, $kind:literal, $r:ident, $lists:ident, $s:ident) => {
+        $r.kind == $kind
+            && $p.pkid == $r.id
+            && match &$p.properties {
+                None => $r.block.is_none() && $lists.users.is_empty(),
+                Some(q) => {
+                    $r.block.is_some()
+                        && same_text(&q.reason_string, $r.reason_string, $s)
+                        && same_users(&q.user_properties, &$lists.users, $s)
+                }
+            }
+    };
+}
+
+fn same_reasons<T: PartialEq>(codes: Codes<T>, a: &[T], b: &[u8]) -> bool {
+    a.len() == b.len() && a.iter().zip(b).all(|(a, b)| code(codes, a) == *b)
 }
 
 /// Is the text's answer this one, field by field and item by item?
@@ -131,7 +191,13 @@ pub fn same(text: &Text, answer: &Answer, lists: &Lists, s: &[u8]) -> bool {
         (Err(a), Err(b)) => a == b,
         (Ok(Packet::Publish(p)), Ok(r)) => same_publish(p, r, lists, s),
         (Ok(Packet::Subscribe(p)), Ok(r)) => same_subscribe(p, r, lists, s),
-        (Ok(Packet::PubAck(p)), Ok(r)) => same_puback(p, r, lists, s),
+        (Ok(Packet::Unsubscribe(p)), Ok(r)) => same_unsubscribe(p, r, lists, s),
+        (Ok(Packet::PubAck(p)), Ok(r)) => same_head!(p, 4, r, lists, s) && code(PUBACK, &p.reason) == r.reason,
+        (Ok(Packet::PubRec(p)), Ok(r)) => same_head!(p, 5, r, lists, s) && code(PUBREC, &p.reason) == r.reason,
+        (Ok(Packet::PubRel(p)), Ok(r)) => same_head!(p, 6, r, lists, s) && code(PUBREL, &p.reason) == r.reason,
+        (Ok(Packet::PubComp(p)), Ok(r)) => same_head!(p, 7, r, lists, s) && code(PUBCOMP, &p.reason) == r.reason,
+        (Ok(Packet::SubAck(p)), Ok(r)) => same_head!(p, 9, r, lists, s) && same_reasons(SUBACK, &p.return_codes, &lists.reasons),
+        (Ok(Packet::UnsubAck(p)), Ok(r)) => same_head!(p, 11, r, lists, s) && same_reasons(UNSUBACK, &p.reasons, &lists.reasons),
         (Ok(Packet::PingReq(_)), Ok(r)) => r.kind == 12,
         (Ok(Packet::PingResp(_)), Ok(r)) => r.kind == 13,
         _ => false,
@@ -198,6 +264,38 @@ fn own_publish(g: &Given) -> Option<Publish> {
     })
 }
 
+fn all_coded<T: Copy>(codes: Codes<T>, bytes: &[u8]) -> Option<Vec<T>> {
+    bytes.iter().map(|k| coded(codes, *k)).collect()
+}
+
+/// The crate has a second name for 0x80, Failure, which it never reads: it is handed over where the packet identifier is odd.
+fn suback_codes(g: &Given) -> Option<Vec<SubscribeReasonCode>> {
+    let failure = |c: SubscribeReasonCode| {
+        let second = g.id % 2 == 1 && c == SubscribeReasonCode::Unspecified;
+        if second {
+            SubscribeReasonCode::Failure
+        } else {
+            c
+        }
+    };
+    Some(all_coded(SUBACK, &g.reasons)?.into_iter().map(failure).collect())
+}
+
+/// An acknowledgement or a reply.
+macro_rules! own_reasoned {
+    ($g:ident, $kind:ident, $properties:ident, $field:ident: $reasons:expr) => {{
+        let properties = $properties {
+            reason_string: own_lent(&$g.reason_string)?,
+            user_properties: own_users($g)?,
+        };
+        Packet::$kind($kind {
+            pkid: $g.id,
+            $field: $reasons,
+            properties: $g.block.then_some(properties),
+        })
+    }};
+}
+
 /// The record as the crate takes it, if the crate can be handed it. The lists fit together.
 pub fn packet(g: &Given) -> Option<Packet> {
     Some(match g.kind {
@@ -214,17 +312,22 @@ pub fn packet(g: &Given) -> Option<Packet> {
                 properties: g.block.then_some(properties),
             })
         }
-        4 => {
-            let properties = PubAckProperties {
-                reason_string: own_lent(&g.reason_string)?,
+        10 => {
+            let properties = UnsubscribeProperties {
                 user_properties: own_users(g)?,
             };
-            Packet::PubAck(PubAck {
+            Packet::Unsubscribe(Unsubscribe {
                 pkid: g.id,
-                reason: REASONS.iter().find(|(_, k)| *k == g.reason)?.0,
+                filters: parts(&g.topics, &g.topic_lengths).map(own).collect::<Option<_>>()?,
                 properties: g.block.then_some(properties),
             })
         }
+        4 => own_reasoned!(g, PubAck, PubAckProperties, reason: coded(PUBACK, g.reason)?),
+        5 => own_reasoned!(g, PubRec, PubRecProperties, reason: coded(PUBREC, g.reason)?),
+        6 => own_reasoned!(g, PubRel, PubRelProperties, reason: coded(PUBREL, g.reason)?),
+        7 => own_reasoned!(g, PubComp, PubCompProperties, reason: coded(PUBCOMP, g.reason)?),
+        9 => own_reasoned!(g, SubAck, SubAckProperties, return_codes: suback_codes(g)?),
+        11 => own_reasoned!(g, UnsubAck, UnsubAckProperties, reasons: all_coded(UNSUBACK, &g.reasons)?),
         12 => Packet::PingReq(PingReq),
         13 => Packet::PingResp(PingResp),
         _ => return None,
