@@ -7,7 +7,7 @@ use super::shape::*;
 use std::collections::{HashMap, HashSet};
 
 /// How much is kept: rows of one bucket, and bytes of one input.
-const BYTES: usize = 40;
+const BYTES: usize = 30;
 
 #[derive(Default)]
 pub struct Corpus {
@@ -123,9 +123,12 @@ impl Corpus {
         run(&mut row, s);
         answer(&mut row, no, &filled);
         let cap = match no {
+            // these have few buckets
+            0 if matches!(first >> 4, 6 | 7 | 10) => 2 * self.cap,
             0 => self.cap / 4,
-            _ if bucket[5] > 4 => 2,
-            _ => 2 * self.cap,
+            _ if bucket[5] > 4 => 1,
+            _ if class.count_ones() > 1 => self.cap / 3,
+            _ => self.cap,
         };
         self.keep(bucket, cap, no, row);
     }
@@ -170,7 +173,7 @@ impl Corpus {
         [p.start, p.len, n].iter().for_each(|v| u32s(&mut row, *v as u64));
         run(&mut row, s);
         answer(&mut row, no, &filled);
-        let cap = self.cap / 2;
+        let cap = if no == 0 { self.cap / 2 } else { self.cap / 6 };
         self.keep(bucket, cap, no, row);
     }
 
@@ -272,11 +275,19 @@ impl Corpus {
             let options = g.options.first().map_or(0, |o| *o as u64 & 63);
             let reasons = g.reasons.first().map_or(0, |k| *k as u64);
             bucket.extend([bits(&set), bits(&present), g.reason as u64, g.qos as u64, options, reasons]);
+            // these two have buckets enough
+            if !matches!(g.kind, 3 | 8) {
+                let counts = [g.user_lengths.len(), g.topic_lengths.len(), g.reasons.len().min(2)];
+                bucket.extend(counts.map(|n| n as u64));
+            }
         }
         let cap = match no {
             _ if self.long => 1,
+            // these have few buckets
+            0 if matches!(g.kind, 6 | 7 | 10) => self.cap / 4,
             0 => self.cap / 10,
-            _ => 4 * self.cap,
+            _ if class.count_ones() > 1 => self.cap,
+            _ => 2 * self.cap,
         };
         self.keep(bucket, cap, no, row);
     }
