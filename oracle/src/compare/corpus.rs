@@ -124,7 +124,7 @@ impl Corpus {
         answer(&mut row, no, &filled);
         let cap = match no {
             // these have few buckets
-            0 if matches!(first >> 4, 6 | 7 | 10) => 2 * self.cap,
+            0 if matches!(first >> 4, 6 | 7 | 10) => self.cap,
             0 => self.cap / 4,
             _ if bucket[5] > 4 => 1,
             _ if class.count_ones() > 1 => self.cap / 3,
