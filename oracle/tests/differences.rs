@@ -104,12 +104,76 @@ fn writers() {
     b.clear();
     assert_eq!(ok.write(&mut b).unwrap(), 268_435_460);
 }
-#[test] // the text gives another error for a bad PubAck reason, and tests it after the properties
-fn puback() {
-    let (r, _) = rd(&[0x40, 3, 0, 1, 1]);
-    assert!(matches!(r, Err(Error::InvalidConnectReturnCode(1))));
-    let (r, _) = rd(&[0x40, 5, 0, 1, 1, 1, 0xFF]);
-    assert!(matches!(r, Err(Error::InvalidPropertyType(255)))); // 01: 15
-    let (r, _) = rd(&[0x40, 5, 0, 1, 0, 0, 0xFF]);
-    assert!(r.is_ok()); // bytes after the block; 01: 7
+#[test] // 14 to 16: the text gives another error for a bad reason of an acknowledgement, and tests it after the properties
+fn acknowledgements() {
+    for first in [0x40, 0x50, 0x62, 0x70] {
+        let (r, _) = rd(&[first, 3, 0, 1, 1]);
+        assert!(matches!(r, Err(Error::InvalidConnectReturnCode(1))));
+        let (r, _) = rd(&[first, 5, 0, 1, 1, 1, 0xFF]);
+        assert!(matches!(r, Err(Error::InvalidPropertyType(255)))); // 01: 15
+        let (r, _) = rd(&[first, 5, 0, 1, 0, 0, 0xFF]);
+        assert!(r.is_ok()); // bytes after the block; 01: 7
+    }
+}
+#[test] // 30: the limit is held to R
+fn p2() {
+    let read = |limit| {
+        Packet::read(
+            &mut BytesMut::from(&[0x30, 8, 0, 3, 0x61, 0x2F, 0x62, 0, 0x68, 0x69][..]),
+            Some(limit),
+        )
+    };
+    assert!(read(8).is_ok()); // 02: 3 with 10 and 8
+    assert!(matches!(read(7), Err(Error::PayloadSizeLimitExceeded { pkt_size: 8, max: 7 })));
+}
+#[test] // 31: a number may have more bytes than it needs, as R, as L and as an identifier
+fn p8() {
+    let (r, t) = rd(&[0x30, 0x80, 0]);
+    assert!(matches!(r, Err(Error::PayloadRequired))); // 02: 2
+    assert_eq!(t, 3); // 02: 0
+    assert!(publish(&[0x30, 4, 0, 0, 0x80, 0]).properties.is_none());
+    let p = publish(&[0x30, 6, 0, 0, 3, 0x0B, 0x81, 0]);
+    assert_eq!(p.properties.unwrap().subscription_identifiers, vec![1]);
+}
+#[test] // 32 to 34: a doubled property, a subscription identifier 0, U+0000; read, and the last two written
+fn p9() {
+    let p = publish(&[0x30, 7, 0, 0, 4, 1, 0, 1, 1]);
+    assert_eq!(p.properties.unwrap().payload_format_indicator, Some(1)); // 02: 22
+    let zero = publish(&[0x30, 5, 0, 0, 2, 0x0B, 0]);
+    assert_eq!(zero.properties.as_ref().unwrap().subscription_identifiers, vec![0]); // 02: 23
+    let frame = [0xA2, 6, 0, 0, 0, 0, 1, 0];
+    let nul = rd(&frame).0.unwrap();
+    assert!(matches!(&nul, Packet::Unsubscribe(u) if u.filters == ["\0"])); // 02: 9
+    let mut b = BytesMut::new();
+    nul.write(&mut b, None).unwrap();
+    assert_eq!(&b[..], &frame);
+    b.clear();
+    zero.write(&mut b).unwrap();
+    assert_eq!(&b[..], &[0x30, 5, 0, 0, 2, 0x0B, 0]);
+}
+#[test] // 35 to 38: reasons and entries of SubAck, Unsubscribe and UnsubAck
+fn entries() {
+    for first in [0x90, 0xB0] {
+        let (r, _) = rd(&[first, 4, 0, 0, 0, 3]);
+        assert!(matches!(r, Err(Error::InvalidSubscribeReasonCode(3)))); // 02: 15
+        let (r, _) = rd(&[first, 3, 0, 0, 0]);
+        assert!(matches!(r, Err(Error::MalformedPacket))); // 02: 13
+    }
+    let none = rd(&[0xA2, 3, 0, 0, 0]).0.unwrap(); // 02: 13
+    let mut b = BytesMut::new();
+    none.write(&mut b, None).unwrap();
+    assert_eq!(&b[..], &[0xA2, 3, 0, 0, 0]);
+    let suback = |return_codes| SubAck {
+        pkid: 0,
+        return_codes,
+        properties: None,
+    };
+    b.clear();
+    suback(vec![]).write(&mut b).unwrap(); // 02: 13
+    assert_eq!(&b[..], &[0x90, 3, 0, 0, 0]);
+    b.clear();
+    suback(vec![SubscribeReasonCode::Failure, SubscribeReasonCode::Unspecified])
+        .write(&mut b)
+        .unwrap();
+    assert_eq!(&b[..], &[0x90, 5, 0, 0, 0, 0x80, 0x80]); // 39: two names
 }
