@@ -631,7 +631,7 @@ fn entry_of(kind: u8) -> Given {
 }
 
 /// The frames of 01's table, and the smallest ones of docs/DIFFERENCES.md.
-const LISTED: [&str; 70] = [
+const LISTED: [&str; 71] = [
     "",
     "30",
     "30 80",
@@ -697,6 +697,7 @@ const LISTED: [&str; 70] = [
     "30 06 00 00 03 0B 81 00",
     "82 07 00 00 80 00 00 00 00",
     // 02, P9
+    "30 06 00 00 03 01 00 01",
     "30 07 00 00 04 01 00 01 00",
     "82 0A 00 00 04 0B 01 0B 01 00 00 00",
     "40 0A 00 00 00 06 1F 00 00 1F 00 00",
