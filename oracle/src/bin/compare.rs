@@ -543,11 +543,14 @@ impl Run {
             }
         }
         let most = 268_435_455;
-        for (bytes, limits) in [
-            (most - 3, &[None, Some(5), Some(268_435_459), Some(268_435_460)][..]),
-            (most - 2, &[None, Some(5), Some(u32::MAX)]),
+        // a part of the whole has one of each
+        let taken = if self.share == 100 { 3 } else { 1 };
+        let payloads = [
+            (most - 2, &[None, Some(5), Some(u32::MAX)][..]),
+            (most - 3, &[None, Some(5), Some(268_435_459), Some(268_435_460)]),
             (most + 70_000, &[None, Some(0)]),
-        ] {
+        ];
+        for (bytes, limits) in payloads.into_iter().take(taken) {
             let g = Given {
                 payload: bytes::Bytes::from(vec![0; bytes]),
                 ..empty.clone()
@@ -561,12 +564,12 @@ impl Run {
             payload: bytes::Bytes::from(vec![0; most - 3]),
             ..empty.clone()
         };
-        if let Some(frame) = self.hold.write(&g, None, most + 5) {
+        if let Some(frame) = (taken == 3).then(|| self.hold.write(&g, None, most + 5)).flatten() {
             self.hold.read(&frame, None);
             self.hold.read(&frame[..frame.len() - 1], None);
         }
-        for count in [4_095, 4_096, 4_097] {
-            // filters and pairs of 65,535 bytes, whose sum is about the largest R
+        for count in [4_096, 4_095, 4_097].into_iter().take(taken) {
+            // filters, topics and pairs of 65,535 bytes, whose sum is about the largest R
             let g = Given {
                 kind: 8,
                 filters: vec![b'x'; 65_535 * count],
@@ -589,7 +592,7 @@ impl Run {
                 user_lengths: vec![65_535; count / 2 * 2],
                 ..Given::default()
             };
-            for kind in [4, 5, 6, 7, 9, 10, 11] {
+            for kind in [4, 9, 10, 5, 6, 7, 11].into_iter().take(3 * taken) {
                 let with = Given {
                     users: std::mem::take(&mut pairs.users),
                     user_lengths: pairs.user_lengths.clone(),
@@ -600,7 +603,7 @@ impl Run {
                 pairs.users = with.users;
             }
         }
-        for bytes in [most - 3, most - 2, most + 70_000] {
+        for bytes in [most - 2, most - 3, most + 70_000].into_iter().take(taken) {
             let g = Given {
                 reasons: vec![0; bytes],
                 ..entry_of(9)

@@ -129,9 +129,9 @@ impl Hold {
     }
 
     /// The smallest set of entries with which the model gives the text's answer.
-    fn class_of_read(&mut self, s: &[u8], limit: Option<u64>, said: &text::Text) -> Option<Entries> {
+    fn class_of_read(&mut self, s: &[u8], limit: Option<u64>, said: &text::Text, asked: Entries) -> Option<Entries> {
         let of_set = &mut self.of_set;
-        model::smallest(|by| {
+        model::smallest(asked, |by| {
             let answer = model::read(s, limit, by, of_set);
             text::same(said, &answer, of_set, s)
         })
@@ -143,13 +143,14 @@ impl Hold {
         let most = limit.map(u64::from);
         let said = text::read(s, limit);
         let answered = port::read(s, most, &mut self.of_port);
-        let rules = model::read(s, most, &Switches::of(0), &mut self.of_rules);
+        let off = Switches::of(0);
+        let rules = model::read(s, most, &off, &mut self.of_rules);
         let modelled = model::read(s, most, &Switches::of(model::ALL), &mut self.of_crate);
         let alike = text::same(&said, &answered, &self.of_port, s);
         let class = if text::same(&said, &rules, &self.of_rules, s) {
             0
         } else {
-            self.class_of_read(s, most, &said).unwrap_or(0)
+            self.class_of_read(s, most, &said, off.asked()).unwrap_or(0)
         };
         let shown = || {
             format!(
@@ -264,7 +265,9 @@ impl Hold {
         put: &[u8],
     ) -> Option<Entries> {
         let mut out = vec![];
-        model::smallest(|by| {
+        let off = Switches::of(0);
+        let _ = (model_write::write(g, limit, room, &off, &mut out), model_write::size(g, &off));
+        model::smallest(off.asked(), |by| {
             let answer = model_write::write(g, limit, room, by, &mut out);
             answer == said.0 && out == put && model_write::size(g, by) == said.1
         })

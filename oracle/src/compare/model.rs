@@ -55,20 +55,20 @@ impl Switches {
         self.asked.set(self.asked.get() | e);
         self.on & e != 0
     }
+    pub fn asked(&self) -> Entries {
+        self.asked.get()
+    }
 }
 
-/// The smallest set of entries with which `right` holds, the lowest of several. A set is grown by what was asked for and was off: a set that
-/// leaves all of that off has the same run, so no smaller set is passed over.
-pub fn smallest(mut right: impl FnMut(&Switches) -> bool) -> Option<Entries> {
-    let mut sets = vec![0];
+/// The smallest set of entries with which `right` holds, the lowest of several, where it does not with every switch off and that run asked for
+/// `asked`. A set is grown by what was asked for and was off: a set that leaves all of that off has the same run, so no smaller set is passed
+/// over.
+pub fn smallest(asked: Entries, mut right: impl FnMut(&Switches) -> bool) -> Option<Entries> {
+    let mut sets: Vec<(Entries, Entries)> = vec![(0, asked)];
     while !sets.is_empty() {
-        let mut larger = vec![];
-        for on in sets {
-            let by = Switches::of(on);
-            if right(&by) {
-                return Some(on);
-            }
-            let mut open = by.asked.get() & !on;
+        let mut larger: Vec<Entries> = vec![];
+        for (on, asked) in sets {
+            let mut open = asked & !on;
             while open != 0 {
                 let lowest = open & open.wrapping_neg();
                 larger.push(on | lowest);
@@ -77,7 +77,14 @@ pub fn smallest(mut right: impl FnMut(&Switches) -> bool) -> Option<Entries> {
         }
         larger.sort_unstable();
         larger.dedup();
-        sets = larger;
+        sets = vec![];
+        for on in larger {
+            let by = Switches::of(on);
+            if right(&by) {
+                return Some(on);
+            }
+            sets.push((on, by.asked()));
+        }
     }
     None
 }
