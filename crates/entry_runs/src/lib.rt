@@ -1,5 +1,7 @@
 // The n-th reason of a SubAck or UnsubAck, and the n-th topic of an Unsubscribe, after suback.rs, unsuback.rs and unsubscribe.rs: as the
 // n-th filter of a run is found.
+use records::answer::ReasonItem;
+use records::answer::TopicItem;
 use records::reply_record::ReplyKind;
 use records::span::Span;
 use tables::reason::is_reply_reason;
@@ -11,19 +13,9 @@ ghost use Rattle.grammar.specs.Tables.{reasonsOf};
 ghost use Rattle.reading.specs.Read.{reasonOf, textOf};
 ghost use Rattle.reading.specs.Place.{asPlaces};
 ghost use Rattle.records.specs.Told.{toldReplyKind, toldSpan};
-ghost use Rattle.entry_runs.specs.Told.{toldReasonItem, toldTopicItem, chosen, nthRun, NthReason, NthTopic};
-
-// The n-th reason.
-pub enum ReasonItem {
-    Reason(u8),
-    NoItem,
-}
-
-// The n-th topic: where it stands.
-pub enum TopicItem {
-    Topic(Span),
-    NoItem,
-}
+ghost use Rattle.records.specs.Answered.{toldReasonItem, toldTopicItem};
+ghost use Rattle.positions.specs.Nth.{chosen, nthRun};
+ghost use Rattle.entry_runs.specs.Told.{NthReason, NthTopic};
 
 // The reason if its turn is n, else what was there.
 fn choose_reason(item: ReasonItem, reason: u8, turn: usize, n: usize) -> ReasonItem

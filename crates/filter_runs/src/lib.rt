@@ -9,7 +9,11 @@ use wire::string;
 ghost use mathlib.Core.Path.{_≡_};
 ghost use lib.ListN.{length, drop};
 ghost use Rattle.records.specs.Answered.{toldFilterItem};
-ghost use Rattle.filter_runs.specs.Told.{toldGotFilters, placeFit, chosen, nthFit, NthFilter};
+ghost use Rattle.reading.specs.Read.{filterOf};
+ghost use Rattle.reading.specs.Place.{asPlaces};
+ghost use Rattle.positions.specs.Nth.{chosen, nthRun};
+ghost use Rattle.records.specs.Said.{toldFilter};
+ghost use Rattle.filter_runs.specs.Told.{toldGotFilters, placeFit, NthFilter};
 
 // Where a run of filters stands.
 pub enum GotFilters {
@@ -39,7 +43,7 @@ pub fn read_filters(s: &[u8], at: usize) -> GotFilters
 
 // The filter f if its turn is n, else what was there.
 fn choose(item: FilterItem, f: Filter, turn: usize, n: usize) -> FilterItem
-    ensures { λ r. ⌜ toldFilterItem r ≡ chosen item f turn n ⌝ }
+    ensures { λ r. ⌜ toldFilterItem r ≡ chosen (toldFilterItem item) (toldFilter f) turn n ⌝ }
 {
     if turn == n {
         FilterItem::Filter(f)
@@ -50,7 +54,7 @@ fn choose(item: FilterItem, f: Filter, turn: usize, n: usize) -> FilterItem
 
 // The n-th filter of the run from `at` to the end; a fault after it refuses too.
 fn nth(s: &[u8], at: usize, n: usize) -> FilterItem
-    ensures { λ r. ⌜ toldFilterItem r ≡ nthFit n (length (now (s .entry))) (drop at (now (s .entry))) ⌝ }
+    ensures { λ r. ⌜ toldFilterItem r ≡ nthRun (filterOf asPlaces (length (now (s .entry)))) n (drop at (now (s .entry))) ⌝ }
 {
     let mut item = FilterItem::NoItem;
     let mut turn: usize = 0;

@@ -1,19 +1,18 @@
 // The item or property that C asks for by the number of a kind.
-use entry_runs::ReasonItem;
 use kinds::Kind;
 use kinds::KindPlace;
 use kinds::kind_of;
 use kinds::place_of;
 use property_value::GotProperty;
 use property_value::read_property;
+use records::answer::ReasonItem;
 use records::answer::UserItem;
 use records::error::Error;
 use records::span::Span;
 ghost use mathlib.Core.Path.{_≡_};
 ghost use Rattle.records.specs.Told.{toldSpan};
-ghost use Rattle.records.specs.Answered.{toldUser};
+ghost use Rattle.records.specs.Answered.{toldUser, toldReasonItem};
 ghost use Rattle.given.specs.Kind.{userOf, reasonGiven, PropertyGiven};
-ghost use Rattle.entry_runs.specs.Told.{toldReasonItem};
 
 // Of the block of a kind that has one.
 pub fn user_item(stream: &[u8], kind: u8, p: Span, n: usize) -> UserItem

@@ -1,19 +1,18 @@
 // What is returned and stored of an item.
 use codes::qos_number;
 use codes::rule_number;
-use entry_runs::ReasonItem;
-use entry_runs::TopicItem;
 use layout::store::store;
 use layout::value::bit;
 use records::answer::FilterItem;
 use records::answer::IdentifierItem;
+use records::answer::ReasonItem;
+use records::answer::TopicItem;
 use records::answer::UserItem;
 ghost use mathlib.Core.Path.{_≡_};
 ghost use lib.Seq.{sets};
-ghost use Rattle.records.specs.Answered.{toldUser, toldIdentifier, toldFilterItem};
+ghost use Rattle.records.specs.Answered.{toldUser, toldIdentifier, toldFilterItem, toldReasonItem, toldTopicItem};
 ghost use Rattle.layout.specs.Value.{fitNumber};
 ghost use Rattle.layout_item.specs.Item.{userNumbers, identifierNumbers, filterNumbers, reasonNumbers, topicNumbers};
-ghost use Rattle.entry_runs.specs.Told.{toldReasonItem, toldTopicItem};
 
 fn user_number(item: UserItem) -> u32
     ensures { λ r. ⌜ r ≡ fitNumber (toldUser item) ⌝ }

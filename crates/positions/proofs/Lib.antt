@@ -7,4 +7,5 @@ pub mod Position
 pub mod Fill
 pub mod Run
 pub mod Runs
+pub mod Nth
 pub mod Listed

@@ -1,2 +1,3 @@
 pub mod Position
+pub mod Nth
 pub mod Count

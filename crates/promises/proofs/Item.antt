@@ -15,19 +15,19 @@ use Rattle.reading.proofs.Reading.{bad-got, got-inj}
 use Rattle.reading.proofs.Refusing.{got-bad}
 use Rattle.reading.proofs.Items.{nth-user, nth-subscription, nth-filter, nth-topic, user-iff, subscription-iff, filter-iff, reason-iff, topic-iff, user-only, subscription-only, filter-only, reason-only, topic-only}
 use Rattle.records.specs.Told.{toldSpan, toldReplyKind}
-use Rattle.records.specs.Answered.{toldUser, toldIdentifier, toldFilterItem}
+use Rattle.records.specs.Answered.{toldUser, toldIdentifier, toldFilterItem, toldReasonItem, toldTopicItem}
 use Rattle.records.proofs.Laws.{injective-by}
-use Rattle.records.proofs.Answered.{backUser, back-user, backIdentifier, back-identifier, backFilterItem, back-filter-item}
+use Rattle.records.proofs.Answered.{backUser, back-user, backIdentifier, back-identifier, backFilterItem, back-filter-item, backReasonItem, back-reason-item, backTopicItem, back-topic-item}
 use Rattle.records.specs.declared.answer.UserItem.{UserItem}
 use Rattle.records.specs.declared.answer.IdentifierItem.{IdentifierItem}
 use Rattle.records.specs.declared.answer.FilterItem.{FilterItem}
+use Rattle.records.specs.declared.answer.ReasonItem.{ReasonItem}
+use Rattle.records.specs.declared.answer.TopicItem.{TopicItem}
 use Rattle.records.specs.declared.span.Span.{Span}
 use Rattle.items.specs.Nth.{NthUser, NthIdentifier}
 use Rattle.records.specs.declared.reply_record.ReplyKind.{ReplyKind}
 use Rattle.filter_runs.specs.Told.{NthFilter}
-use Rattle.entry_runs.specs.Told.{toldReasonItem, toldTopicItem, NthReason, NthTopic}
-use Rattle.entry_runs.specs.declared.ReasonItem.{ReasonItem}
-use Rattle.entry_runs.specs.declared.TopicItem.{TopicItem}
+use Rattle.entry_runs.specs.Told.{NthReason, NthTopic}
 use Rattle.promises.specs.Item.{IsNth, HasUser, HasIdentifier, HasFilter, HasReason, HasTopic}
 
 -- the n-th of a list, in both spellings
@@ -59,15 +59,6 @@ none-when f (bad k) i only t = (λ x v h. bad-got (i v .1 h), λ no. t .1 (ap ba
 itself : {A : Type 0} (m : Fit A) → onGot (λ x. x) m ≡ m
 itself (got a) = refl
 itself (bad k) = refl
-
--- what tells 21 is none
-reason-back : (r : ReasonItem) → toldReasonItem r ≡ bad noItem → r ≡ ReasonItem.NoItem
-reason-back (ReasonItem.Reason c) e = absurd (bad-got (sym e))
-reason-back ReasonItem.NoItem e = refl
-
-topic-back : (r : TopicItem) → toldTopicItem r ≡ bad noItem → r ≡ TopicItem.NoItem
-topic-back (TopicItem.Topic q) e = absurd (bad-got (sym e))
-topic-back TopicItem.NoItem e = refl
 
 module _ (s : List ℕ) (p : Span) (n : ℕ) where
   -- ---- `items::user_property`, of the block of a row
@@ -106,7 +97,7 @@ module _ (s : List ℕ) (p : Span) (n : ℕ) where
     reason-given c = rw (itself (toldReasonItem r), m) (has-when {kept = λ cs. cs} (reason-iff s (toldSpan p) n (reasonsOf (toldReplyKind kind)) c))
 
     pub reason-refused : (r ≡ ReasonItem.NoItem) ↔ ((c : ℕ) → HasReason (reasonsOf (toldReplyKind kind)) s p n c → ⊥)
-    reason-refused = none-when (λ x. x) (toldReasonItem r) reason-given (λ k e. reason-only s (toldSpan p) k (reasonsOf (toldReplyKind kind)) n (sym m ∙ e)) (ap toldReasonItem, reason-back r)
+    reason-refused = none-when (λ x. x) (toldReasonItem r) reason-given (λ k e. reason-only s (toldSpan p) k (reasonsOf (toldReplyKind kind)) n (sym m ∙ e)) (ap toldReasonItem, injective-by toldReasonItem backReasonItem back-reason-item)
 
   -- ---- `entry_runs::topic`, of the topics of an Unsubscribe
 
@@ -115,4 +106,4 @@ module _ (s : List ℕ) (p : Span) (n : ℕ) where
     topic-given t = rw (m, nth-topic s (toldSpan p) n) (has-when {kept = λ ts. ts} (topic-iff s (toldSpan p) n t))
 
     pub topic-refused : (r ≡ TopicItem.NoItem) ↔ ((t : List ℕ) → HasTopic s p n t → ⊥)
-    topic-refused = none-when (heldOf s) (toldTopicItem r) topic-given (λ k e. topic-only asPlaces s (toldSpan p) k n (sym m ∙ e)) (ap toldTopicItem, topic-back r)
+    topic-refused = none-when (heldOf s) (toldTopicItem r) topic-given (λ k e. topic-only asPlaces s (toldSpan p) k n (sym m ∙ e)) (ap toldTopicItem, injective-by toldTopicItem backTopicItem back-topic-item)

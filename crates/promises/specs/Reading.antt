@@ -7,10 +7,12 @@ use Rattle.grammar.specs.Tables.{Place}
 use Rattle.grammar.specs.Record as record-of
 use Rattle.grammar.specs.Sentence.{Value}
 use Rattle.reading.specs.Place.{nthOf, onGot, heldOf, sayVal, sayFilter}
-use Rattle.records.specs.Answered.{toldUser, toldIdentifier, toldFilterItem}
+use Rattle.records.specs.Answered.{toldUser, toldIdentifier, toldFilterItem, toldReasonItem, toldTopicItem}
 use Rattle.records.specs.declared.answer.UserItem.{UserItem}
 use Rattle.records.specs.declared.answer.IdentifierItem.{IdentifierItem}
 use Rattle.records.specs.declared.answer.FilterItem.{FilterItem}
+use Rattle.records.specs.declared.answer.ReasonItem.{ReasonItem}
+use Rattle.records.specs.declared.answer.TopicItem.{TopicItem}
 use Rattle.records.specs.declared.properties_record.MaybeProperties.{MaybeProperties}
 use Rattle.records.specs.declared.publish_record.Publish.{Publish}
 use Rattle.records.specs.declared.span.Span.{Span}
@@ -18,9 +20,7 @@ use Rattle.wire.specs.Told.{stringIf, inBlock}
 use Rattle.items.specs.Nth.{NthUser, NthIdentifier}
 use Rattle.ack.specs.Told.{reasonIn}
 use Rattle.filter_runs.specs.Told.{NthFilter}
-use Rattle.entry_runs.specs.Told.{toldReasonItem, toldTopicItem, NthReason, NthTopic}
-use Rattle.entry_runs.specs.declared.ReasonItem.{ReasonItem}
-use Rattle.entry_runs.specs.declared.TopicItem.{TopicItem}
+use Rattle.entry_runs.specs.Told.{NthReason, NthTopic}
 use Rattle.records.specs.declared.reply_record.ReplyKind.{ReplyKind}
 use Rattle.publish_parts.specs.Parts.{topicIn, payloadIn, responseIn, correlationIn, contentIn}
 

@@ -8,7 +8,7 @@ use Rattle.reading.specs.Reader.{Fit, got, bad}
 use Rattle.reading.specs.Place.{Placed}
 use Rattle.reading.specs.Place as place
 use Rattle.records.specs.Told.{toldError, backSpan}
-use Rattle.records.specs.Answered.{told, toldSized, toldWritten, toldUser, toldIdentifier, toldFilterItem, toldGotRule}
+use Rattle.records.specs.Answered.{told, toldSized, toldWritten, toldUser, toldIdentifier, toldFilterItem, toldReasonItem, toldTopicItem, toldGotRule}
 use Rattle.records.proofs.Laws.{injective-by}
 use Rattle.records.proofs.Told.{backError, back-error, backFit, backRule, back-rule, back-span}
 use Rattle.records.proofs.Said.{backFilter, back-filter, backPacket, back-packet}
@@ -18,6 +18,8 @@ use Rattle.records.specs.declared.answer.Written.{Written}
 use Rattle.records.specs.declared.answer.UserItem.{UserItem}
 use Rattle.records.specs.declared.answer.IdentifierItem.{IdentifierItem}
 use Rattle.records.specs.declared.answer.FilterItem.{FilterItem}
+use Rattle.records.specs.declared.answer.ReasonItem.{ReasonItem}
+use Rattle.records.specs.declared.answer.TopicItem.{TopicItem}
 use Rattle.records.specs.declared.subscribe_record.GotRule.{GotRule}
 
 -- ---- reading
@@ -91,6 +93,22 @@ pub back-filter-item : (r : FilterItem) → backFilterItem (toldFilterItem r) �
 unfolding backFilterItem
 back-filter-item (FilterItem.Filter f) = ap FilterItem.Filter (back-filter f)
 back-filter-item FilterItem.NoItem = refl
+
+abbrev pub backReasonItem : Fit ℕ → ReasonItem
+backReasonItem (got c) = ReasonItem.Reason c
+backReasonItem (bad k) = ReasonItem.NoItem
+
+pub back-reason-item : (r : ReasonItem) → backReasonItem (toldReasonItem r) ≡ r
+back-reason-item (ReasonItem.Reason c) = refl
+back-reason-item ReasonItem.NoItem = refl
+
+abbrev pub backTopicItem : Fit place.Span → TopicItem
+backTopicItem (got p) = TopicItem.Topic (backSpan p)
+backTopicItem (bad k) = TopicItem.NoItem
+
+pub back-topic-item : (r : TopicItem) → backTopicItem (toldTopicItem r) ≡ r
+back-topic-item (TopicItem.Topic p) = ap TopicItem.Topic (back-span p)
+back-topic-item TopicItem.NoItem = refl
 
 -- ---- forward rules
 

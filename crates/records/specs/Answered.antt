@@ -16,6 +16,8 @@ use Rattle.records.specs.declared.answer.Written.{Written}
 use Rattle.records.specs.declared.answer.UserItem.{UserItem}
 use Rattle.records.specs.declared.answer.IdentifierItem.{IdentifierItem}
 use Rattle.records.specs.declared.answer.FilterItem.{FilterItem}
+use Rattle.records.specs.declared.answer.ReasonItem.{ReasonItem}
+use Rattle.records.specs.declared.answer.TopicItem.{TopicItem}
 use Rattle.records.specs.declared.subscribe_record.GotRule.{GotRule}
 
 -- 01, "When the desk says no": "Taken is the count of stream bytes used up"
@@ -47,6 +49,16 @@ toldIdentifier IdentifierItem.NoItem = bad noItem
 abbrev pub toldFilterItem : FilterItem → Fit (record-of.Filter place.Span)
 toldFilterItem (FilterItem.Filter f) = got (toldFilter f)
 toldFilterItem FilterItem.NoItem = bad noItem
+
+-- 02, P1: the n-th reason, or 01's row 21
+abbrev pub toldReasonItem : ReasonItem → Fit ℕ
+toldReasonItem (ReasonItem.Reason c) = got c
+toldReasonItem ReasonItem.NoItem = bad noItem
+
+-- 02, P1: the n-th topic, or 01's row 21
+abbrev pub toldTopicItem : TopicItem → Fit place.Span
+toldTopicItem (TopicItem.Topic p) = got (toldSpan p)
+toldTopicItem TopicItem.NoItem = bad noItem
 
 -- 01, row 14: "both rule bits set"
 abbrev pub toldGotRule : GotRule → Fit ℕ

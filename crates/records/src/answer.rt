@@ -45,3 +45,15 @@ pub enum FilterItem {
     Filter(Filter),
     NoItem,
 }
+
+// The n-th reason.
+pub enum ReasonItem {
+    Reason(u8),
+    NoItem,
+}
+
+// The n-th topic: where it stands.
+pub enum TopicItem {
+    Topic(Span),
+    NoItem,
+}

@@ -11,8 +11,8 @@ use Rattle.positions.proofs.Less.{reason-less}
 use Rattle.positions.proofs.Trails.{trails-reason}
 use Rattle.records.specs.Told.{toldReplyKind}
 use Rattle.reply.proofs.Laws.{reason-here, reason-not}
-use Rattle.entry_runs.specs.Told.{toldReasonItem}
-use Rattle.entry_runs.proofs.Laws.{Counting, counting-start, counting-bad, counting-next, counting-end}
+use Rattle.records.specs.Answered.{toldReasonItem}
+use Rattle.positions.proofs.Nth.{Counting, counting-start, counting-bad, counting-next, counting-end}
 use Rattle.entry_runs.proofs.nth_reason.Statement.{statement}
 use Rattle.entry_runs.proofs.nth_reason.Tie as tie
 

@@ -10,8 +10,8 @@ use Rattle.reading.specs.Place.{asPlaces}
 use Rattle.positions.proofs.Less.{text-less}
 use Rattle.positions.proofs.Trails.{trails-text}
 use Rattle.positions.proofs.Run.{item-ahead}
-use Rattle.entry_runs.specs.Told.{toldTopicItem}
-use Rattle.entry_runs.proofs.Laws.{Counting, counting-start, counting-bad, counting-next, counting-end}
+use Rattle.records.specs.Answered.{toldTopicItem}
+use Rattle.positions.proofs.Nth.{Counting, counting-start, counting-bad, counting-next, counting-end}
 use Rattle.entry_runs.proofs.nth_topic.Statement.{statement}
 use Rattle.entry_runs.proofs.nth_topic.Tie as tie
 
