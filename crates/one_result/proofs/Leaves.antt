@@ -2,12 +2,11 @@
 use mathlib.Core.Path.{_≡_, refl, sym, ap, _∙_}
 use mathlib.Core.Bool.{Bool, true, false, cond}
 use mathlib.Core.Option.{Option, none, some}
-use mathlib.Core.List.{List}
+use mathlib.Core.List.{List, [], _∷_}
 use Prim.Native.Nat.{ℕ, _-_}
 use native.Mathlib.Omega.{arith}
 use lib.Dec.{eqb}
-use Rattle.grammar.specs.Choice.{lookup}
-use Rattle.grammar.specs.Tables.{Form, u8, u16, u32, number, text, bytes, pair, Place, Layout, aPublish, anAck, aSubscribe, aReply, anUnsubscribe, aPing}
+use Rattle.grammar.specs.Tables.{Form, u8, u16, u32, number, text, bytes, pair, Forms, Place, publishPlace, subscribePlace, ackPlace, unsubscribePlace, formAt, Layout, aPublish, anAck, aSubscribe, aReply, anUnsubscribe, aPing, placeAt}
 use Rattle.grammar.specs.Record.{Val, num, str, duo, PropOf}
 use Rattle.reading.specs.Refusal.{nr, cut}
 use Rattle.reading.specs.Reader.{Fit, got, bad}
@@ -30,15 +29,17 @@ use Rattle.wire.specs.declared.got.GotSpan.{GotSpan}
 use Rattle.string_puts.specs.declared.GotStringLength.{GotStringLength}
 use Rattle.tables.specs.declared.qos.GotQos.{GotQos}
 use Rattle.tables.specs.declared.property.PropertyForm.{PropertyForm}
-use Rattle.kinds.specs.Kinds.{toldKind}
+use Rattle.tables.specs.declared.property.PropertyPlace.{PropertyPlace}
+use Rattle.kinds.specs.Kinds.{toldKind, toldPlace}
 use Rattle.framing.specs.Told.{toldHeader, toldChecked, frameAt}
 use Rattle.framing.proofs.Laws as frame
 use Rattle.framing.specs.declared.check.Checked.{Checked}
 use Rattle.kinds.specs.declared.Kind.{Kind}
+use Rattle.kinds.specs.declared.KindPlace.{KindPlace}
 use Rattle.property_value.specs.Told.{toldValue, formOf, toldProperty, OfForm, PropertyRead}
 use Rattle.property_value.specs.declared.Value.{Value}
 use Rattle.property_value.specs.declared.GotProperty.{GotProperty}
-use Rattle.given.specs.Kind.{blocks, propertyAt, formIn, PropertyGiven}
+use Rattle.given.specs.Kind.{propertyAt, formIn, PropertyGiven}
 use Rattle.one_result.specs.OneResult.{OneResult}
 use Rattle.one_result.proofs.Laws.{one-by}
 
@@ -147,7 +148,7 @@ back-form PropertyForm.NotHere = refl
 pub form-same : OneResult toldForm
 form-same = one-by toldForm backForm back-form
 
--- ---- headers
+-- ---- kinds, and the places of their blocks
 
 backKind : ℕ × Bool × Option Layout → Kind
 backKind (k, true, o) = Kind.Reserved k
@@ -173,6 +174,28 @@ back-kind (Kind.NotCarried k) = refl
 
 pub kind-same : OneResult toldKind
 kind-same = one-by toldKind backKind back-kind
+
+-- 01, table of properties; 02, P1: no two rows begin with the same property
+backRow : Forms → PropertyPlace
+backRow [] = PropertyPlace.Unsubscribe
+backRow (f ∷ fs) = cond (eqb (f .0) 1) PropertyPlace.Publish (cond (eqb (f .0) 11) PropertyPlace.Subscribe (cond (eqb (f .0) 31) PropertyPlace.Ack PropertyPlace.Unsubscribe))
+
+backPlace : Option Place → KindPlace
+backPlace none = KindPlace.NoBlock
+backPlace (some p) = KindPlace.Of (backRow (p .row))
+
+back-place : (p : KindPlace) → backPlace (toldPlace p) ≡ p
+unfolding backPlace backRow publishPlace subscribePlace ackPlace unsubscribePlace
+back-place (KindPlace.Of PropertyPlace.Publish) = refl
+back-place (KindPlace.Of PropertyPlace.Subscribe) = refl
+back-place (KindPlace.Of PropertyPlace.Ack) = refl
+back-place (KindPlace.Of PropertyPlace.Unsubscribe) = refl
+back-place KindPlace.NoBlock = refl
+
+pub place-same : OneResult toldPlace
+place-same = one-by toldPlace backPlace back-place
+
+-- ---- headers
 
 abbrev backHeader : Fit ((ℕ × ℕ) × ℕ) → Checked
 backHeader = backFit (λ z. Checked.Header (record { byte1 = z .0 .0; «fixed_header_len» = z .1; «remaining_len» = z .0 .1 })) Checked.Refused
@@ -245,8 +268,8 @@ typed-same f d (GotProperty.Refused e) (GotProperty.Refused e′) r r′ o o′ 
     ap GotProperty.Refused (error-injective (let k : toldError e ≡ toldError e′ = cc in k))
 
 pub property-same : (row : Place) (s : List ℕ) (at : ℕ) (a b : GotProperty) → PropertyRead row s at a → PropertyRead row s at b → a ≡ b
-property-same row s at a b r r′ = typed-same (lookup row) (toldProperty b) a b (r .says ∙ sym (r′ .says)) refl (r .typed) (r′ .typed)
+property-same row s at a b r r′ = typed-same (formAt row) (toldProperty b) a b (r .says ∙ sym (r′ .says)) refl (r .typed) (r′ .typed)
 
 -- the same by the number of a kind
 pub property-at-same : (kind : ℕ) (s : List ℕ) (at : ℕ) (a b : GotProperty) → PropertyGiven kind s at a → PropertyGiven kind s at b → a ≡ b
-property-at-same kind s at a b r r′ = typed-same (formIn (lookup blocks kind)) (propertyAt kind s at) a b (r .says) (r′ .says) (r .typed) (r′ .typed)
+property-at-same kind s at a b r r′ = typed-same (formIn (placeAt kind)) (propertyAt kind s at) a b (r .says) (r′ .says) (r .typed) (r′ .typed)

@@ -88,8 +88,8 @@ module _ (limit : Limit) (s : List ℕ) (r : Read) (m : Meets limit s r) where
   malformed-inside t h = both (refused-as Error.MalformedRemainingLength t) (row-2-inside (limitOf limit) s [] t h)
 
   -- 3
-  pub limit-exceeded : (R n t : ℕ) → (r ≡ Read.Refused (Error.PayloadSizeLimitExceeded R n) t) ↔ FramingGiven (limitOf limit) exceeded s (R ∷ n ∷ []) t
-  limit-exceeded R n t = both (refused-as (Error.PayloadSizeLimitExceeded R n) t) (row-3 (limitOf limit) s (R ∷ n ∷ []) t)
+  pub limit-exceeded : (F n t : ℕ) → (r ≡ Read.Refused (Error.PayloadSizeLimitExceeded F n) t) ↔ FramingGiven (limitOf limit) exceeded s (F ∷ n ∷ []) t
+  limit-exceeded F n t = both (refused-as (Error.PayloadSizeLimitExceeded F n) t) (row-3 (limitOf limit) s (F ∷ n ∷ []) t)
 
   -- 4, 5 and 6
   pub invalid-type : (k t : ℕ) → (r ≡ Read.Refused (Error.InvalidPacketType k) t) ↔ FramingGiven (limitOf limit) invalid s (k ∷ []) t
@@ -101,12 +101,20 @@ module _ (limit : Limit) (s : List ℕ) (r : Read) (m : Meets limit s r) where
   pub kind-not-carried : (k t : ℕ) → (r ≡ Read.Refused (Error.KindNotCarried k) t) ↔ FramingGiven (limitOf limit) notCarried s (k ∷ []) t
   kind-not-carried k t = both (refused-as (Error.KindNotCarried k) t) (row-6 (limitOf limit) s (k ∷ []) t)
 
-  -- 7 to 15: the fields break with it, first from the left
-  pub fields-break : (e : Error) (t : ℕ) → isIn (rowOf (toldError e)) (7 ∷ 8 ∷ 9 ∷ 10 ∷ 11 ∷ 12 ∷ 13 ∷ 14 ∷ 15 ∷ []) ≡ true
+  -- 7 to 15, 22 and 23: the fields break with it, first from the left
+  pub fields-break : (e : Error) (t : ℕ) → isIn (rowOf (toldError e)) (7 ∷ 8 ∷ 9 ∷ 10 ∷ 11 ∷ 12 ∷ 13 ∷ 14 ∷ 15 ∷ 22 ∷ 23 ∷ []) ≡ true
       → (r ≡ Read.Refused e t) ↔ Breaks (limitOf limit) s (toldError e) t
   fields-break e t h =
       let k = toldError e in
       rw (numbered k) at (both (refused-as e t) (field-rows (limitOf limit) s (valuesOf k) (rowOf k) t h))
+
+  -- 02, P9: 22, "a single-valued property met a second time"
+  pub duplicate-property : (i t : ℕ) → (r ≡ Read.Refused (Error.DuplicateProperty i) t) ↔ Breaks (limitOf limit) s (nr 22 (i ∷ [])) t
+  duplicate-property i t = fields-break (Error.DuplicateProperty i) t refl
+
+  -- 02, P9: 23, "Property 11 with value 0"
+  pub subscription-id-zero : (t : ℕ) → (r ≡ Read.Refused Error.SubscriptionIdZero t) ↔ Breaks (limitOf limit) s (nr 23 []) t
+  subscription-id-zero t = fields-break Error.SubscriptionIdZero t refl
 
   -- no other refusal is given; 0 bytes are taken, or the frame
   pub takes : (e : Error) (t : ℕ) → r ≡ Read.Refused e t → Taken (limitOf limit) s (rowOf (toldError e)) t
@@ -177,12 +185,12 @@ prefix v f u w y r g e m = refused-as Limit.Unlimited u r m (Error.InsufficientB
 pub suffix : (limit : Limit) (z : ℕ × List ℕ) (c t t′ : List ℕ) (r r′ : Read) → Frame Spells z c → Meets limit (c ++ t) r → Meets limit (c ++ t′) r′ → r ≡ r′
 suffix limit z c t t′ r r′ f m m′ = read-injective (m ∙ reading.after-frame asPlaces (limitOf limit) z c t t′ f ∙ sym m′)
 
--- "A limit adds the size refusal alone": R is above the limit and the answer is 3 with nothing taken, or it is the answer with no limit
+-- "A limit adds the size refusal alone": F is above the limit and the answer is 3 with nothing taken, or it is the answer with no limit
 pub limited : (n : ℕ) (s : List ℕ) (r r₀ : Read) → Meets (Limit.AtMost n) s r → Meets Limit.Unlimited s r₀
-    → ((R : ℕ) × Above s R n × (r ≡ Read.Refused (Error.PayloadSizeLimitExceeded R n) 0)) ⊎ (((R : ℕ) → Above s R n → ⊥) × (r ≡ r₀))
+    → ((F : ℕ) × Above s F n × (r ≡ Read.Refused (Error.PayloadSizeLimitExceeded F n) 0)) ⊎ (((F : ℕ) → Above s F n → ⊥) × (r ≡ r₀))
 limited n s r r₀ m m₀ =
-    ⊎-elim (λ (R, a, e). inl (R, a, read-injective (m ∙ e))) (λ (a, e). inr (a, read-injective (m ∙ e ∙ sym m₀))) (reading.limited asPlaces n s)
+    ⊎-elim (λ (F, a, e). inl (F, a, read-injective (m ∙ e))) (λ (a, e). inr (a, read-injective (m ∙ e ∙ sym m₀))) (reading.limited asPlaces n s)
 
--- so under a limit a read succeeds exactly when the stream begins with a sentence whose R is at most the limit
+-- so under a limit a read succeeds exactly when the stream begins with a sentence of at most so many bytes
 pub succeeds-within : (n : ℕ) (s : List ℕ) (r : Read) → Meets (Limit.AtMost n) s r → (v : Packet) (k : ℕ) → Says s r (accepted v k) ↔ Begins (ShortSentence n) s v k
 succeeds-within n s r m v k = both (says (Limit.AtMost n) s r m (accepted v k)) (reading.succeeds-within n s v k)

@@ -10,8 +10,7 @@ use lib.Dec.{leb, leb→le}
 use lib.ListN.{length, take, drop}
 use lib.Seq.{length-take-le}
 use borrow.Author.Tests.{leb-false}
-use Rattle.grammar.specs.Choice.{lookup}
-use Rattle.grammar.specs.Tables.{Place, publishPlace, subscribePlace, ackPlace, unsubscribePlace, reasonsOf}
+use Rattle.grammar.specs.Tables.{Place, publishPlace, subscribePlace, ackPlace, unsubscribePlace, reasonsOf, kinds, placeAt}
 use Rattle.grammar.specs.Record.{PropOf, allOf, PublishProps, Props, publish, ack, subscribe, reply, unsubscribe}
 use Rattle.grammar.specs.Record as record-of
 use Rattle.grammar.specs.Sentence.{Value, Prop, someOf, Packet}
@@ -26,7 +25,7 @@ use Rattle.reading.proofs.Places.{properties-says, filters-says, topics-says}
 use Rattle.reading.proofs.Items.{again-like, all-says, if-some}
 use Rattle.positions.specs.Position.{fromAt}
 use Rattle.positions.proofs.At.{part-slice}
-use Rattle.positions.proofs.Less.{text-less, property-less, filter-less}
+use Rattle.positions.proofs.Less.{text-less, property-less, once-many, filter-less}
 use Rattle.positions.proofs.Run.{none-passed, passed-end, passed-bad, passed-next, item-ahead}
 use Rattle.positions.proofs.Trails.{Trails, trails-text, trails-property, trails-filter}
 use Rattle.positions.proofs.Walk.{Less}
@@ -47,7 +46,6 @@ use Rattle.records.specs.declared.reply_record.ReplyKind.{ReplyKind}
 use Rattle.records.specs.declared.subscribe_record.Subscribe.{Subscribe}
 use Rattle.records.specs.declared.unsubscribe_record.Unsubscribe.{Unsubscribe}
 use Rattle.packet.specs.Told.{Meets, Says}
-use Rattle.given.specs.Kind.{blocks}
 use Rattle.promises.specs.Walk.{Walked, arrived, onward, Walks, nextFilter, nextTopic, UserWalk, PublishWalk, FilterWalk, TopicWalk}
 use Rattle.promises.proofs.Reading.{record-says}
 use Rattle.promises.proofs.Items.{present}
@@ -121,7 +119,7 @@ module _ (s : List ℕ) (p : Span) where
   unfolding propertiesFit
   properties-walk row ps e =
       let (h, i) = again-got (propertiesFit asPlaces row) s p ps e in
-      walks (propertyOf asPlaces row) (property-less row) (λ end. trails-property asPlaces end row) s p ps h i
+      walks (propertyOf asPlaces row) (property-less row) (λ end. trails-property asPlaces end row) s p ps h (once-many asPlaces row (p .start + p .len) [] (partOf s p) ps i)
 
 -- entries of the run at a place
 entries-walk : {A : Type 0} (q : ℕ → Reader A) → ((end : ℕ) → Less end (q end)) → ((end : ℕ) → Trails (q end)) → (s : List ℕ) (p : Span) (fs : List A)
@@ -169,14 +167,14 @@ module _ (s : List ℕ) where
       let (gs, j, r) = like-there (again (topicsFit asPlaces) s p) (again (topicsFit asBytes) s p) ts (again-like s (topics-says s) p) e in
       (gs, topics-walk s p gs j, r)
 
-  user-walk : (kind : ℕ) (row : Place) → lookup blocks kind ≡ some row → (p : Span) (us : List Value) → valuesAt asBytes s p row 38 ≡ got us → UserWalk kind s p us
+  user-walk : (kind : ℕ) (row : Place) → placeAt kind ≡ some row → (p : Span) (us : List Value) → valuesAt asBytes s p row 38 ≡ got us → UserWalk kind s p us
   unfolding valuesAt
   user-walk kind row h p = from-bind (again (propertiesFit asBytes row) s p) _ λ qs e.
       let (ps, w, l) = block-walk row p qs e in
       from-got (UserWalk kind s p) (allOf 38 qs) (ps, rw h w, l 38)
 
   publish-block-walk : (p : PublishProperties) (qs : PublishProps (List ℕ) List) → sayPublishProps s (toldPublishProperties p) ≡ got qs → PublishWalk s (toldSpan (p .block)) (qs .user) (qs .subscriptions)
-  unfolding valuesAt blocks
+  unfolding valuesAt placeAt kinds
   publish-block-walk p = go (again (propertiesFit asBytes publishPlace) s (toldSpan (p .block))) refl
     where
       go : (m : Fit (List Prop)) → again (propertiesFit asBytes publishPlace) s (toldSpan (p .block)) ≡ m → (qs : PublishProps (List ℕ) List) → sayPublishProps s (toldPublishProperties p) ≡ got qs
@@ -186,11 +184,11 @@ module _ (s : List ℕ) where
           from-got (λ (z : PublishProps (List ℕ) List). PublishWalk s (toldSpan (p .block)) (z .user) (z .subscriptions)) _ (ps, w, l 38, l 11) qs (rw e at f)
       go (bad k) e qs f = absurd (bad-got (rw e at f))
 
-  props-walk : (kind : ℕ) (row : Place) → lookup blocks kind ≡ some row → (p : Properties) (qs : Props (List ℕ) List) → sayProps s row (toldProperties p) ≡ got qs → UserWalk kind s (toldSpan (p .block)) (qs .user)
+  props-walk : (kind : ℕ) (row : Place) → placeAt kind ≡ some row → (p : Properties) (qs : Props (List ℕ) List) → sayProps s row (toldProperties p) ≡ got qs → UserWalk kind s (toldSpan (p .block)) (qs .user)
   props-walk kind row h p = from-bind (valuesAt asBytes s (toldSpan (p .block)) row 38) _ λ us e.
       from-got (λ (qs : Props (List ℕ) List). UserWalk kind s (toldSpan (p .block)) (qs .user)) _ (user-walk kind row h (toldSpan (p .block)) us e)
 
-  block-walks : (kind : ℕ) (row : Place) → lookup blocks kind ≡ some row → {w : Option (Props (List ℕ) List)} (b : MaybeProperties) (p : Properties) → OnBoth (Reading (sayProps s row)) (toldBlock b) w → b ≡ MaybeProperties.Present p
+  block-walks : (kind : ℕ) (row : Place) → placeAt kind ≡ some row → {w : Option (Props (List ℕ) List)} (b : MaybeProperties) (p : Properties) → OnBoth (Reading (sayProps s row)) (toldBlock b) w → b ≡ MaybeProperties.Present p
       → (qs : Props (List ℕ) List) × (w ≡ some qs) × UserWalk kind s (toldSpan (p .block)) (qs .user)
   block-walks kind row h b p o f =
       let (qs, k, l) = present o (toldProperties p) (ap toldBlock f) in
@@ -229,15 +227,15 @@ module _ (s : List ℕ) where
       (_, refl, if-some (sayProps s unsubscribePlace) (λ a b h. h) (m .props) ps e, topic-run-walk (m .topics) fs e′)
 
 -- the rows of the kinds that share a layout
-ack-row : (k : AckKind) → lookup blocks (toldAckKind k) ≡ some ackPlace
-unfolding blocks
+ack-row : (k : AckKind) → placeAt (toldAckKind k) ≡ some ackPlace
+unfolding placeAt kinds
 ack-row AckKind.PubAck = refl
 ack-row AckKind.PubRec = refl
 ack-row AckKind.PubRel = refl
 ack-row AckKind.PubComp = refl
 
-reply-row : (k : ReplyKind) → lookup blocks (toldReplyKind k) ≡ some ackPlace
-unfolding blocks
+reply-row : (k : ReplyKind) → placeAt (toldReplyKind k) ≡ some ackPlace
+unfolding placeAt kinds
 reply-row ReplyKind.SubAck = refl
 reply-row ReplyKind.UnsubAck = refl
 
@@ -266,7 +264,7 @@ module _ (limit : Limit) (s : List ℕ) (r : Read) (h : Meets limit s r) (n : �
   -- user properties of a Subscribe that has a block
   pub subscribe-walk : (m : Subscribe) (p : Properties) → r ≡ Read.Packet (code.Packet.Subscribe m) n → m .properties ≡ MaybeProperties.Present p
       → (w : record-of.Subscribe (List ℕ) List) × (qs : Props (List ℕ) List) × Says s r (accepted (subscribe w) n) × (w .props ≡ some qs) × UserWalk 8 s (toldSpan (p .block)) (qs .user)
-  unfolding blocks
+  unfolding placeAt kinds
   subscribe-walk m p e f =
       let (v, i, a) = record-says limit s r h (code.Packet.Subscribe m) n e in
       let (w, j, b, g) = says-subscribe s (toldSubscribe m) v i in
@@ -285,7 +283,7 @@ module _ (limit : Limit) (s : List ℕ) (r : Read) (h : Meets limit s r) (n : �
   -- user properties of an Unsubscribe that has a block
   pub unsubscribe-walk : (m : Unsubscribe) (p : Properties) → r ≡ Read.Packet (code.Packet.Unsubscribe m) n → m .properties ≡ MaybeProperties.Present p
       → (w : record-of.Unsubscribe (List ℕ) List) × (qs : Props (List ℕ) List) × Says s r (accepted (unsubscribe w) n) × (w .props ≡ some qs) × UserWalk 10 s (toldSpan (p .block)) (qs .user)
-  unfolding blocks
+  unfolding placeAt kinds
   unsubscribe-walk m p e f =
       let (v, i, a) = record-says limit s r h (code.Packet.Unsubscribe m) n e in
       let (w, j, b, g) = says-unsubscribe s (toldUnsubscribe m) v i in

@@ -7,7 +7,7 @@ use Rattle.grammar.specs.Gram.{Gram, Only, Many}
 use Rattle.grammar.specs.Tables.{Place, publishPlace}
 use Rattle.grammar.specs.Record.{allOf}
 use Rattle.grammar.specs.Record as record-of
-use Rattle.grammar.specs.Sentence.{Value, Property, Text, FilterOf, ReasonOf, someOf}
+use Rattle.grammar.specs.Sentence.{Value, Properties, Text, FilterOf, ReasonOf, someOf}
 use Rattle.reading.specs.Place.{partOf}
 use Rattle.records.specs.Told.{toldSpan}
 use Rattle.records.specs.declared.span.Span.{Span}
@@ -22,11 +22,11 @@ HasItem {A = A} G kept s p n v = (l : List A) × (p .start + p .len ≤ length s
 
 -- 01, row 21: "a well-formed block of the kind asked", by its row of the table, whose n-th user property is v
 abbrev pub HasUser : Place → List ℕ → Span → ℕ → Value → Type 0
-HasUser row = HasItem (Many (Property row)) (allOf 38)
+HasUser row = HasItem (Properties row) (allOf 38)
 
 -- the same of the subscription identifiers of a Publish block
 abbrev pub HasIdentifier : List ℕ → Span → ℕ → Value → Type 0
-HasIdentifier = HasItem (Many (Property publishPlace)) (allOf 11)
+HasIdentifier = HasItem (Properties publishPlace) (allOf 11)
 
 -- 01, row 21: "or filter run", whose n-th filter is f
 abbrev pub HasFilter : List ℕ → Span → ℕ → record-of.Filter (List ℕ) → Type 0

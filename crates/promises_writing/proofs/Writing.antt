@@ -18,7 +18,7 @@ use Rattle.writing.specs.Order.{Field}
 use Rattle.writing.specs.Size.{sizeIs}
 use Rattle.writing.specs.Write.{frameBytes, sizeOf, writeOf, outOf, sizedBehind, answeredBehind, outBehind, WrittenBehind}
 use Rattle.writing.specs.Write as writing
-use Rattle.writing.specs.Refuse.{Faulty, long-raw, long-word, long-filter, bad-word, bad-filter, bad-rule, bad-qos, unlisted, FirstFault, Refuses, Unsized, mismatch, field, too-long, too-large, no-name, number, none-asked, no-room, Accepts}
+use Rattle.writing.specs.Refuse.{Faulty, long-raw, long-word, long-filter, bad-word, bad-filter, bad-rule, bad-qos, unlisted, FirstFault, Unfit, large, nought, FirstUnfit, Refuses, Unsized, mismatch, field, too-long, too-large, no-name, number, none-asked, no-room, Accepts}
 use Rattle.writing.specs.Refuse as refuse
 use Rattle.writing.specs.Meant.{said, Typed}
 use Rattle.writing.proofs.Verdict.{accepted-when, refused-when, answered-when, unanswered-when, sized-when, unsized-when}
@@ -62,8 +62,16 @@ row-of-field (bad-qos s u r q) = refl
 row-of-field (unlisted u) = refl
 
 row-of-fields : {fs : List Field} {k : Refusal} → FirstFault k fs → isIn (rowOf k) writerRows ≡ true
-row-of-fields (refuse.here f) = row-of-field f
-row-of-fields (refuse.later s f) = row-of-fields f
+row-of-fields (refuse.FirstFault.here f) = row-of-field f
+row-of-fields (refuse.FirstFault.later s f) = row-of-fields f
+
+row-of-number : {n : ℕ} {k : Refusal} → Unfit n k → isIn (rowOf k) writerRows ≡ true
+row-of-number (large h) = refl
+row-of-number nought = refl
+
+row-of-numbers : {ns : List ℕ} {k : Refusal} → FirstUnfit k ns → isIn (rowOf k) writerRows ≡ true
+row-of-numbers (refuse.FirstUnfit.here f) = row-of-number f
+row-of-numbers (refuse.FirstUnfit.later s f) = row-of-numbers f
 
 row-of : {limit : Option ℕ} {room : ℕ} {h : Handed} {k : Refusal} → Refuses limit room h k → isIn (rowOf k) writerRows ≡ true
 row-of (mismatch b) = refl
@@ -71,7 +79,7 @@ row-of (field b f) = row-of-fields f
 row-of (too-long b f r) = refl
 row-of (too-large c l m) = refl
 row-of (no-name c l u) = refl
-row-of (number c l u n) = refl
+row-of (number c l u n) = row-of-numbers n
 row-of (none-asked c l u n a) = refl
 row-of (no-room c l u n a r) = refl
 

@@ -44,9 +44,9 @@ pub data Refusing (P : Refusal → Type 0) : Bool → Refusal → Type 0 where
   own : {k : Refusal} → P k → Refusing P true k
 
 -- 01, writing order: "20; then 18, and 9 ..; with 14 then 11 ..; 17 ..; 16; 12; 17 ..; 13; 19": the refusals of a writer; 02, P1: "an unlisted
--- reason 15, read or written"
+-- reason 15, read or written"; 02, P9: SubscriptionIdZero
 abbrev pub writerRows : List ℕ
-writerRows = 9 ∷ 11 ∷ 12 ∷ 13 ∷ 14 ∷ 15 ∷ 16 ∷ 17 ∷ 18 ∷ 19 ∷ 20 ∷ []
+writerRows = 9 ∷ 11 ∷ 12 ∷ 13 ∷ 14 ∷ 15 ∷ 16 ∷ 17 ∷ 18 ∷ 19 ∷ 20 ∷ 23 ∷ []
 
 -- ---- what the types of the arguments ensure: u8, u16 and u32 are below their bounds; nothing of a usize
 

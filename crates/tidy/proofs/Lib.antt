@@ -4,4 +4,5 @@ pub mod Rows
 pub mod Blocks
 pub mod Good
 pub mod Tidy
+pub mod Form
 pub mod Worked

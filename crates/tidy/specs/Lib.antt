@@ -1,1 +1,2 @@
 pub mod Tidy
+pub mod Form
