@@ -11,7 +11,7 @@ fn stored(f: &[u8], at: usize) -> [u64; 256] {
     while i < n {
         let k = file::byte(f, next, 0) as usize;
         if k < 256 {
-            numbers[k] = file::number(f, file::after(f, next, 1), 4) as u64;
+            numbers[k] = file::number(f, file::after(f, next, 1), 4);
         }
         next = file::after(f, next, 5);
         i = i + 1;

@@ -27,13 +27,13 @@ pub fn byte(s: &[u8], at: usize, past: u8) -> u8 {
     past
 }
 
-// The number that n bytes make, or the last four of them.
-pub fn number(f: &[u8], at: usize, n: u8) -> u32 {
-    let mut value: u32 = 0;
+// The number that n bytes make, or the last eight of them.
+pub fn number(f: &[u8], at: usize, n: u8) -> u64 {
+    let mut value: u64 = 0;
     let mut next = at;
     let mut i: u8 = 0;
     while i < n {
-        value = value % 16777216 * 256 + byte(f, next, 0) as u32;
+        value = value % 72057594037927936 * 256 + byte(f, next, 0) as u64;
         next = after(f, next, 1);
         i = i + 1;
     }
@@ -73,7 +73,7 @@ fn after_field(f: &[u8], at: usize, letter: u8) -> usize {
 
 // What is kept of a field: the number, or the index where it stands.
 fn kept(f: &[u8], at: usize, letter: u8) -> usize {
-    if 4 < letter {
+    if 8 < letter {
         return at;
     }
     number(f, at, letter) as usize
@@ -143,14 +143,19 @@ pub fn lengths(f: &[u8], v: &[usize], at: usize) -> [usize; 9] {
     list
 }
 
+// The number of four bytes.
+fn four(f: &[u8], at: usize) -> u32 {
+    (number(f, at, 4) % 4294967296) as u32
+}
+
 pub fn identifiers(f: &[u8], v: &[usize], at: usize) -> [u32; 9] {
     let mut list = [0; 9];
     let place = value(v, at);
-    list[8] = number(f, place, 2);
+    list[8] = (number(f, place, 2) % 65536) as u32;
     let mut next = after(f, place, 2);
     let mut k: usize = 0;
     while k < LIST {
-        list[k] = number(f, next, 4);
+        list[k] = four(f, next);
         next = after(f, next, 4);
         k = k + 1;
     }

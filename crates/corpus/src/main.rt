@@ -2,10 +2,12 @@
 // and every byte of output. The file stdout was counted over the answers by oracle/count-answers.
 mod expect;
 mod file;
+mod put_ack;
 mod put_ping;
-mod put_puback;
 mod put_publish;
+mod put_reply;
 mod put_subscribe;
+mod put_unsubscribe;
 mod reads;
 mod row;
 mod tally;
@@ -28,15 +30,15 @@ fn replay(f: &[u8], v: &[usize]) -> usize {
 }
 
 // A row that is not as stored, and the first field of it that is not.
-fn otherwise(v: &[usize], k: u32, field: usize) {
-    tally::say(b"row ", k as u64);
+fn otherwise(v: &[usize], k: u64, field: usize) {
+    tally::say(b"row ", k);
     tally::say(b", type ", file::value(v, row::TYPE) as u64);
     tally::say(b": not as stored: field ", field as u64);
     io::write_all(1, b"\n");
 }
 
 // The first is row 1.
-fn tell(tally: &mut [u64], f: &[u8], v: &[usize], k: u32) {
+fn tell(tally: &mut [u64], f: &[u8], v: &[usize], k: u64) {
     let field = replay(f, v);
     if field == row::AS_STORED {
         tally::as_stored(&mut *tally, f, v);
@@ -47,8 +49,8 @@ fn tell(tally: &mut [u64], f: &[u8], v: &[usize], k: u32) {
 }
 
 // The row that is not whole.
-fn damaged(k: u32) {
-    tally::say(b"DAMAGED: row ", k as u64);
+fn damaged(k: u64) {
+    tally::say(b"DAMAGED: row ", k);
     io::write_all(1, b" cannot be read\n");
 }
 
@@ -56,7 +58,7 @@ fn damaged(k: u32) {
 fn every_row(f: &[u8], tally: &mut [u64]) -> usize {
     let n = file::number(f, 0, 4);
     let mut at = file::after(f, 0, 4);
-    let mut k: u32 = 0;
+    let mut k: u64 = 0;
     while k < n {
         k = k + 1;
         let mut v = [LOST; 31];
@@ -72,7 +74,7 @@ fn every_row(f: &[u8], tally: &mut [u64]) -> usize {
 
 // Does the file end where its last row does, before the buffer's end? Its lines tell what was counted in any case.
 fn whole(f: &[u8]) {
-    let mut tally = [0; 960];
+    let mut tally = [0; 1943];
     let end = every_row(f, &mut tally);
     tally::lines(&tally);
     if end == f.len() {

@@ -1,6 +1,6 @@
-// Counts of the rows that are as stored, and the lines that tell them. A group of 64 counts has one for each refusal at its number, at 0 for
-// none, and at 63 for all. There is a group for the writes of each kind, then for their sizes, then for the reads and each list, and the last
-// for the entries of docs/DIFFERENCES.md: at 0 the rows with none, at 62 those that are not as stored. What would stand past it is not
+// Counts of the rows that are as stored, and the lines that tell them. A group of 67 counts has one for each number up to 64, at 0 for none, and
+// at 66 for all: of refusals in a group for the writes of each kind, from Publish (3) on, then for their sizes, then for the reads and each
+// list; in the last group of entries of docs/DIFFERENCES.md, with the rows that are not as stored at 65. What would stand past it is not
 // counted: the sizes of reads.
 use crate::expect::number;
 use crate::file;
@@ -8,32 +8,22 @@ use crate::row;
 use records::span::Span;
 use wire::string;
 
-const PUBLISH: usize = 0;
+// How many counts a group has.
+const GROUP: usize = 67;
 
-const PUBACK: usize = 64;
+// How many kinds are written: so far behind a write's group is that of its size.
+const KINDS: usize = 11;
 
-const SUBSCRIBE: usize = 128;
+const READ: usize = 22;
 
-const PINGREQ: usize = 192;
+// How many groups there are of refusals; behind them is that of the entries.
+const GROUPS: usize = 28;
 
-const PINGRESP: usize = 256;
+pub const ENTRIES: usize = 1876;
 
-// How far behind a write's group that of its size is.
-const SIZES: usize = 320;
+pub const OTHERWISE: usize = 65;
 
-const READ: usize = 640;
-
-const USER: usize = 704;
-
-const IDENTIFIER: usize = 768;
-
-const FILTER: usize = 832;
-
-pub const ENTRIES: usize = 896;
-
-pub const OTHERWISE: usize = 62;
-
-const ALL: usize = 63;
+const ALL: usize = 66;
 
 // So many more.
 pub fn add(tally: &mut [u64], group: usize, k: usize, n: u64) {
@@ -43,23 +33,30 @@ pub fn add(tally: &mut [u64], group: usize, k: usize, n: u64) {
     }
 }
 
-// An item's list stands where no type does.
-fn group(v: &[usize]) -> usize {
-    let mut kind = file::small(v, row::TYPE);
-    if kind == 2 {
-        kind = file::small(v, 2);
+// The group of a list's items, behind that of the reads.
+fn list_group(list: u8) -> usize {
+    match list {
+        38 => 23,
+        11 => 24,
+        0 => 25,
+        9 => 26,
+        _ => 27,
     }
+}
+
+// The group of a row: of a read, of an item's list, or of the kind that is written.
+fn group(v: &[usize]) -> usize {
+    let kind = file::small(v, row::TYPE);
     match kind {
         1 => READ,
-        38 => USER,
-        11 => IDENTIFIER,
-        0 => FILTER,
-        3 => PUBLISH,
-        4 => PUBACK,
-        8 => SUBSCRIBE,
-        12 => PINGREQ,
-        _ => PINGRESP,
+        2 => list_group(file::small(v, 2)),
+        _ => std::num::wrapping_sub_usize(kind as usize, 3),
     }
+}
+
+// Where a group starts.
+fn start(group: usize) -> usize {
+    group % 64 * GROUP
 }
 
 // One more of a group, with the refusal of the answer at k.
@@ -86,10 +83,10 @@ fn add_entries(tally: &mut [u64], class: usize) {
 
 pub fn as_stored(tally: &mut [u64], f: &[u8], v: &[usize]) {
     let g = group(v);
-    add_answer(&mut *tally, g, f, v, row::ANSWER);
+    add_answer(&mut *tally, start(g), f, v, row::ANSWER);
     add_answer(
         &mut *tally,
-        std::num::wrapping_add_usize(g, SIZES),
+        start(std::num::wrapping_add_usize(g, KINDS)),
         f,
         v,
         row::SIZE,
@@ -127,29 +124,48 @@ fn counts(tally: &[u64], first: &[u8], words: &[u8], group: usize) {
     io::write_all(1, b"\n");
 }
 
-fn line(tally: &[u64], name: &[u8], group: usize) {
-    say(name, number(tally, group, ALL));
+fn line(tally: &[u64], words: &[u8], name: &[u8], group: usize) {
+    io::write_all(1, words);
+    io::write_all(1, name);
+    say(b": ", number(tally, group, ALL));
     counts(tally, b"; accepted: ", b"; refused ", group);
 }
 
-// A line for each name, which has its length before it. Reads come first.
-fn groups(tally: &[u64], names: &[u8]) {
+// A line for each group up to an end, by words and a name, which has its length before it.
+fn groups(tally: &[u64], words: &[u8], names: &[u8], first: usize, end: usize) {
     let mut at: usize = 0;
-    let mut k: usize = 10;
-    while k < 24 {
-        let start = file::after(names, at, 1);
+    let mut k = first;
+    while k < end {
+        let from = file::after(names, at, 1);
         let len = file::byte(names, at, 0) as usize;
-        line(tally, string::part(names, Span { start, len }), k % 14 * 64);
-        at = file::after(names, start, len);
+        let name = Span { start: from, len };
+        line(tally, words, string::part(names, name), start(k));
+        at = file::after(names, from, len);
         k = k + 1;
     }
+}
+
+// The writes, or the sizes, of each kind.
+fn kinds(tally: &[u64], words: &[u8], first: usize, end: usize) {
+    groups(
+        tally,
+        words,
+        b"\x07Publish\x06PubAck\x06PubRec\x06PubRel\x07PubComp\x09Subscribe\x06SubAck\x0BUnsubscribe\x08UnsubAck\x07PingReq\x08PingResp",
+        first,
+        end,
+    );
 }
 
 pub fn lines(tally: &[u64]) {
     groups(
         tally,
-        b"\x07reads: \x11user properties: \x1asubscription identifiers: \x09filters: \x13writes of Publish: \x12writes of PubAck: \x15writes of Subscribe: \x13writes of PingReq: \x14writes of PingResp: \x12sizes of Publish: \x11sizes of PubAck: \x14sizes of Subscribe: \x12sizes of PingReq: \x13sizes of PingResp: ",
+        b"",
+        b"\x05reads\x0Fuser properties\x18subscription identifiers\x07filters\x07reasons\x06topics",
+        READ,
+        GROUPS,
     );
+    kinds(tally, b"writes of ", 0, KINDS);
+    kinds(tally, b"sizes of ", KINDS, READ);
     counts(tally, b"no difference: ", b"\ndifference ", ENTRIES);
 }
 

@@ -1,17 +1,21 @@
 // Rows of writes.
 use crate::expect;
 use crate::file;
+use crate::put_ack;
 use crate::put_ping;
-use crate::put_puback;
 use crate::put_publish;
+use crate::put_reply;
 use crate::put_subscribe;
+use crate::put_unsubscribe;
 use crate::row;
 
 fn of_kind(f: &[u8], v: &[usize], out: &mut [u8]) -> usize {
     match file::small(v, row::TYPE) {
         3 => put_publish::replay(f, v, &mut *out),
-        4 => put_puback::replay(f, v, &mut *out),
+        4..=7 => put_ack::replay(f, v, &mut *out),
         8 => put_subscribe::replay(f, v, &mut *out),
+        9 | 11 => put_reply::replay(f, v, &mut *out),
+        10 => put_unsubscribe::replay(f, v, &mut *out),
         _ => put_ping::replay(f, v, &mut *out),
     }
 }

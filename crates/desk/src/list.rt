@@ -63,10 +63,15 @@ fn options(out: &mut [u8], at: usize, q: u8, no_local: bool, preserve: bool, rul
     output::word(&mut *out, at, &text)
 }
 
+// The text of a filter.
+fn path(out: &mut [u8], at: usize, s: &[u8], place: Span) -> usize {
+    field::part(&mut *out, at, b" filter=\"", s, place)
+}
+
 fn filter_of(out: &mut [u8], at: usize, s: &[u8], f: Filter) -> usize {
     let q = f.qos;
     let rule = f.retain_forward_rule;
-    let a = field::part(&mut *out, at, b" filter=\"", s, f.path);
+    let a = path(&mut *out, at, s, f.path);
     options(
         &mut *out,
         a,
@@ -101,7 +106,7 @@ fn topics_in(out: &mut [u8], at: usize, s: &[u8]) -> usize {
         match string::read_mqtt_string(s, i) {
             GotSpan::Refused(_) => return next,
             GotSpan::Value(topic, end) => {
-                next = field::part(&mut *out, next, b" filter=\"", s, topic);
+                next = path(&mut *out, next, s, topic);
                 i = end;
             }
         }
