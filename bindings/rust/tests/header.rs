@@ -40,7 +40,7 @@ fn c_functions() -> BTreeMap<String, (Vec<String>, String)> {
         let result = text[..i].rsplit(' ').next().unwrap();
         let close = rest.find(')').unwrap();
         let parameters = rest[open + 1..close].split(',').map(|p| c_parameter(p.trim())).collect();
-        found.insert(name.to_string(), (parameters, rust_type(result)));
+        assert!(found.insert(name.to_string(), (parameters, rust_type(result))).is_none(), "{name} is declared twice");
     }
     found
 }
