@@ -95,7 +95,10 @@ more =
     ∷ case none (0x3B ∷ 0x28 ∷ 0x00 ∷ 0x01 ∷ 0x61 ∷ 0x00 ∷ 0x07 ∷ 0x21 ∷ 0x01 ∷ 0x01 ∷ 0x02 ∷ 0x00 ∷ 0x00 ∷ 0x00 ∷ 0x05 ∷ 0x23 ∷ 0x00 ∷ 0x09 ∷ 0x08 ∷ 0x00 ∷ 0x01 ∷ 0x62 ∷ 0x09 ∷ 0x00 ∷ 0x01 ∷ 0xFF ∷ 0x26 ∷ 0x00 ∷ 0x01 ∷ 0x6B ∷ 0x00 ∷ 0x01 ∷ 0x76 ∷ 0x0B ∷ 0x80 ∷ 0x01 ∷ 0x03 ∷ 0x00 ∷ 0x02 ∷ 0xC3 ∷ 0xA9 ∷ 0x07 ∷ []) (accepted (publish (record { dup = 1; qos = 1; retain = 1; topic = 0x61 ∷ []; ident = 7; props = some (record { format = some (num 1); expiry = some (num 5); alias = some (num 9); response = some (str (0x62 ∷ [])); correlation = some (str (0xFF ∷ [])); user = duo (0x6B ∷ []) (0x76 ∷ []) ∷ []; subscriptions = num 128 ∷ []; content = some (str (0xC3 ∷ 0xA9 ∷ [])) }); payload = 0x07 ∷ [] })) 42)
     ∷ case none (0x30 ∷ 0x0B ∷ 0x00 ∷ 0x00 ∷ 0x08 ∷ 0x02 ∷ 0x01 ∷ 0x02 ∷ 0x03 ∷ 0x04 ∷ 0x23 ∷ 0x01 ∷ 0x02 ∷ []) (accepted (message [] (some (record { format = none; expiry = some (num 16909060); alias = some (num 258); response = none; correlation = none; user = []; subscriptions = []; content = none })) []) 13)
     ∷ case none (0x30 ∷ 0x18 ∷ 0x00 ∷ 0x01 ∷ 0x61 ∷ 0x14 ∷ 0x03 ∷ 0x00 ∷ 0x01 ∷ 0x61 ∷ 0x26 ∷ 0x00 ∷ 0x01 ∷ 0x61 ∷ 0x00 ∷ 0x01 ∷ 0x62 ∷ 0x03 ∷ 0x00 ∷ 0x01 ∷ 0x62 ∷ 0x26 ∷ 0x00 ∷ 0x00 ∷ 0x00 ∷ 0x00 ∷ []) (refused 22 (3 ∷ []) 26)
-    -- 02, P9: a doubled property before its value is looked at, and behind an earlier fault; lists may repeat; 11 twice in a Subscribe; zero; U+0000
+    -- 02, P9: a doubled property before its value is looked at, with another between, and behind an earlier fault; lists may repeat; 11 twice in a
+    -- Subscribe; zero; U+0000
+    ∷ case none (0x30 ∷ 0x0C ∷ 0x00 ∷ 0x00 ∷ 0x09 ∷ 0x01 ∷ 0x00 ∷ 0x02 ∷ 0x00 ∷ 0x00 ∷ 0x00 ∷ 0x00 ∷ 0x01 ∷ 0x00 ∷ []) (refused 22 (1 ∷ []) 14)
+    ∷ case none (0x30 ∷ 0x0D ∷ 0x00 ∷ 0x00 ∷ 0x0A ∷ 0x26 ∷ 0x00 ∷ 0x00 ∷ 0x00 ∷ 0x00 ∷ 0x26 ∷ 0x00 ∷ 0x00 ∷ 0x00 ∷ 0x00 ∷ []) (accepted (message [] (some (record { format = none; expiry = none; alias = none; response = none; correlation = none; user = duo [] [] ∷ duo [] [] ∷ []; subscriptions = []; content = none })) []) 15)
     ∷ case none (0x30 ∷ 0x08 ∷ 0x00 ∷ 0x00 ∷ 0x05 ∷ 0x01 ∷ 0x00 ∷ 0x01 ∷ 0x00 ∷ 0xFF ∷ []) (refused 22 (1 ∷ []) 10)
     ∷ case none (0x30 ∷ 0x06 ∷ 0x00 ∷ 0x00 ∷ 0x03 ∷ 0x01 ∷ 0x00 ∷ 0x01 ∷ []) (refused 22 (1 ∷ []) 8)
     ∷ case none (0x30 ∷ 0x07 ∷ 0x00 ∷ 0x00 ∷ 0x04 ∷ 0x01 ∷ 0x00 ∷ 0x00 ∷ 0x01 ∷ []) (refused 10 (0 ∷ []) 9)
@@ -172,7 +175,7 @@ two = 0x82 ∷ 0x0D ∷ 0x00 ∷ 0x01 ∷ 0x00 ∷ 0x00 ∷ 0x01 ∷ 0x61 ∷ 0x
 abbrev acks : List ℕ
 acks = 0x40 ∷ 0x0F ∷ 0x00 ∷ 0x0A ∷ 0x99 ∷ 0x0B ∷ 0x1F ∷ 0x00 ∷ 0x01 ∷ 0x61 ∷ 0x26 ∷ 0x00 ∷ 0x01 ∷ 0x6B ∷ 0x00 ∷ 0x01 ∷ 0x76 ∷ 0xFF ∷ []
 
--- where the strings, blocks and filters of three frames stand
+-- where the strings, blocks and entries of five frames stand
 abbrev placed : List (List ℕ × Answer Placed)
 placed = (
   three,
@@ -201,7 +204,12 @@ placed = (
     ∷ (acks, accepted (ack 4 (record { ident = 10; reason = 0x99; props = some (record { reason = some (str (span 9 1)); ident = none; user = span 6 11 }) })) 17)
     ∷ []
 
--- items: the third identifier, none after it; no user property; no item of a place that cuts the block, or lies outside; a pair of an acknowledgement
+-- a user property behind a property that stands twice
+abbrev doubled : List ℕ
+doubled = 0x01 ∷ 0x00 ∷ 0x01 ∷ 0x00 ∷ 0x26 ∷ 0x00 ∷ 0x00 ∷ 0x00 ∷ 0x00 ∷ []
+
+-- items: the third identifier, none after it; no user property; no item of a place that cuts the block, or lies outside; a pair of an acknowledgement;
+-- none of a block with a doubled property
 abbrev items : List (Fit (Val Span))
 items =
     subscriptionAt asPlaces three (span 6 6) 2
@@ -211,6 +219,8 @@ items =
     ∷ subscriptionAt asPlaces three (span 6 9) 0
     ∷ userAt asPlaces acks (span 6 11) ackPlace 0
     ∷ userAt asPlaces acks (span 6 11) subscribePlace 0
+    ∷ userAt asPlaces doubled (span 0 9) publishPlace 0
+    ∷ userAt asPlaces doubled (span 2 7) publishPlace 0
     ∷ []
 
 -- ---- the statement
@@ -219,7 +229,7 @@ abbrev Right : Type 0
 Right =
     (map (λ (c : Case). readOf (c .limit) (c .sent)) (bench ++ more ++ six) ≡ map (λ (c : Case). c .answer) (bench ++ more ++ six))
     × (map (λ (c : List ℕ × Answer Placed). readPlacedOf none (c .0)) placed ≡ map (λ (c : List ℕ × Answer Placed). c .1) placed)
-    × (items ≡ got (num 3) ∷ bad (nr 21 []) ∷ bad (nr 21 []) ∷ bad (nr 21 []) ∷ bad (nr 21 []) ∷ got (duo (span 13 1) (span 16 1)) ∷ bad (nr 21 []) ∷ [])
+    × (items ≡ got (num 3) ∷ bad (nr 21 []) ∷ bad (nr 21 []) ∷ bad (nr 21 []) ∷ bad (nr 21 []) ∷ got (duo (span 13 1) (span 16 1)) ∷ bad (nr 21 []) ∷ bad (nr 21 []) ∷ got (duo (span 7 0) (span 9 0)) ∷ [])
     × (filterAt asPlaces two (span 5 10) 1 ≡ got (record { path = span 11 3; qos = 2; noLocal = 0; preserve = 0; rule = 0 }))
     × (reasonAt (0x02 ∷ 0xA2 ∷ []) (span 0 2) subAckReasons 1 ≡ got 0xA2)
     × (reasonAt (0x02 ∷ 0xA2 ∷ []) (span 0 2) unsubAckReasons 0 ≡ bad (nr 21 []))

@@ -1,4 +1,4 @@
-// The property or filter at an index of the stream, and the index after it: a list walked item by item costs each byte once.
+// The property, filter or topic at an index of the stream, and the index after it: a list walked item by item costs each byte once.
 use given::kind::property_at;
 use layout_next::store_next_filter;
 use layout_next::store_next_topic;

@@ -18,7 +18,7 @@ pub data Val (S : Type 0) : Type 0 where
 abbrev pub PropOf : Type 0 → Type 0
 PropOf S = ℕ × Val S
 
--- 01, grammar: "Of a single-valued property given twice the last counts"; o is what came before
+-- 01, grammar: "Of a single-valued property given twice the last counts"; since 02, P9, it stands once at most; o is what came before
 abbrev pub lastFrom : {S : Type 0} → Option (Val S) → ℕ → List (PropOf S) → Option (Val S)
 lastFrom o i [] = o
 lastFrom o i (p ∷ ps) = lastFrom (cond (eqb (p .0) i) (some (p .1)) o) i ps

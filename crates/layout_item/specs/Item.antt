@@ -1,5 +1,5 @@
--- What is stored of an item: bindings/c/ecchjulmina.h, enums ecch_user_layout, ecch_identifier_layout and ecch_filter_layout.
--- Assumes nothing.
+-- What is stored of an item: bindings/c/ecchjulmina.h, enums ecch_user_layout, ecch_identifier_layout, ecch_filter_layout,
+-- ecch_reason_layout and ecch_topic_layout. Assumes nothing.
 use mathlib.Core.List.{List, [], _∷_}
 use Prim.Native.Nat.{ℕ}
 use Rattle.grammar.specs.Record.{Val, num, str, duo, Filter}

@@ -1,5 +1,5 @@
--- What is stored of the property or filter at an index: bindings/c/ecchjulmina.h, enums ecch_property_layout and ecch_next_filter_layout.
--- Assumes nothing.
+-- What is stored of the property, filter or topic at an index: bindings/c/ecchjulmina.h, enums ecch_property_layout, ecch_next_filter_layout and
+-- ecch_next_topic_layout. Assumes nothing.
 use mathlib.Core.List.{List, [], _∷_}
 use Prim.Native.Nat.{ℕ}
 use Rattle.grammar.specs.Record.{Val, num, str, duo, PropOf, Filter}
@@ -8,7 +8,7 @@ use Rattle.reading.specs.Reader.{Fit, got, bad}
 use Rattle.reading.specs.Place.{Span}
 use Rattle.layout.specs.Value.{valueOrZero}
 
--- header: "or the refusal's value"; of both enums
+-- header: "or the refusal's value"; of all three enums
 abbrev pub badNumbers : Refusal → List ℕ
 badNumbers (nr k vs) = valueOrZero vs 0 ∷ 0 ∷ 0 ∷ 0 ∷ 0 ∷ 0 ∷ 0 ∷ []
 

@@ -1,4 +1,4 @@
-// What is returned and stored of the property or filter at an index: with it the index after it, at which the next one begins.
+// What is returned and stored of the property, filter or topic at an index: with it the index after it, at which the next one begins.
 use codes::qos_number;
 use codes::rule_number;
 use filters::GotFilter;

@@ -1,4 +1,4 @@
-// What is handed over of a packet by value, one case for each layout that is carried; strings and lists are lent beside it.
+// What is handed over of a packet by value, one case for each layout that is carried, and one for each ping; strings and lists are lent beside it.
 use ack_write::AckHead;
 use publish_plan::head::PublishHead;
 use reply_write::ReplyHead;

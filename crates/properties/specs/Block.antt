@@ -47,7 +47,7 @@ saidOf l i = orFalse (lookup l i)
 abbrev pub publishSaid : PublishProps Span (λ A. Span) → List (ℕ × Bool)
 publishSaid o = (1, isSome (o .format)) ∷ (2, isSome (o .expiry)) ∷ (35, isSome (o .alias)) ∷ (8, isSome (o .response)) ∷ (9, isSome (o .correlation)) ∷ (3, isSome (o .content)) ∷ []
 
--- 01, table of properties, row Publish; "Of a single-valued property given twice the last counts", the lists stay where they are
+-- 01, table of properties, row Publish; the lists stay where they are
 abbrev pub publishRow : Row
 publishRow = record {
   place = publishPlace;

@@ -67,7 +67,7 @@ some-verdict limit s = (readOf limit s, answered limit s (readOf limit s) .0 ref
 pub one-verdict : (limit : Option ℕ) (s : List ℕ) (a a′ : Answer Packet) → Verdict limit s a → Verdict limit s a′ → a ≡ a′
 one-verdict limit s a a′ w w′ = sym (answered limit s a .1 w) ∙ answered limit s a′ .1 w′
 
--- every refusal takes what 01's column says, 0 or the frame, and has a number from 1 to 15
+-- every refusal takes what 01's column says, 0 or the frame, and has a number from 1 to 15, or 22 or 23
 pub takes : (limit : Option ℕ) (s vs : List ℕ) (k t : ℕ) → readOf limit s ≡ refused k vs t → Taken limit s k t
 takes = taken
 

@@ -69,7 +69,7 @@ FramingGiven limit required s vs t = (x : ℕ) × Holds limit s x [] t × (isIn 
 -- 6: KindNotCarried(k)
 FramingGiven limit notCarried s vs t = (x : ℕ) × (y : ℕ) × (b : List ℕ) × Holds limit s x (y ∷ b) t × (isIn (kindOf x) reserved ≡ false) × (lookup kinds (kindOf x) ≡ none) × (vs ≡ kindOf x ∷ [])
 
--- 01, rows 7 to 15, and 2 inside a frame: the frame is of a kind that is carried, and its fields break, first from the left, with k
+-- 01, rows 7 to 15, and 2 inside a frame; 02, P9: 22 and 23: the frame is of a kind that is carried, and its fields break, first from the left, with k
 abbrev pub Breaks : Option ℕ → List ℕ → Refusal → ℕ → Type 0
 Breaks limit s k t = (x : ℕ) × (l : Layout) × (b : List ℕ) × Holds limit s x b t × (lookup kinds (kindOf x) ≡ some l) × ((isPing (some l) || not (isEmpty b)) ≡ true) × FieldsFault l x b k
 

@@ -12,7 +12,7 @@ pub enum Error {
     PayloadRequired,
     // 6: a kind of MQTT that is not carried
     KindNotCarried(u8),
-    // 7: a field ends early, or bytes follow a PubAck's block
+    // 7: a field ends early, or bytes follow the block of a publish acknowledgement
     MalformedPacket,
     // 8: the length of a string, or L of a block, that exceeds what is left around it
     BoundaryCrossed(usize),
@@ -24,11 +24,11 @@ pub enum Error {
     InvalidQoS(u8),
     // 12: a Publish of QoS 1 or 2 with identifier 0
     PacketIdZero,
-    // 13: no filters
+    // 13: no filter, topic or reason
     EmptySubscription,
     // 14: both forward rule bits are set
     InvalidRetainForwardRule(u8),
-    // 15: none of the nine reasons
+    // 15: none of the reasons of its kind
     InvalidReason(u8),
     // 16: the size to write, and the limit that it is above
     OutgoingPacketTooLarge(usize, usize),

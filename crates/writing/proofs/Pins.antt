@@ -123,12 +123,6 @@ module _ (limit : Option ℕ) (room : ℕ) (b : List ℕ) where
   unfolding frameBytes firstByte bodyBytes counted short spell spellStep
   ping-bytes k e = written limit room (ping k) b e
 
--- 01, grammar: "first byte 0x82 for Subscribe, 0x40 for PubAck, `C0 00` and `D0 00` for pings"; 02, P1: the six others
-pub first-bytes : (firstOf 4 ≡ 0x40) × (firstOf 8 ≡ 0x82) × (firstOf 12 ≡ 0xC0) × (firstOf 13 ≡ 0xD0)
-    × (firstOf 5 ≡ 0x50) × (firstOf 6 ≡ 0x62) × (firstOf 7 ≡ 0x70) × (firstOf 9 ≡ 0x90) × (firstOf 10 ≡ 0xA2) × (firstOf 11 ≡ 0xB0)
-unfolding firstOf firsts
-first-bytes = (refl, refl, refl, refl, refl, refl, refl, refl, refl, refl)
-
 -- ---- options
 
 -- 01, "What must change shape": "bits 6-7 written as 0 and no part of the record"

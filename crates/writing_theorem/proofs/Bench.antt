@@ -154,6 +154,14 @@ bench =
     ∷ case none 0 (message 1 0 true no (run [] []) (268435456 ∷ [])) (no-of 12)
     ∷ case none 0 (message 1 1 true no (run [] []) (1 ∷ 268435456 ∷ [])) (no-of 17)
     ∷ case (some 0) 0 (message 0 0 true no (run [] []) (268435456 ∷ [])) (bad (nr 16 (15 ∷ 0 ∷ [])))
+    -- 02, P9: 23 for an identifier 0, where 17 for identifiers stands: in order, behind 16 and 12, before 13 and 19; U+0000 in a text is 9, in a topic it stands
+    ∷ case none 0 (message 0 0 true no (run [] []) (0 ∷ 268435456 ∷ [])) (no-of 23)
+    ∷ case none 0 (message 0 0 true no (run [] []) (1 ∷ 268435456 ∷ 0 ∷ [])) (no-of 17)
+    ∷ case (some 0) 0 (message 0 0 true no (run [] []) (0 ∷ [])) (bad (nr 16 (12 ∷ 0 ∷ [])))
+    ∷ case none 0 (message 1 0 true no (run [] []) (0 ∷ [])) (no-of 12)
+    ∷ case none 0 (wish (some 0) (run [] []) []) (no-of 23)
+    ∷ case none 0 (message 0 0 true (yes (0x61 ∷ 0x00 ∷ [])) (run [] []) []) (no-of 9)
+    ∷ case none 6 (publish (plain (0x00 ∷ []) [])) (got (0x30 ∷ 0x04 ∷ 0x00 ∷ 0x01 ∷ 0x00 ∷ 0x00 ∷ []))
     -- a filter: 9, then 14, then 11, before the next one; 17 before 13, 13 before 19
     ∷ case none 100 (wish none (run a (1 ∷ [])) (0xC1 ∷ [])) (got (0x82 ∷ 0x07 ∷ 0x00 ∷ 0x01 ∷ 0x00 ∷ 0x00 ∷ 0x01 ∷ 0x61 ∷ 0x01 ∷ []))
     ∷ case none 100 (wish none (run a (1 ∷ [])) (0x33 ∷ [])) (bad (nr 14 (3 ∷ [])))
