@@ -36,8 +36,8 @@ array-share-prefix-ids c = search needs
 slice-aggregate-put-2 : tie.Need-slice-aggregate-put-2
 slice-aggregate-put-2 c = sym (length-take-le _ _ (omega arith))
 
-array-share-prefix-one : tie.Need-array-share-prefix-one
-array-share-prefix-one c = search needs
+array-share-prefix-ones : tie.Need-array-share-prefix-ones
+array-share-prefix-ones c = search needs
 
 slice-aggregate-put-3 : tie.Need-slice-aggregate-put-3
 slice-aggregate-put-3 c = sym (length-take-le _ _ (omega arith))
@@ -65,7 +65,7 @@ record-spec =
     slice-aggregate-put
     array-share-prefix-ids
     slice-aggregate-put-2
-    array-share-prefix-one
+    array-share-prefix-ones
     slice-aggregate-put-3
     put-requires
     same-length
