@@ -1,13 +1,13 @@
 // A frame and its answer on standard output, the fields and the refusals as `desk` writes them.
 use codes;
 use entry_runs;
-use entry_runs::ReasonItem;
-use entry_runs::TopicItem;
 use publish_parts;
 use records::ack_record::Ack;
 use records::answer::FilterItem;
 use records::answer::IdentifierItem;
 use records::answer::Limit;
+use records::answer::ReasonItem;
+use records::answer::TopicItem;
 use records::error::Error;
 use records::packet_record::Packet;
 use records::publish_record::MaybePublishProperties;

@@ -1,15 +1,24 @@
 -- A run of bytes cut by lengths: the i-th string and the rest of the run, for every loop over a run. An index past the end is the
 -- end. Assumes nothing.
-use mathlib.Core.Path.{_≡_, _∙_}
+use mathlib.Core.Path.{_≡_, sym, _∙_}
 use mathlib.Core.Logic.{_⊎_, inl, inr}
 use mathlib.Core.List.{List, [], _∷_}
 use Prim.Native.Nat.{ℕ, _+_, _-_, _≤_, _<_, min}
 use native.Mathlib.Omega.{arith}
 use lib.ListN.{length, take, drop, getD, length-take, length-drop, drop-of-length-le}
 use lib.Seq.{take-all, take-nil}
+use denote.Ref.{RefT, now}
 use Rattle.writing.specs.Handed.{Run, strings}
 use Rattle.writing.proofs.Tests.{le-or}
+use Rattle.rows.specs.Piece.{PieceAt}
 use Rattle.writing.proofs.ForCode.{runFrom, stringAt, strings-more}
+
+-- 01, "inputs admit one result only": two pieces at one index are the same address and the same bytes
+pub piece-at-same : {run r q : RefT (List ℕ)} {at n : ℕ} → PieceAt run at n r → PieceAt run at n q → (r .ptr ≡ q .ptr) × (now r ≡ now q)
+piece-at-same a b = (pair (a .block ∙ sym (b .block)) (a .start ∙ sym (b .start)), a .bytes ∙ sym (b .bytes))
+  where
+    pair : {x y : ℕ × ℕ} → x .0 ≡ y .0 → x .1 ≡ y .1 → x ≡ y
+    pair e f = λ i. (e i, f i)
 
 -- ---- indexes
 
