@@ -44,8 +44,12 @@ module _ (t : Lent) (u : Run) where
       → (out₁ ≡ sets before at (short len)) × (n ≡ length (short len)) → first ≡ min (at + n) (length out₁)
       → Put out₁ first (rowBytes (31, text) (lent t)) out₂ k → second ≡ min (first + k) (length out₂)
       → Put out₂ second (rowBytes (38, pair) (pairs u)) out₃ j → third ≡ min (second + j) (length out₃)
-      → propsSize ackPlace (ackGiven t u) ≤ most → Behind before at (short (propsSize ackPlace (ackGiven t u)) ++ propsBytes ackPlace (ackGiven t u)) out₃ third
-  put-both before out₁ out₂ out₃ at len n first k second j third l (q₁, c₁) m₁ p₂ m₂ p₃ m₃ s =
-      let i : len ≡ propsSize ackPlace (ackGiven t u) = l ∙ cap-small (propsSize ackPlace (ackGiven t u)) s in
+      → Behind before at (short (cap (propsSize ackPlace (ackGiven t u))) ++ propsBytes ackPlace (ackGiven t u)) out₃ third
+  put-both before out₁ out₂ out₃ at len n first k second j third l (q₁, c₁) m₁ p₂ m₂ p₃ m₃ =
       let r : List ℕ = rowBytes (38, pair) (pairs u) in
-      rw (← i, ack-props t u, append-nil r) (next-then (store-next (short len) q₁ c₁ m₁) (next-then (put-next p₂ m₂) (put-next p₃ m₃)))
+      rw (← l, ack-props t u, append-nil r) (next-then (store-next (short len) q₁ c₁ m₁) (next-then (put-next p₂ m₂) (put-next p₃ m₃)))
+
+  -- where L can be written, it is L
+  pub rows-small : {before after : List ℕ} {at next : ℕ} → Behind before at (short (cap (propsSize ackPlace (ackGiven t u))) ++ propsBytes ackPlace (ackGiven t u)) after next
+      → propsSize ackPlace (ackGiven t u) ≤ most → Behind before at (short (propsSize ackPlace (ackGiven t u)) ++ propsBytes ackPlace (ackGiven t u)) after next
+  rows-small h s = rw (cap-small (propsSize ackPlace (ackGiven t u)) s) at h

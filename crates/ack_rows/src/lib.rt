@@ -6,12 +6,11 @@ use row_tests::Tested;
 use rows::run;
 ghost use mathlib.Core.Path.{_≡_};
 ghost use mathlib.Core.List.{_++_};
-ghost use Prim.Native.Nat.{_≤_};
 ghost use Rattle.grammar.specs.Tables.{ackPlace};
 ghost use Rattle.writing.specs.Lists.{flat};
 ghost use Rattle.writing.specs.Handed.{blockBelongs};
 ghost use Rattle.writing.specs.Spell.{short, propsBytes};
-ghost use Rattle.writing.specs.Size.{most, propsSize, cap};
+ghost use Rattle.writing.specs.Size.{propsSize, cap};
 ghost use Rattle.writing.specs.Order.{judge, fieldTests, propsFields};
 ghost use Rattle.row_tests.specs.Tested.{toldTested};
 ghost use Rattle.row_puts.specs.Behind.{Behind};
@@ -47,7 +46,7 @@ pub fn test_rows(on: bool, text: &[u8], user: &[u8], user_lengths: &[usize]) -> 
     )
 }
 
-// L and the properties; gives the index behind them.
+// L, cut off where it is too large, and the properties; gives the index behind them.
 pub fn put_rows(
     out: &mut [u8],
     at: usize,
@@ -56,7 +55,7 @@ pub fn put_rows(
     user: &[u8],
     user_lengths: &[usize],
 ) -> usize
-    ensures { λ r. ⌜ (propsSize ackPlace (given on (now (text .entry)) (now (user .entry)) (now («user_lengths» .entry))) ≤ most → Behind (now (out .entry)) at (short (propsSize ackPlace (given on (now (text .entry)) (now (user .entry)) (now («user_lengths» .entry)))) ++ propsBytes ackPlace (given on (now (text .entry)) (now (user .entry)) (now («user_lengths» .entry)))) (now (out .exit)) r) ⌝ }
+    ensures { λ r. ⌜ Behind (now (out .entry)) at (short (cap (propsSize ackPlace (given on (now (text .entry)) (now (user .entry)) (now («user_lengths» .entry))))) ++ propsBytes ackPlace (given on (now (text .entry)) (now (user .entry)) (now («user_lengths» .entry)))) (now (out .exit)) r ⌝ }
 {
     let len = rows_length(on, text, user, user_lengths);
     let n = put_length(&mut *out, at, len);

@@ -1,5 +1,6 @@
 -- `ack_write::put_block` is right since the properties are put behind the reason. Assumes nothing.
 use borrow.Author.Needs.{needs}
+use Rattle.ack_rows.proofs.Laws.{rows-small}
 use denote.Ref.{now}
 use Rattle.records.specs.Told.{toldAckKind}
 use Rattle.ack_write.specs.Handed.{handed}
@@ -22,7 +23,7 @@ same-length c = search needs
 returns : tie.Need-returns
 returns c =
     let a = c .before .before .before .before .before .before .before .before .before .before .before .before .before .args in
-    put-behind (toldAckKind (a .m .kind)) (handed (a .m) (now (a .reason-string)) (now (a .user)) (now (a .user-lengths))) (now (a .out)) _ _ (a .at) _ _ (c .before .before .before .before .before .before .before .put-reason .ensures) (c .before .before .before .before .after .ensures) (c .before .before .put-rows .ensures)
+    put-behind (toldAckKind (a .m .kind)) (handed (a .m) (now (a .reason-string)) (now (a .user)) (now (a .user-lengths))) (now (a .out)) _ _ (a .at) _ _ (c .before .before .before .before .before .before .before .put-reason .ensures) (c .before .before .before .before .after .ensures) (rows-small _ _ (c .before .before .put-rows .ensures))
 
 pub put-block-spec : {M : Type 1} → statement M
 put-block-spec =

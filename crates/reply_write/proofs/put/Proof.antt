@@ -1,5 +1,6 @@
 -- `reply_write::put` is right since each field is put behind the one before it. Assumes nothing.
 use borrow.Author.Needs.{needs}
+use Rattle.ack_rows.proofs.Laws.{rows-small}
 use denote.Ref.{now}
 use Rattle.records.specs.Told.{toldReplyKind}
 use Rattle.reply_write.specs.Handed.{handed}
@@ -40,7 +41,7 @@ returns c =
     put-frame (toldReplyKind (a .m .kind)) (handed (a .m) (now (a .reason-string)) (now (a .user)) (now (a .user-lengths)) (now (a .reasons))) (now (a .out)) _ _ _ _ _ _ _ _ _ _ (c .before .before .before .before .before .before .before .before .before .before .before .before .before .before .before .before .before .before .first-byte .ensures) (c .before .before .before .before .before .before .before .before .before .before .before .before .before .before .before .before .before .before .before .rest .ensures)
     (c .before .before .before .before .before .before .before .before .before .before .before .before .before .before .before .before .put-header .ensures) (c .before .before .before .before .before .before .before .before .before .before .before .before .before .after .ensures)
     (c .before .before .before .before .before .before .before .before .before .before .before .put-u16 .ensures) (c .before .before .before .before .before .before .before .before .after2 .ensures)
-    (c .before .before .before .before .before .before .put-rows .ensures)
+    (rows-small _ _ (c .before .before .before .before .before .before .put-rows .ensures))
     (c .before .before .put-bytes .ensures)
 
 pub put-spec : {M : Type 1} → statement M
