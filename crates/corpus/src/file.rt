@@ -56,7 +56,7 @@ fn after_list(f: &[u8], at: usize) -> usize {
 // The refusal's number, and pairs of an index and a number.
 fn after_answer(f: &[u8], at: usize) -> usize {
     let pairs = after(f, at, 1);
-    let n = number(f, pairs, 1) as usize;
+    let n = byte(f, pairs, 0) as usize;
     after(f, after(f, pairs, 1), n * 5)
 }
 

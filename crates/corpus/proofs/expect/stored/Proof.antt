@@ -34,9 +34,6 @@ after-requires-3 c κs = search needs
 number-requires : tie.Need-number-requires Inv-loop μ-loop
 number-requires c κs = search needs
 
-cast-numbers : tie.Need-cast-numbers Inv-loop μ-loop
-cast-numbers c = search needs
-
 mul-numbers : tie.Need-mul-numbers Inv-loop μ-loop
 mul-numbers c = search needs
 
@@ -72,7 +69,6 @@ stored-spec =
     cast-k
     after-requires-3
     number-requires
-    cast-numbers
     mul-numbers
     array-write-numbers
     after-requires-4

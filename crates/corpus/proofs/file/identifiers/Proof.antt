@@ -16,6 +16,9 @@ value-requires c κs = search needs
 number-requires : tie.Need-number-requires Inv-loop μ-loop
 number-requires c κs = search needs
 
+cast-list : tie.Need-cast-list Inv-loop μ-loop
+cast-list c = search needs
+
 array-write-list : tie.Need-array-write-list Inv-loop μ-loop
 array-write-list c = search needs
 
@@ -25,8 +28,8 @@ after-requires c κs = search needs
 loop-holds : tie.Need-loop-holds Inv-loop μ-loop
 loop-holds c = search needs
 
-number-requires-2 : tie.Need-number-requires-2 Inv-loop μ-loop
-number-requires-2 c κs = search needs
+four-requires : tie.Need-four-requires Inv-loop μ-loop
+four-requires c κs = search needs
 
 mul-list : tie.Need-mul-list Inv-loop μ-loop
 mul-list c = search needs
@@ -57,10 +60,11 @@ identifiers-spec =
     μ-loop
     value-requires
     number-requires
+    cast-list
     array-write-list
     after-requires
     loop-holds
-    number-requires-2
+    four-requires
     mul-list
     array-write-list-2
     after-requires-2

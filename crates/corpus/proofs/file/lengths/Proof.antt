@@ -16,9 +16,6 @@ value-requires c κs = search needs
 number-requires : tie.Need-number-requires Inv-loop μ-loop
 number-requires c κs = search needs
 
-cast-list : tie.Need-cast-list Inv-loop μ-loop
-cast-list c = search needs
-
 array-write-list : tie.Need-array-write-list Inv-loop μ-loop
 array-write-list c = search needs
 
@@ -30,9 +27,6 @@ loop-holds c = search needs
 
 number-requires-2 : tie.Need-number-requires-2 Inv-loop μ-loop
 number-requires-2 c κs = search needs
-
-cast-list-2 : tie.Need-cast-list-2 Inv-loop μ-loop
-cast-list-2 c = search needs
 
 mul-list : tie.Need-mul-list Inv-loop μ-loop
 mul-list c = search needs
@@ -63,12 +57,10 @@ lengths-spec =
     μ-loop
     value-requires
     number-requires
-    cast-list
     array-write-list
     after-requires
     loop-holds
     number-requires-2
-    cast-list-2
     mul-list
     array-write-list-2
     after-requires-2

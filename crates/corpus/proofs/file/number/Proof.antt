@@ -1,4 +1,4 @@
--- `corpus::file::number` ends since i grows up to n; each turn keeps 24 bits before it adds 8. Assumes nothing.
+-- `corpus::file::number` ends since i grows up to n; each turn keeps 56 bits before it adds 8. Assumes nothing.
 use Prim.Native.Nat.{_-_}
 use borrow.Author.Needs.{needs}
 use Rattle.corpus.proofs.file.number.Statement.{statement}

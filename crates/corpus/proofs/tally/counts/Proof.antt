@@ -1,4 +1,4 @@
--- `corpus::tally::counts` ends since k grows up to 62. Assumes nothing.
+-- `corpus::tally::counts` ends since k grows up to 65. Assumes nothing.
 use Prim.Native.Nat.{_-_}
 use borrow.Author.Needs.{needs}
 use Rattle.corpus.proofs.tally.counts.Statement.{statement}
@@ -8,7 +8,7 @@ abbrev Inv-loop : tie.InvT-loop
 Inv-loop tally first words group k₀ t6 k = Unit
 
 abbrev μ-loop : tie.MeasureT-loop
-μ-loop tally first words group k₀ t6 k = 62 - k
+μ-loop tally first words group k₀ t6 k = 65 - k
 
 number-requires : tie.Need-number-requires Inv-loop μ-loop
 number-requires c κs = search needs

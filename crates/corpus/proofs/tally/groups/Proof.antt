@@ -1,14 +1,14 @@
--- `corpus::tally::groups` ends since k grows up to 24. Assumes nothing.
+-- `corpus::tally::groups` ends since k grows up to the end. Assumes nothing.
 use Prim.Native.Nat.{_-_}
 use borrow.Author.Needs.{needs}
 use Rattle.corpus.proofs.tally.groups.Statement.{statement}
 use Rattle.corpus.proofs.tally.groups.Tie as tie
 
 abbrev Inv-loop : tie.InvT-loop
-Inv-loop tally names at₀ k₀ at k = Unit
+Inv-loop tally words names first end at₀ k₀ at k = Unit
 
 abbrev μ-loop : tie.MeasureT-loop
-μ-loop tally names at₀ k₀ at k = 24 - k
+μ-loop tally words names first end at₀ k₀ at k = end - k
 
 loop-holds : tie.Need-loop-holds Inv-loop μ-loop
 loop-holds c = search needs
@@ -25,8 +25,8 @@ cast-len c = search needs
 part-requires : tie.Need-part-requires Inv-loop μ-loop
 part-requires c κs = search needs
 
-mul-line : tie.Need-mul-line Inv-loop μ-loop
-mul-line c = search needs
+start-requires : tie.Need-start-requires Inv-loop μ-loop
+start-requires c κs = search needs
 
 line-requires : tie.Need-line-requires Inv-loop μ-loop
 line-requires c κs = search needs
@@ -57,7 +57,7 @@ groups-spec =
     byte-requires
     cast-len
     part-requires
-    mul-line
+    start-requires
     line-requires
     after-requires-2
     add-k
