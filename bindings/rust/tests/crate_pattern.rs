@@ -174,6 +174,33 @@ fn filters_are_read_alone() {
     }
 }
 
+/// A refused write neither puts a byte nor makes the buffer grow; an accepted one grows as it must.
+#[test]
+fn refused_writes_do_not_grow_the_buffer() {
+    let payload = vec![7; 1_000_000];
+    let long = |pkid: u16| Publish { pkid, ..Publish::new("a", QoS::AtLeastOnce, payload.clone(), None) };
+    let ids = |id: usize| Some(PublishProperties { subscription_identifiers: vec![id], ..Default::default() });
+    let subscribe = Subscribe { pkid: 1, ..Subscribe::new_many([], Some(SubscribeProperties { id: None, user_properties: vec![("k".repeat(60_000), "".into())] })) };
+    let rows = [
+        (Packet::Publish(long(0)), None, Error::PacketIdZero),
+        (Packet::Publish(long(1)), Some(1_000_000), Error::OutgoingPacketTooLarge { pkt_size: 1_000_010, max: 1_000_000 }),
+        (Packet::Publish(Publish { properties: ids(0), ..long(1) }), None, Error::SubscriptionIdZero),
+        (Packet::Publish(Publish { properties: ids(268_435_456), ..long(1) }), None, Error::PayloadTooLong),
+        (Packet::Publish(Publish { topic: Bytes::from(vec![0x61; 65_536]), ..long(1) }), None, Error::StringTooLong(65_536)),
+        (Packet::Subscribe(subscribe), None, Error::EmptySubscription),
+    ];
+    for (packet, max, error) in rows {
+        let mut buffer = BytesMut::with_capacity(64);
+        buffer.extend_from_slice(b"before");
+        let held = buffer.capacity();
+        assert_eq!(packet.write(&mut buffer, max), Err(error));
+        assert_eq!((&buffer[..], buffer.capacity()), (&b"before"[..], held));
+    }
+    let mut buffer = BytesMut::with_capacity(64);
+    assert_eq!(long(1).write(&mut buffer), Ok(1_000_010));
+    assert_eq!((buffer.len(), &buffer[1_000_009..]), (1_000_010, &[7][..]));
+}
+
 const THREE: &[u8] = &[0x30, 0x0B, 0x00, 0x01, 0x61, 0x06, 0x0B, 0x01, 0x0B, 0x02, 0x0B, 0x03, 0x07];
 
 #[test]
