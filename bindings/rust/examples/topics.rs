@@ -12,7 +12,7 @@ fn main() {
             Ok(r) if r.kind() == Kind::Publish => println!("{at}: {} {}", String::from_utf8_lossy(r.topic()), r.payload().len()),
             Ok(r) if r.kind() == Kind::Unsubscribe => r.topics().for_each(|t| println!("{at}: leaves {}", String::from_utf8_lossy(t))),
             Ok(_) => {}
-            Err(e) => println!("{at}: {e}"),
+            Err(e) => println!("{at}: refusal {}: {e}", e.number()),
         }
         if taken == 0 {
             break;

@@ -1,8 +1,9 @@
-//! The refusals of 01 and 02, by the crate's names and shapes where the crate has the case.
-use std::fmt;
+//! The refusals of 01 and 02, by the crate's names, shapes and texts where the crate has the case.
+use std::{fmt, io, str::Utf8Error};
 
-/// Why a packet was not read or not written: 01's cases, in its order, then 02's. The number of a case is `number`.
-#[derive(Clone, Copy, Debug, PartialEq, Eq)]
+/// Why a packet was not read or not written: 01's cases, in its order, then 02's. The number of a case is `number`. The last two are the
+/// caller's own: nothing here gives them, and `?` makes them.
+#[derive(Debug)]
 pub enum Error {
     /// 1: so many bytes are lacking at least
     InsufficientBytes(usize),
@@ -50,42 +51,67 @@ pub enum Error {
     DuplicateProperty(u8),
     /// 23
     SubscriptionIdZero,
+    PayloadNotUtf8(Utf8Error),
+    Io(io::Error),
+}
+
+/// What the library is proved never to give: it is not the one that was proved, or it was not called as its header asks.
+#[cold]
+pub(crate) fn fault(what: &str, n: impl fmt::Display) -> ! {
+    panic!("libecchjulmina gave {what} {n}, which it cannot")
+}
+
+/// A number in its own width.
+pub(crate) fn fit<T: TryFrom<u64>>(what: &str, n: u64) -> T {
+    T::try_from(n).unwrap_or_else(|_| fault(what, n))
+}
+
+/// 0 or 1.
+pub(crate) fn flag(n: u64) -> bool {
+    match n {
+        0 => false,
+        1 => true,
+        _ => fault("a flag", n),
+    }
 }
 
 impl Error {
-    /// The case of a number that the library gave, with its values; None for 0, success. No value is cut: a limit that is exceeded is below
+    /// The case of a number that the library gave, with its values; None for 0, success. Every value fits: a limit that is exceeded is below
     /// the frame's length, which like a size that is too large is at most 268,435,460.
     pub(crate) fn of(number: u32, one: u64, two: u64) -> Option<Error> {
+        let byte = || fit::<u8>("a refusal's value", one);
+        let first = || fit::<usize>("a refusal's value", one);
+        let max = || fit::<u32>("a limit", two);
         Some(match number {
             0 => return None,
-            1 => Error::InsufficientBytes(one as usize),
+            1 => Error::InsufficientBytes(first()),
             2 => Error::MalformedRemainingLength,
-            3 => Error::PayloadSizeLimitExceeded { pkt_size: one as usize, max: two as u32 },
-            4 => Error::InvalidPacketType(one as u8),
+            3 => Error::PayloadSizeLimitExceeded { pkt_size: first(), max: max() },
+            4 => Error::InvalidPacketType(byte()),
             5 => Error::PayloadRequired,
-            6 => Error::KindNotCarried(one as u8),
+            6 => Error::KindNotCarried(byte()),
             7 => Error::MalformedPacket,
-            8 => Error::BoundaryCrossed(one as usize),
+            8 => Error::BoundaryCrossed(first()),
             9 => Error::TopicNotUtf8,
-            10 => Error::InvalidPropertyType(one as u8),
-            11 => Error::InvalidQoS(one as u8),
+            10 => Error::InvalidPropertyType(byte()),
+            11 => Error::InvalidQoS(byte()),
             12 => Error::PacketIdZero,
             13 => Error::EmptySubscription,
-            14 => Error::InvalidRetainForwardRule(one as u8),
-            15 => Error::InvalidReason(one as u8),
-            16 => Error::OutgoingPacketTooLarge { pkt_size: one as u32, max: two as u32 },
+            14 => Error::InvalidRetainForwardRule(byte()),
+            15 => Error::InvalidReason(byte()),
+            16 => Error::OutgoingPacketTooLarge { pkt_size: fit("a size", one), max: max() },
             17 => Error::PayloadTooLong,
-            18 => Error::StringTooLong(one as usize),
-            19 => Error::NoRoom(one as usize),
+            18 => Error::StringTooLong(first()),
+            19 => Error::NoRoom(first()),
             20 => Error::ListMismatch,
-            22 => Error::DuplicateProperty(one as u8),
+            21 => Error::NoItem,
+            22 => Error::DuplicateProperty(byte()),
             23 => Error::SubscriptionIdZero,
-            // 21; there is no other, and a number that nobody knows must not pass for success
-            _ => Error::NoItem,
+            _ => fault("refusal", number),
         })
     }
 
-    /// The number in 01's table; 22 and 23 are 02's, P9.
+    /// The number in 01's table; 22 and 23 are 02's, P9; 0 for the caller's own.
     pub fn number(&self) -> u8 {
         match self {
             Error::InsufficientBytes(_) => 1,
@@ -111,14 +137,89 @@ impl Error {
             Error::NoItem => 21,
             Error::DuplicateProperty(_) => 22,
             Error::SubscriptionIdZero => 23,
+            Error::PayloadNotUtf8(_) | Error::Io(_) => 0,
+        }
+    }
+
+    /// The values in that table, 0 where there is none.
+    pub fn values(&self) -> (u64, u64) {
+        match *self {
+            Error::InsufficientBytes(n) | Error::BoundaryCrossed(n) | Error::StringTooLong(n) | Error::NoRoom(n) => (n as u64, 0),
+            Error::PayloadSizeLimitExceeded { pkt_size, max } => (pkt_size as u64, max.into()),
+            Error::OutgoingPacketTooLarge { pkt_size, max } => (pkt_size.into(), max.into()),
+            Error::InvalidPacketType(n) | Error::KindNotCarried(n) | Error::InvalidPropertyType(n) | Error::DuplicateProperty(n) => (n.into(), 0),
+            Error::InvalidQoS(n) | Error::InvalidRetainForwardRule(n) | Error::InvalidReason(n) => (n.into(), 0),
+            _ => (0, 0),
+        }
+    }
+}
+
+/// Errors of `std::io` are equal if they are of one kind.
+impl PartialEq for Error {
+    fn eq(&self, other: &Error) -> bool {
+        match (self, other) {
+            (Error::PayloadNotUtf8(a), Error::PayloadNotUtf8(b)) => a == b,
+            (Error::Io(a), Error::Io(b)) => a.kind() == b.kind(),
+            (a, b) => a.number() != 0 && a.number() == b.number() && a.values() == b.values(),
         }
     }
 }
 
 impl fmt::Display for Error {
     fn fmt(&self, f: &mut fmt::Formatter<'_>) -> fmt::Result {
-        write!(f, "refusal {}: {self:?}", self.number())
+        match self {
+            Error::InsufficientBytes(n) => write!(f, "Insufficient number of bytes to frame packet, {n} more bytes required"),
+            Error::MalformedRemainingLength => write!(f, "Remaining length is malformed"),
+            Error::PayloadSizeLimitExceeded { pkt_size, max } => {
+                write!(f, "Max Payload size of {max:?} has been exceeded by packet of {pkt_size:?} bytes")
+            }
+            Error::InvalidPacketType(n) => write!(f, "Invalid packet type = {n}"),
+            Error::PayloadRequired => write!(f, "Payload is required"),
+            Error::KindNotCarried(n) => write!(f, "Packet type is not carried = {n}"),
+            Error::MalformedPacket => write!(f, "Packet is malformed"),
+            Error::BoundaryCrossed(n) => write!(f, "Promised boundary crossed, contains {n} bytes"),
+            Error::TopicNotUtf8 => write!(f, "Topic not utf-8"),
+            Error::InvalidPropertyType(n) => write!(f, "Invalid property type = {n}"),
+            Error::InvalidQoS(n) => write!(f, "Invalid QoS level = {n}"),
+            Error::PacketIdZero => write!(f, "Packet received has id Zero"),
+            Error::EmptySubscription => write!(f, "Empty Subscription"),
+            Error::InvalidRetainForwardRule(n) => write!(f, "Invalid retain forward rule = {n}"),
+            Error::InvalidReason(n) => write!(f, "Invalid reason = {n}"),
+            Error::OutgoingPacketTooLarge { pkt_size, max } => write!(
+                f,
+                "Cannot send packet of size '{pkt_size:?}'. It's greater than the broker's maximum packet size of: '{max:?}'"
+            ),
+            Error::PayloadTooLong => write!(f, "Payload is too long"),
+            Error::StringTooLong(n) => write!(f, "String is too long, contains {n} bytes"),
+            Error::NoRoom(n) => write!(f, "No room for {n} bytes"),
+            Error::ListMismatch => write!(f, "Lists do not match"),
+            Error::NoItem => write!(f, "No such item"),
+            Error::DuplicateProperty(n) => write!(f, "Duplicate property = {n}"),
+            Error::SubscriptionIdZero => write!(f, "Subscription had id Zero"),
+            Error::PayloadNotUtf8(e) => write!(f, "Payload is required = {e}"),
+            Error::Io(e) => write!(f, "IO: {e}"),
+        }
     }
 }
 
-impl std::error::Error for Error {}
+impl std::error::Error for Error {
+    fn source(&self) -> Option<&(dyn std::error::Error + 'static)> {
+        match self {
+            Error::PayloadNotUtf8(e) => Some(e),
+            Error::Io(e) => Some(e),
+            _ => None,
+        }
+    }
+}
+
+impl From<Utf8Error> for Error {
+    fn from(e: Utf8Error) -> Error {
+        Error::PayloadNotUtf8(e)
+    }
+}
+
+impl From<io::Error> for Error {
+    fn from(e: io::Error) -> Error {
+        Error::Io(e)
+    }
+}

@@ -1,20 +1,39 @@
 //! MQTT 5 packets read and written by proved code (crates/capi and crates/capi_put of this repository), in two layers.
 //!
-//! The first has the types and signatures of rumqttc's `v5::mqttbytes`: `Packet::read(&mut BytesMut, Option<u32>)`, `write`, `size`, and
-//! the records with `Bytes` that share the stream's memory. Where the answers differ from the crate's is listed in docs/DIFFERENCES.md.
+//! The first, `mqttbytes`, has the paths, types and signatures of rumqttc's `v5::mqttbytes`: `Packet::read(&mut BytesMut, Option<u32>)`,
+//! `write`, `size`, and the records with `Bytes` that share the stream's memory. Where the answers differ from the crate's is listed in
+//! docs/DIFFERENCES.md, and what is not there in bindings/README.md.
 //! `places` is the thinner one: the records as they are read, with no copy at all.
 //!
 //! What is proved ends at the C interface; this crate is tested.
 mod error;
+mod frame;
 pub mod places;
 #[allow(clippy::too_many_arguments)]
 pub mod sys;
 mod write;
 
 use bytes::{Buf, Bytes, BytesMut};
+use error::fault;
 pub use error::Error;
+pub use frame::{check, FixedHeader, PacketType};
 use places::{Kind, Record};
 use sys::*;
+
+/// The crate's paths: `ecchjulmina::mqttbytes` in the place of `rumqttc::v5::mqttbytes`.
+pub mod mqttbytes {
+    pub use crate::{qos, Error, QoS};
+
+    pub mod v5 {
+        pub use crate::{check, FixedHeader, Packet, PacketType};
+        pub use crate::{Filter, RetainForwardRule, Subscribe, SubscribeProperties};
+        pub use crate::{PingReq, PingResp, Publish, PublishProperties};
+        pub use crate::{PubAck, PubAckProperties, PubAckReason, PubRec, PubRecProperties, PubRecReason};
+        pub use crate::{PubComp, PubCompProperties, PubCompReason, PubRel, PubRelProperties, PubRelReason};
+        pub use crate::{SubAck, SubAckProperties, SubscribeReasonCode};
+        pub use crate::{UnsubAck, UnsubAckProperties, UnsubAckReason, Unsubscribe, UnsubscribeProperties};
+    }
+}
 
 #[repr(u8)]
 #[derive(Debug, Clone, Copy, PartialEq, Eq, PartialOrd, Default)]
@@ -32,7 +51,8 @@ impl QoS {
         match n {
             0 => QoS::AtMostOnce,
             1 => QoS::AtLeastOnce,
-            _ => QoS::ExactlyOnce,
+            2 => QoS::ExactlyOnce,
+            _ => fault("QoS", n),
         }
     }
 }
@@ -55,7 +75,8 @@ impl RetainForwardRule {
         match n {
             0 => RetainForwardRule::OnEverySubscribe,
             1 => RetainForwardRule::OnNewSubscribe,
-            _ => RetainForwardRule::Never,
+            2 => RetainForwardRule::Never,
+            _ => fault("forward rule", n),
         }
     }
 }
@@ -258,6 +279,23 @@ impl Filter {
     pub fn new<T: Into<String>>(topic: T, qos: QoS) -> Self {
         Self { path: topic.into(), qos, ..Default::default() }
     }
+
+    /// The filters that the bytes are, which are taken; refused bytes are left as they were.
+    pub fn read(bytes: &mut Bytes) -> Result<Vec<Filter>, Error> {
+        let filters = places::filters(bytes)?.map(Filter::of).collect::<Result<_, Error>>()?;
+        bytes.clear();
+        Ok(filters)
+    }
+
+    fn of(f: places::Filter) -> Result<Filter, Error> {
+        Ok(Filter {
+            path: text(f.path)?,
+            qos: f.qos,
+            nolocal: f.nolocal,
+            preserve_retain: f.preserve_retain,
+            retain_forward_rule: f.retain_forward_rule,
+        })
+    }
 }
 
 #[derive(Debug, Clone, PartialEq, Eq, Default)]
@@ -435,16 +473,7 @@ fn subscribe(r: &Record) -> Result<Packet, Error> {
             user_properties: pairs(r)?,
         });
     }
-    let filters = r.filters().map(|f| {
-        Ok(Filter {
-            path: text(f.path)?,
-            qos: f.qos,
-            nolocal: f.nolocal,
-            preserve_retain: f.preserve_retain,
-            retain_forward_rule: f.retain_forward_rule,
-        })
-    });
-    Ok(Packet::Subscribe(Subscribe { pkid: r.pkid(), filters: filters.collect::<Result<_, Error>>()?, properties }))
+    Ok(Packet::Subscribe(Subscribe { pkid: r.pkid(), filters: r.filters().map(Filter::of).collect::<Result<_, Error>>()?, properties }))
 }
 
 /// The reasons of a list, by the kind's table.
@@ -484,7 +513,11 @@ impl Packet {
                 return Err(e);
             }
         };
-        let frame = stream.split_to(taken).freeze();
+        Packet::of(stream.split_to(taken).freeze(), numbers)
+    }
+
+    /// The packet of a frame whose numbers were read.
+    fn of(frame: Bytes, numbers: [u64; ECCH_RECORD_LEN]) -> Result<Packet, Error> {
         let record = Record::again(&frame, numbers);
         match record.kind() {
             Kind::Publish => publish(&record, &frame),
@@ -501,3 +534,20 @@ impl Packet {
         }
     }
 }
+
+/// The crate's `read` of each kind that has one: over a whole frame, with the header that `check` gave of it. Another kind, or another
+/// frame's header, is `InvalidPacketType`.
+macro_rules! read {
+    ($($kind:ident),*) => {
+        $(impl $kind {
+            pub fn read(fixed_header: FixedHeader, bytes: Bytes) -> Result<$kind, Error> {
+                match fixed_header.packet(bytes)? {
+                    Packet::$kind(m) => Ok(m),
+                    _ => Err(Error::InvalidPacketType(fixed_header.kind())),
+                }
+            }
+        })*
+    };
+}
+
+read!(Publish, PubAck, PubRec, PubRel, PubComp, Subscribe, SubAck, Unsubscribe, UnsubAck);

@@ -1,8 +1,10 @@
 //! The records as they are read: no copy, no allocation; strings are parts of the caller's stream, lists are walked in place.
+use crate::error::{fault, fit, flag};
 use crate::{sys::*, Error, QoS, RetainForwardRule};
 
-/// What the stream begins with, or why it is refused; and how many bytes of the stream that takes. `limit` counts the whole frame. No slice below can panic: the number
-/// taken and every place lie within the stream, which is proved of `ecch_read`.
+/// What the stream begins with, or why it is refused; and how many bytes of the stream that takes. `limit` counts the whole frame. Nothing
+/// below can panic: the number taken and every place lie within the stream, and every number has one of its meanings, which is proved of
+/// `ecch_read`. A library that gives anything else ends in a panic that says so.
 pub fn read(stream: &[u8], limit: Option<usize>) -> (Result<Record<'_>, Error>, usize) {
     let mut numbers = [0u64; ECCH_RECORD_LEN];
     // Sound: both pointers stand for whole Rust slices, which do not overlap since one is lent for writing.
@@ -71,7 +73,7 @@ impl<'a> Record<'a> {
 
     /// The same if the number before says that it is present.
     pub(crate) fn place_if(&self, i: usize) -> Option<std::ops::Range<usize>> {
-        (self.at(i) != 0).then(|| self.place(i + 1))
+        flag(self.at(i)).then(|| self.place(i + 1))
     }
 
     fn part(&self, i: usize) -> &'a [u8] {
@@ -82,8 +84,8 @@ impl<'a> Record<'a> {
         self.place_if(i).map(|p| &self.frame[p])
     }
 
-    fn number_if(&self, i: usize) -> Option<u64> {
-        (self.at(i) != 0).then(|| self.at(i + 1))
+    fn number_if<T: TryFrom<u64>>(&self, i: usize) -> Option<T> {
+        flag(self.at(i)).then(|| fit("a property's number", self.at(i + 1)))
     }
 
     pub fn kind(&self) -> Kind {
@@ -98,16 +100,17 @@ impl<'a> Record<'a> {
             ECCH_UNSUBSCRIBE => Kind::Unsubscribe,
             ECCH_UNSUBACK => Kind::UnsubAck,
             ECCH_PINGREQ => Kind::PingReq,
-            _ => Kind::PingResp,
+            ECCH_PINGRESP => Kind::PingResp,
+            n => fault("kind", n),
         }
     }
 
     pub fn pkid(&self) -> u16 {
-        self.at(ECCH_PKID) as u16
+        fit("packet identifier", self.at(ECCH_PKID))
     }
 
     pub fn dup(&self) -> bool {
-        self.at(ECCH_DUP) != 0
+        flag(self.at(ECCH_DUP))
     }
 
     pub fn qos(&self) -> QoS {
@@ -115,12 +118,12 @@ impl<'a> Record<'a> {
     }
 
     pub fn retain(&self) -> bool {
-        self.at(ECCH_RETAIN) != 0
+        flag(self.at(ECCH_RETAIN))
     }
 
     /// The reason's byte of a PubAck, PubRec, PubRel or PubComp (`PubAckReason::from_code` and its like).
     pub fn reason(&self) -> u8 {
-        self.at(ECCH_REASON) as u8
+        fit("reason", self.at(ECCH_REASON))
     }
 
     /// The reasons of a SubAck or UnsubAck, a byte each (`SubscribeReasonCode::from_code`, `UnsubAckReason::from_code`).
@@ -138,19 +141,19 @@ impl<'a> Record<'a> {
 
     /// Whether there is a property set.
     pub fn has_properties(&self) -> bool {
-        self.at(ECCH_BLOCK) != 0
+        flag(self.at(ECCH_BLOCK))
     }
 
     pub fn payload_format_indicator(&self) -> Option<u8> {
-        self.number_if(ECCH_FORMAT).map(|n| n as u8)
+        self.number_if(ECCH_FORMAT)
     }
 
     pub fn message_expiry_interval(&self) -> Option<u32> {
-        self.number_if(ECCH_EXPIRY).map(|n| n as u32)
+        self.number_if(ECCH_EXPIRY)
     }
 
     pub fn topic_alias(&self) -> Option<u16> {
-        self.number_if(ECCH_ALIAS).map(|n| n as u16)
+        self.number_if(ECCH_ALIAS)
     }
 
     pub fn response_topic(&self) -> Option<&'a [u8]> {
@@ -171,13 +174,13 @@ impl<'a> Record<'a> {
 
     /// Of a Subscribe; those of a Publish are among its properties.
     pub fn subscription_identifier(&self) -> Option<u32> {
-        self.number_if(ECCH_SUBSCRIPTION).map(|n| n as u32)
+        self.number_if(ECCH_SUBSCRIPTION)
     }
 
     /// The properties of the block, one after the other.
     pub fn properties(&self) -> Properties<'a> {
         let block = self.place(ECCH_BLOCK_START);
-        Properties { block: &self.frame[..block.end], kind: self.at(ECCH_KIND) as u8, at: block.start }
+        Properties { block: &self.frame[..block.end], kind: fit("kind", self.at(ECCH_KIND)), at: block.start }
     }
 
     /// The user properties, in order.
@@ -210,6 +213,17 @@ impl<'a> Record<'a> {
     }
 }
 
+/// Where the next item begins: `read` takes a list only if its items fill it, so that none is refused, and each leads on.
+fn next(what: &str, refused: u32, at: usize, next: u64, end: usize) -> usize {
+    if refused != 0 {
+        fault(&format!("for {what} refusal"), refused);
+    }
+    match usize::try_from(next) {
+        Ok(n) if at < n && n <= end => n,
+        _ => fault(&format!("behind {what} the index"), next),
+    }
+}
+
 /// Walks a block once, from its first property to its last.
 pub struct Properties<'a> {
     block: &'a [u8],
@@ -227,17 +241,12 @@ impl<'a> Iterator for Properties<'a> {
         let mut n = [0u64; ECCH_PROPERTY_NUMBERS];
         // Sound: both pointers stand for whole Rust slices, which do not overlap since one is lent for writing.
         let refused = unsafe { ecch_property(self.block.as_ptr(), self.block.len(), self.kind, self.at, n.as_mut_ptr(), n.len()) };
-        // Never so: `read` takes a block only if its properties fill it.
-        if refused != 0 {
-            self.at = self.block.len();
-            return None;
-        }
-        self.at = n[ECCH_PROPERTY_NEXT] as usize;
+        self.at = next("a property of a block that was read", refused, self.at, n[ECCH_PROPERTY_NEXT], self.block.len());
         let part = |i: usize| &self.block[n[i] as usize..n[i] as usize + n[i + 1] as usize];
         Some(match n[ECCH_PROPERTY_IDENTIFIER] {
             38 => Property::User(part(ECCH_PROPERTY_START), part(ECCH_PROPERTY_SECOND_START)),
-            11 => Property::SubscriptionIdentifier(n[ECCH_PROPERTY_NUMBER] as u32),
-            k => Property::Single(k as u8),
+            11 => Property::SubscriptionIdentifier(fit("subscription identifier", n[ECCH_PROPERTY_NUMBER])),
+            k => Property::Single(fit("property", k)),
         })
     }
 }
@@ -258,21 +267,31 @@ impl<'a> Iterator for Filters<'a> {
         let mut n = [0u64; ECCH_NEXT_FILTER_NUMBERS];
         // Sound: both pointers stand for whole Rust slices, which do not overlap since one is lent for writing.
         let refused = unsafe { ecch_next_filter(self.run.as_ptr(), self.run.len(), self.at, n.as_mut_ptr(), n.len()) };
-        // Never so: `read` takes a run only if its filters fill it.
-        if refused != 0 {
-            self.at = self.run.len();
-            return None;
-        }
-        self.at = n[ECCH_NEXT_FILTER_NEXT] as usize;
+        self.at = next("a filter of a run that was read", refused, self.at, n[ECCH_NEXT_FILTER_NEXT], self.run.len());
         let start = n[ECCH_NEXT_FILTER_START] as usize;
         Some(Filter {
             path: &self.run[start..start + n[ECCH_NEXT_FILTER_LEN] as usize],
             qos: QoS::of(n[ECCH_NEXT_FILTER_QOS]),
-            nolocal: n[ECCH_NEXT_FILTER_NO_LOCAL] != 0,
-            preserve_retain: n[ECCH_NEXT_FILTER_PRESERVE_RETAIN] != 0,
+            nolocal: flag(n[ECCH_NEXT_FILTER_NO_LOCAL]),
+            preserve_retain: flag(n[ECCH_NEXT_FILTER_PRESERVE_RETAIN]),
             retain_forward_rule: RetainForwardRule::of(n[ECCH_NEXT_FILTER_RULE]),
         })
     }
+}
+
+/// The filters that the bytes are, or why one is refused: a walk that comes to the end meets none that is.
+pub fn filters(run: &[u8]) -> Result<Filters<'_>, Error> {
+    let mut at = 0;
+    while at < run.len() {
+        let mut n = [0u64; ECCH_NEXT_FILTER_NUMBERS];
+        // Sound: both pointers stand for whole Rust slices, which do not overlap since one is lent for writing.
+        let refused = unsafe { ecch_next_filter(run.as_ptr(), run.len(), at, n.as_mut_ptr(), n.len()) };
+        if let Some(e) = Error::of(refused, n[ECCH_NEXT_FILTER_NEXT], 0) {
+            return Err(e);
+        }
+        at = next("a filter", refused, at, n[ECCH_NEXT_FILTER_NEXT], run.len());
+    }
+    Ok(Filters { run, at: 0 })
 }
 
 /// Walks the topics once, from the first to the last.
@@ -291,12 +310,7 @@ impl<'a> Iterator for Topics<'a> {
         let mut n = [0u64; ECCH_NEXT_TOPIC_NUMBERS];
         // Sound: both pointers stand for whole Rust slices, which do not overlap since one is lent for writing.
         let refused = unsafe { ecch_next_topic(self.run.as_ptr(), self.run.len(), self.at, n.as_mut_ptr(), n.len()) };
-        // Never so: `read` takes a run only if its topics fill it.
-        if refused != 0 {
-            self.at = self.run.len();
-            return None;
-        }
-        self.at = n[ECCH_NEXT_TOPIC_NEXT] as usize;
+        self.at = next("a topic of a run that was read", refused, self.at, n[ECCH_NEXT_TOPIC_NEXT], self.run.len());
         let start = n[ECCH_NEXT_TOPIC_START] as usize;
         Some(&self.run[start..start + n[ECCH_NEXT_TOPIC_LEN] as usize])
     }
@@ -310,5 +324,95 @@ impl<'a> Record<'a> {
     /// The same record over the same bytes, which have moved to a frame of their own.
     pub(crate) fn again(frame: &'a [u8], numbers: [u64; ECCH_RECORD_LEN]) -> Record<'a> {
         Record { frame, numbers }
+    }
+}
+
+#[cfg(test)]
+mod tests {
+    use super::*;
+
+    /// A record that no library gives: the numbers of a frame, one of them another.
+    fn with(frame: &[u8], at: usize, n: u64) -> Record<'_> {
+        let mut record = read(frame, None).0.unwrap();
+        record.numbers[at] = n;
+        record
+    }
+
+    const PUBLISH: &[u8] = &[0x30, 0x06, 0, 1, 0x61, 2, 1, 0];
+    const SUBSCRIBE: &[u8] = &[0x82, 0x07, 0, 1, 0, 0, 1, 0x61, 0];
+    const UNSUBSCRIBE: &[u8] = &[0xA2, 0x06, 0, 1, 0, 0, 1, 0x61];
+
+    #[test]
+    #[should_panic(expected = "gave QoS 3, which it cannot")]
+    fn unknown_qos() {
+        with(PUBLISH, ECCH_QOS, 3).qos();
+    }
+
+    #[test]
+    #[should_panic(expected = "gave kind 14, which it cannot")]
+    fn unknown_kind() {
+        with(PUBLISH, ECCH_KIND, 14).kind();
+    }
+
+    #[test]
+    #[should_panic(expected = "gave forward rule 3, which it cannot")]
+    fn unknown_rule() {
+        RetainForwardRule::of(3);
+    }
+
+    #[test]
+    #[should_panic(expected = "gave refusal 24, which it cannot")]
+    fn unknown_refusal() {
+        Error::of(24, 0, 0);
+    }
+
+    #[test]
+    #[should_panic(expected = "gave a refusal's value 256, which it cannot")]
+    fn value_too_wide() {
+        Error::of(4, 256, 0);
+    }
+
+    #[test]
+    #[should_panic(expected = "gave a flag 2, which it cannot")]
+    fn flag_of_two() {
+        with(PUBLISH, ECCH_DUP, 2).dup();
+    }
+
+    #[test]
+    #[should_panic(expected = "gave packet identifier 65536, which it cannot")]
+    fn identifier_too_wide() {
+        with(PUBLISH, ECCH_PKID, 65_536).pkid();
+    }
+
+    #[test]
+    #[should_panic(expected = "gave for a property of a block that was read refusal 7, which it cannot")]
+    fn refused_property() {
+        with(PUBLISH, ECCH_BLOCK_LEN, 1).properties().count();
+    }
+
+    #[test]
+    #[should_panic(expected = "gave for a filter of a run that was read refusal 7, which it cannot")]
+    fn refused_filter() {
+        with(SUBSCRIBE, ECCH_FILTERS_LEN, 3).filters().count();
+    }
+
+    #[test]
+    #[should_panic(expected = "gave for a topic of a run that was read refusal 8, which it cannot")]
+    fn refused_topic() {
+        with(UNSUBSCRIBE, ECCH_TOPICS_LEN, 2).topics().count();
+    }
+
+    #[test]
+    fn unknown_reason() {
+        let frame = [0x40, 0x03, 0, 1, 0x80];
+        let of = |n| crate::Packet::of(bytes::Bytes::copy_from_slice(&frame), with(&frame, ECCH_REASON, n).numbers);
+        assert!(matches!(of(0x80), Ok(crate::Packet::PubAck(m)) if m.reason == crate::PubAckReason::UnspecifiedError));
+        assert_eq!(of(0x81), Err(Error::InvalidReason(0x81)));
+    }
+
+    #[test]
+    #[should_panic(expected = "gave behind a topic the index 4, which it cannot")]
+    fn walk_that_stays() {
+        next("a topic", 0, 4, 4, 9);
     }
 }

@@ -1,4 +1,5 @@
 //! Size and write, by the crate's signatures: what is written is appended to the buffer, and a refused write leaves it as it stood.
+use crate::error::{fault, fit};
 use crate::{sys::*, Error, Packet, PingReq, PingResp, PubAck, PubComp, PubRec, PubRel, Publish, SubAck, Subscribe, UnsubAck, Unsubscribe};
 use bytes::BytesMut;
 
@@ -40,7 +41,7 @@ struct Limit {
 fn answered(number: u32, answer: [u64; ECCH_ANSWER_LEN]) -> Result<usize, Error> {
     match Error::of(number, answer[ECCH_VALUE_1], answer[ECCH_VALUE_2]) {
         Some(e) => Err(e),
-        None => Ok(answer[ECCH_SIZE] as usize),
+        None => Ok(fit("size", answer[ECCH_SIZE])),
     }
 }
 
@@ -48,23 +49,34 @@ fn answered(number: u32, answer: [u64; ECCH_ANSWER_LEN]) -> Result<usize, Error>
 trait Written {
     fn size_of(&self) -> Result<usize, Error>;
     fn write_to(&self, limit: Limit, out: &mut [u8]) -> Result<usize, Error>;
+
+    /// The size of what is written, if nothing but room is lacking: 19 is the last of 01's order, and needs no output to be asked for.
+    fn needed(&self, limit: Limit) -> Result<usize, Error> {
+        match self.write_to(limit, &mut []) {
+            Err(Error::NoRoom(size)) => Ok(size),
+            Err(e) => Err(e),
+            Ok(n) => fault("for a write into no room the size", n),
+        }
+    }
 }
 
-/// Appends: room is made for the size, and taken back if the write is refused. Where the size is refused the write says why, in 01's order.
+/// Appends. The buffer grows only for a write that is accepted; where there is room already, it is taken back if the write is refused.
 fn append<W: Written>(record: &W, buffer: &mut BytesMut, max_size: Option<u32>) -> Result<usize, Error> {
     let limit = Limit { limited: max_size.is_some() as u8, limit: max_size.unwrap_or(0) as usize };
     let start = buffer.len();
-    match record.size_of() {
-        Err(_) => record.write_to(limit, &mut []),
-        Ok(size) if max_size.is_some_and(|m| (m as usize) < size) => record.write_to(limit, &mut []),
-        Ok(size) => {
-            buffer.resize(start + size, 0);
-            let answer = record.write_to(limit, &mut buffer[start..]);
-            if answer.is_err() {
-                buffer.truncate(start);
-            }
-            answer
+    let room = buffer.capacity() - start;
+    let size = match record.size_of() {
+        Ok(size) if size <= room => size,
+        _ => record.needed(limit)?,
+    };
+    buffer.resize(start + size, 0);
+    match record.write_to(limit, &mut buffer[start..]) {
+        Ok(n) if n != size => fault("for a write another size than before,", n),
+        Err(e) => {
+            buffer.truncate(start);
+            Err(e)
         }
+        written => written,
     }
 }
 

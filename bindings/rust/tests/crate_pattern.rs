@@ -57,6 +57,148 @@ fn signatures_are_the_crates() {
     let _: fn(String, Option<UnsubscribeProperties>) -> Unsubscribe = Unsubscribe::new;
     let _: fn(String, QoS) -> Filter = Filter::new;
     let _: fn(u8) -> Option<QoS> = qos;
+    let _: fn(std::slice::Iter<u8>, Option<u32>) -> Result<FixedHeader, Error> = check;
+    let _: fn(u8, usize, usize) -> FixedHeader = FixedHeader::new;
+    let _: fn(&FixedHeader) -> Result<PacketType, Error> = FixedHeader::packet_type;
+    let _: fn(&FixedHeader) -> usize = FixedHeader::frame_length;
+    let _: fn(FixedHeader, Bytes) -> Result<Publish, Error> = Publish::read;
+    let _: fn(FixedHeader, Bytes) -> Result<PubAck, Error> = PubAck::read;
+    let _: fn(FixedHeader, Bytes) -> Result<PubRec, Error> = PubRec::read;
+    let _: fn(FixedHeader, Bytes) -> Result<PubRel, Error> = PubRel::read;
+    let _: fn(FixedHeader, Bytes) -> Result<PubComp, Error> = PubComp::read;
+    let _: fn(FixedHeader, Bytes) -> Result<Subscribe, Error> = Subscribe::read;
+    let _: fn(FixedHeader, Bytes) -> Result<SubAck, Error> = SubAck::read;
+    let _: fn(FixedHeader, Bytes) -> Result<Unsubscribe, Error> = Unsubscribe::read;
+    let _: fn(FixedHeader, Bytes) -> Result<UnsubAck, Error> = UnsubAck::read;
+    let _: fn(&mut Bytes) -> Result<Vec<Filter>, Error> = Filter::read;
+}
+
+/// The crate's paths, under `mqttbytes`.
+#[test]
+fn paths_are_the_crates() {
+    use ecchjulmina::mqttbytes::{self, v5};
+    let read: fn(&mut BytesMut, Option<u32>) -> Result<v5::Packet, mqttbytes::Error> = v5::Packet::read;
+    let mut stream = BytesMut::from(THREE);
+    let Ok(v5::Packet::Publish(v5::Publish { qos: mqttbytes::QoS::AtMostOnce, .. })) = read(&mut stream, None) else { panic!() };
+    assert_eq!(mqttbytes::qos(1), Some(mqttbytes::QoS::AtLeastOnce));
+    assert_eq!(v5::check([0xE0, 0x00].iter(), None).unwrap().packet_type().unwrap(), v5::PacketType::Disconnect);
+}
+
+/// The crate's words where it has the case.
+#[test]
+fn texts_are_the_crates() {
+    let rows = [
+        (Error::InvalidReason(7), "Invalid reason = 7"),
+        (Error::InvalidPacketType(15), "Invalid packet type = 15"),
+        (Error::InvalidRetainForwardRule(3), "Invalid retain forward rule = 3"),
+        (Error::InvalidQoS(3), "Invalid QoS level = 3"),
+        (Error::PacketIdZero, "Packet received has id Zero"),
+        (Error::EmptySubscription, "Empty Subscription"),
+        (Error::SubscriptionIdZero, "Subscription had id Zero"),
+        (Error::PayloadTooLong, "Payload is too long"),
+        (
+            Error::PayloadSizeLimitExceeded { pkt_size: 10, max: 9 },
+            "Max Payload size of 9 has been exceeded by packet of 10 bytes",
+        ),
+        (Error::PayloadRequired, "Payload is required"),
+        (Error::TopicNotUtf8, "Topic not utf-8"),
+        (Error::BoundaryCrossed(5), "Promised boundary crossed, contains 5 bytes"),
+        (Error::MalformedPacket, "Packet is malformed"),
+        (Error::MalformedRemainingLength, "Remaining length is malformed"),
+        (Error::InvalidPropertyType(0), "Invalid property type = 0"),
+        (Error::InsufficientBytes(2), "Insufficient number of bytes to frame packet, 2 more bytes required"),
+        (
+            Error::OutgoingPacketTooLarge { pkt_size: 10, max: 9 },
+            "Cannot send packet of size '10'. It's greater than the broker's maximum packet size of: '9'",
+        ),
+    ];
+    for (error, text) in rows {
+        assert_eq!(error.to_string(), text);
+    }
+    let io = std::io::Error::new(std::io::ErrorKind::Other, "closed");
+    assert_eq!(Error::from(io).to_string(), "IO: closed");
+    let text = vec![0xFF];
+    let utf8 = std::str::from_utf8(&text).unwrap_err();
+    assert_eq!(Error::from(utf8).to_string(), format!("Payload is required = {utf8}"));
+}
+
+/// `check` says what `Packet::read` says before there is a frame, and else gives the header, whatever stands in the frame.
+#[test]
+fn headers_are_checked() {
+    let frame = |n: usize| {
+        let mut out = BytesMut::new();
+        Publish::new("a", QoS::AtMostOnce, vec![0; n], None).write(&mut out).unwrap();
+        out.freeze()
+    };
+    for (payload, len_len) in [(0, 1), (123, 1), (124, 2), (16_379, 2), (16_380, 3), (2_097_147, 3), (2_097_148, 4)] {
+        let bytes = frame(payload);
+        let header = check(bytes.iter(), None).unwrap();
+        assert_eq!(header, FixedHeader::new(0x30, len_len, payload + 4));
+        assert_eq!((header.frame_length(), header.packet_type().unwrap()), (bytes.len(), PacketType::Publish));
+        let Packet::Publish(wanted) = Packet::read(&mut BytesMut::from(&bytes[..]), None).unwrap() else { panic!() };
+        assert_eq!(Publish::read(header, bytes.clone()), Ok(wanted));
+        assert_eq!(PubAck::read(header, bytes.clone()), Err(Error::InvalidPacketType(3)));
+        assert_eq!(check(bytes[..bytes.len() - 1].iter(), None), Err(Error::InsufficientBytes(1)));
+        let max = bytes.len() as u32 - 1;
+        assert_eq!(check(bytes.iter(), Some(max)), Err(Error::PayloadSizeLimitExceeded { pkt_size: bytes.len(), max }));
+        assert_eq!(Publish::read(FixedHeader::new(0x31, len_len, payload + 4), bytes), Err(Error::InvalidPacketType(3)));
+    }
+    assert_eq!(check([0x30, 0x80, 0x00].iter(), None), Err(Error::MalformedRemainingLength));
+    assert_eq!(check([0xF0, 0x01, 9].iter(), None).unwrap().packet_type(), Err(Error::InvalidPacketType(15)));
+    assert_eq!(check([0x32, 0x05, 0, 0, 0, 0, 0].iter(), None).unwrap(), FixedHeader::new(0x32, 1, 5));
+}
+
+#[test]
+fn filters_are_read_alone() {
+    let mut bytes = Bytes::from_static(&[0, 1, 0x61, 0x2E, 0, 0, 1]);
+    let read = Filter::read(&mut bytes).unwrap();
+    let wanted = Filter {
+        nolocal: true,
+        preserve_retain: true,
+        retain_forward_rule: RetainForwardRule::Never,
+        ..Filter::new("a", QoS::ExactlyOnce)
+    };
+    assert_eq!(read, [wanted, Filter::new("", QoS::AtLeastOnce)]);
+    assert!(bytes.is_empty());
+    assert_eq!(Filter::read(&mut bytes), Ok(vec![]));
+    let rows: [(&'static [u8], Error); 4] = [
+        (&[0, 0, 0, 0, 2, 0x61], Error::BoundaryCrossed(2)),
+        (&[0, 1, 0x61], Error::MalformedPacket),
+        (&[0, 0, 3], Error::InvalidQoS(3)),
+        (&[0, 1, 0xFF, 0], Error::TopicNotUtf8),
+    ];
+    for (run, error) in rows {
+        let mut bytes = Bytes::from_static(run);
+        assert_eq!(Filter::read(&mut bytes), Err(error));
+        assert_eq!(bytes, run);
+    }
+}
+
+/// A refused write neither puts a byte nor makes the buffer grow; an accepted one grows as it must.
+#[test]
+fn refused_writes_do_not_grow_the_buffer() {
+    let payload = vec![7; 1_000_000];
+    let long = |pkid: u16| Publish { pkid, ..Publish::new("a", QoS::AtLeastOnce, payload.clone(), None) };
+    let ids = |id: usize| Some(PublishProperties { subscription_identifiers: vec![id], ..Default::default() });
+    let subscribe = Subscribe { pkid: 1, ..Subscribe::new_many([], Some(SubscribeProperties { id: None, user_properties: vec![("k".repeat(60_000), "".into())] })) };
+    let rows = [
+        (Packet::Publish(long(0)), None, Error::PacketIdZero),
+        (Packet::Publish(long(1)), Some(1_000_000), Error::OutgoingPacketTooLarge { pkt_size: 1_000_010, max: 1_000_000 }),
+        (Packet::Publish(Publish { properties: ids(0), ..long(1) }), None, Error::SubscriptionIdZero),
+        (Packet::Publish(Publish { properties: ids(268_435_456), ..long(1) }), None, Error::PayloadTooLong),
+        (Packet::Publish(Publish { topic: Bytes::from(vec![0x61; 65_536]), ..long(1) }), None, Error::StringTooLong(65_536)),
+        (Packet::Subscribe(subscribe), None, Error::EmptySubscription),
+    ];
+    for (packet, max, error) in rows {
+        let mut buffer = BytesMut::with_capacity(64);
+        buffer.extend_from_slice(b"before");
+        let held = buffer.capacity();
+        assert_eq!(packet.write(&mut buffer, max), Err(error));
+        assert_eq!((&buffer[..], buffer.capacity()), (&b"before"[..], held));
+    }
+    let mut buffer = BytesMut::with_capacity(64);
+    assert_eq!(long(1).write(&mut buffer), Ok(1_000_010));
+    assert_eq!((buffer.len(), &buffer[1_000_009..]), (1_000_010, &[7][..]));
 }
 
 const THREE: &[u8] = &[0x30, 0x0B, 0x00, 0x01, 0x61, 0x06, 0x0B, 0x01, 0x0B, 0x02, 0x0B, 0x03, 0x07];
@@ -135,7 +277,7 @@ fn refusals_take_what_01_and_02_say() {
     ];
     for (bytes, max, error, taken) in rows {
         let mut stream = BytesMut::from(*bytes);
-        assert_eq!(Packet::read(&mut stream, *max), Err(*error));
+        assert_eq!(Packet::read(&mut stream, *max).as_ref(), Err(error));
         assert_eq!(bytes.len() - stream.len(), *taken, "{error}");
     }
 }

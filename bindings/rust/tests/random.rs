@@ -290,14 +290,7 @@ fn wanted(rec: Rec) -> Packet {
 
 /// The number and the values of a refusal.
 fn refusal(e: Error) -> No {
-    let (a, b) = match e {
-        Error::InsufficientBytes(n) | Error::BoundaryCrossed(n) | Error::StringTooLong(n) | Error::NoRoom(n) => (n as u64, 0),
-        Error::PayloadSizeLimitExceeded { pkt_size, max } => (pkt_size as u64, max as u64),
-        Error::OutgoingPacketTooLarge { pkt_size, max } => (pkt_size as u64, max as u64),
-        Error::InvalidPacketType(n) | Error::KindNotCarried(n) | Error::InvalidPropertyType(n) | Error::DuplicateProperty(n) => (n as u64, 0),
-        Error::InvalidQoS(n) | Error::InvalidRetainForwardRule(n) | Error::InvalidReason(n) => (n as u64, 0),
-        _ => (0, 0),
-    };
+    let (a, b) = e.values();
     No { no: e.number(), a, b }
 }
 
