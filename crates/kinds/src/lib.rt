@@ -19,7 +19,7 @@ pub enum Kind {
     PingResp,
     // 0 or 15
     Reserved(u8),
-    // a kind of MQTT that is not carried
+    // a kind of MQTT that is not carried, or a number of no kind
     NotCarried(u8),
 }
 

@@ -1,5 +1,5 @@
 -- What the places of a record hold is its value: the parts that `publish_parts` and `ack` give are the strings of the sentence. Assumes nothing.
-use mathlib.Core.Path.{_≡_, refl, ap, _∙_}
+use mathlib.Core.Path.{_≡_, refl, sym, ap, _∙_}
 use mathlib.Core.Option.{Option, none, some}
 use mathlib.Core.List.{List}
 use Prim.Native.Nat.{ℕ}
@@ -19,8 +19,12 @@ use Rattle.records.specs.declared.ack_record.AckKind.{AckKind}
 use Rattle.records.specs.declared.publish_record.Publish.{Publish}
 use Rattle.records.specs.declared.reply_record.Reply.{Reply}
 use Rattle.records.specs.declared.reply_record.ReplyKind.{ReplyKind}
+use Rattle.wire.specs.Part.{placeIf}
 use Rattle.wire.specs.Told.{stringIf, inBlock}
-use Rattle.promises.specs.Reading.{itself, PublishParts, ReasonPart}
+use Rattle.wire.proofs.Laws.{place-held}
+use Rattle.publish_parts.specs.Parts.{topicIn, payloadIn, response, correlation, content}
+use Rattle.ack.specs.Told.{reason}
+use Rattle.promises.specs.Reading.{itself, PartSays, PublishParts, ReasonPart}
 
 module _ (s : List ℕ) where
   -- ---- a string of a block
@@ -47,6 +51,14 @@ module _ (s : List ℕ) where
       go (got q) e = from-got (λ w. stringIf (heldOf s) (f p) ≡ stringIf itself (inBlock g w)) (some q) (held (f p) ∙ ap (stringIf itself) (t p q e)) w
       go (bad k) e = λ i. absurd (bad-got i)
 
+  -- what is held at a place is what every part there says
+  part-says : (p : Span) (b : List ℕ) → heldOf s p ≡ b → PartSays s p b
+  part-says p b h q r e a = a .bytes ∙ ap (λ (l : List ℕ). heldOf l p) e ∙ h
+
+  -- the same of a string that may be absent
+  string-says : (v : Option (Val Span)) (b : List ℕ) → stringIf (heldOf s) v ≡ b → PartSays s (placeIf v) b
+  string-says v b h = part-says (placeIf v) b (sym (place-held s v) ∙ h)
+
   -- ---- Publish
 
   -- the strings of a block
@@ -66,11 +78,11 @@ module _ (s : List ℕ) where
         _,
         refl,
         record {
-          topic = refl;
-          payload = refl;
-          response = part-said (λ p. p .response) (λ q. q .response) (sayPublishProps s) (λ p q i. publish-said p q i .response) b ps e;
-          correlation = part-said (λ p. p .correlation) (λ q. q .correlation) (sayPublishProps s) (λ p q i. publish-said p q i .correlation) b ps e;
-          content = part-said (λ p. p .content) (λ q. q .content) (sayPublishProps s) (λ p q i. publish-said p q i .content) b ps e;
+          topic = part-says (toldSpan (m .topic)) (topicIn s m) refl;
+          payload = part-says (toldSpan (m .payload)) (payloadIn s m) refl;
+          response-part = string-says (response m) _ (part-said (λ p. p .response) (λ q. q .response) (sayPublishProps s) (λ p q i. publish-said p q i .response) b ps e);
+          correlation-part = string-says (correlation m) _ (part-said (λ p. p .correlation) (λ q. q .correlation) (sayPublishProps s) (λ p q i. publish-said p q i .correlation) b ps e);
+          content-part = string-says (content m) _ (part-said (λ p. p .content) (λ q. q .content) (sayPublishProps s) (λ p q i. publish-said p q i .content) b ps e);
         },
       )
 
@@ -82,9 +94,9 @@ module _ (s : List ℕ) where
   pub ack-parts : (k : AckKind) (m : Ack) (v : Packet) → say s (toldPacket (code.Packet.Ack k m)) ≡ got v → (w : record-of.Ack (List ℕ) List) × (v ≡ ack (toldAckKind k) w) × ReasonPart s (m .properties) (w .props)
   ack-parts k m = from-bind (ifSome (sayProps s ackPlace) (toldBlock (m .properties))) _ λ ps e.
       from-got (λ (v : Packet). (w : record-of.Ack (List ℕ) List) × (v ≡ ack (toldAckKind k) w) × ReasonPart s (m .properties) (w .props)) _
-      (_, refl, record { reason = part-said (λ p. p .reason) (λ q. q .reason) (sayProps s ackPlace) reason-said (toldBlock (m .properties)) ps e })
+      (_, refl, record { reason-part = string-says (reason (m .properties)) _ (part-said (λ p. p .reason) (λ q. q .reason) (sayProps s ackPlace) reason-said (toldBlock (m .properties)) ps e) })
 
   pub reply-parts : (k : ReplyKind) (m : Reply) (v : Packet) → say s (toldPacket (code.Packet.Reply k m)) ≡ got v → (w : record-of.Reply (List ℕ) List) × (v ≡ reply (toldReplyKind k) w) × ReasonPart s (m .properties) (w .props)
   reply-parts k m = from-bind (ifSome (sayProps s ackPlace) (toldBlock (m .properties))) _ λ ps e. from-bind (again (reasonsFit (reasonsOf (toldReplyKind k))) s (toldSpan (m .reasons))) _ λ cs i.
       from-got (λ (v : Packet). (w : record-of.Reply (List ℕ) List) × (v ≡ reply (toldReplyKind k) w) × ReasonPart s (m .properties) (w .props)) _
-      (_, refl, record { reason = part-said (λ p. p .reason) (λ q. q .reason) (sayProps s ackPlace) reason-said (toldBlock (m .properties)) ps e })
+      (_, refl, record { reason-part = string-says (reason (m .properties)) _ (part-said (λ p. p .reason) (λ q. q .reason) (sayProps s ackPlace) reason-said (toldBlock (m .properties)) ps e) })

@@ -3,10 +3,13 @@ use mathlib.Core.Path.{_≡_}
 use mathlib.Core.Option.{Option}
 use mathlib.Core.List.{List}
 use Prim.Native.Nat.{ℕ}
+use denote.Ref.{RefT, now}
 use Rattle.grammar.specs.Tables.{Place}
 use Rattle.grammar.specs.Record as record-of
 use Rattle.grammar.specs.Sentence.{Value}
 use Rattle.reading.specs.Place.{nthOf, onGot, heldOf, sayVal, sayFilter}
+use Rattle.reading.specs.Place as place
+use Rattle.records.specs.Told.{toldSpan}
 use Rattle.records.specs.Answered.{toldUser, toldIdentifier, toldFilterItem, toldReasonItem, toldTopicItem}
 use Rattle.records.specs.declared.answer.UserItem.{UserItem}
 use Rattle.records.specs.declared.answer.IdentifierItem.{IdentifierItem}
@@ -16,13 +19,14 @@ use Rattle.records.specs.declared.answer.TopicItem.{TopicItem}
 use Rattle.records.specs.declared.properties_record.MaybeProperties.{MaybeProperties}
 use Rattle.records.specs.declared.publish_record.Publish.{Publish}
 use Rattle.records.specs.declared.span.Span.{Span}
+use Rattle.wire.specs.Part.{PartAt, placeIf}
 use Rattle.wire.specs.Told.{stringIf, inBlock}
 use Rattle.items.specs.Nth.{NthUser, NthIdentifier}
-use Rattle.ack.specs.Told.{reasonIn}
+use Rattle.ack.specs.Told.{reason}
 use Rattle.filter_runs.specs.Told.{NthFilter}
 use Rattle.entry_runs.specs.Told.{NthReason, NthTopic}
 use Rattle.records.specs.declared.reply_record.ReplyKind.{ReplyKind}
-use Rattle.publish_parts.specs.Parts.{topicIn, payloadIn, responseIn, correlationIn, contentIn}
+use Rattle.publish_parts.specs.Parts.{response, correlation, content}
 
 -- ---- parts
 
@@ -30,18 +34,22 @@ use Rattle.publish_parts.specs.Parts.{topicIn, payloadIn, responseIn, correlati
 abbrev pub itself : List ℕ → List ℕ
 itself b = b
 
--- 01: "topic and payload are handed back as parts of the caller's stream": the parts that `publish_parts` gives of m, each by its contract, are
--- the strings of w
-pub record PublishParts (s : List ℕ) (m : Publish) (w : record-of.Publish (List ℕ) List) : Type 0 where
-  pub topic : topicIn s m ≡ w .topic
-  pub payload : payloadIn s m ≡ w .payload
-  pub response : responseIn s m ≡ stringIf itself (inBlock (λ ps. ps .response) (w .props))
-  pub correlation : correlationIn s m ≡ stringIf itself (inBlock (λ ps. ps .correlation) (w .props))
-  pub content : contentIn s m ≡ stringIf itself (inBlock (λ ps. ps .content) (w .props))
+-- 01: "topic and payload are handed back as parts of the caller's stream", "with contract on which part": every part r of a stream with the bytes s
+-- that meets the contract of `part` at p, the part at that address, has the bytes b
+abbrev pub PartSays : List ℕ → place.Span → List ℕ → Type 0
+PartSays s p b = (q r : RefT (List ℕ)) → now q ≡ s → PartAt q p r → now r ≡ b
 
--- the same of the reason string of an acknowledgement or reply with these properties
+-- the parts that `publish_parts` gives of m, each by its contract, are the strings of w
+pub record PublishParts (s : List ℕ) (m : Publish) (w : record-of.Publish (List ℕ) List) : Type 0 where
+  pub topic : PartSays s (toldSpan (m .topic)) (w .topic)
+  pub payload : PartSays s (toldSpan (m .payload)) (w .payload)
+  pub response-part : PartSays s (placeIf (response m)) (stringIf itself (inBlock (λ ps. ps .response) (w .props)))
+  pub correlation-part : PartSays s (placeIf (correlation m)) (stringIf itself (inBlock (λ ps. ps .correlation) (w .props)))
+  pub content-part : PartSays s (placeIf (content m)) (stringIf itself (inBlock (λ ps. ps .content) (w .props)))
+
+-- the same of the reason string of an acknowledgement or reply with these properties, which `ack` gives
 pub record ReasonPart (s : List ℕ) (properties : MaybeProperties) (w : Option (record-of.Props (List ℕ) List)) : Type 0 where
-  pub reason : reasonIn s properties ≡ stringIf itself (inBlock (λ ps. ps .reason) w)
+  pub reason-part : PartSays s (placeIf (reason properties)) (stringIf itself (inBlock (λ ps. ps .reason) w))
 
 -- ---- items
 
