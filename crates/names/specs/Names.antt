@@ -8,7 +8,7 @@ use Rattle.records.specs.Told.{toldError, rowOf}
 use Rattle.records.specs.declared.error.Error.{Error}
 use Rattle.names.specs.declared.text.Name.{Name}
 
--- 01, "When the desk says no": the column Refusal, in the order of the column No., which begins at 1
+-- 01, "When the desk says no": the column Refusal, in the order of the column No., which begins at 1; from 22 on those that 02 adds
 unfoldable pub names : List String
 names =
     "InsufficientBytes" ∷
@@ -34,6 +34,21 @@ names =
     "NoItem" ∷
     "DuplicateProperty" ∷
     "SubscriptionIdZero" ∷
+    "AliasTableBad" ∷
+    "AliasInvalid" ∷
+    "TopicMissing" ∷
+    "AliasUnknown" ∷
+    "AliasNoRoom" ∷
+    "InFlightFull" ∷
+    "NoClaim" ∷
+    "NotWaiting" ∷
+    "BadArea" ∷
+    "JournalEmpty" ∷
+    "JournalEnded" ∷
+    "BadBuffer" ∷
+    "FrameTooLong" ∷
+    "FilterTableFull" ∷
+    "NotSubscribe" ∷
     []
 
 -- 01, "When the desk says no": the name in the row of that number; none at 0, and none past the last row

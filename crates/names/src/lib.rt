@@ -43,7 +43,22 @@ pub fn name_at(number: u32) -> Name
         21 => named(*b"NoItem\0\0\0\0\0\0\0\0\0\0\0\0\0\0\0\0\0\0", 6),
         22 => named(*b"DuplicateProperty\0\0\0\0\0\0\0", 17),
         23 => named(*b"SubscriptionIdZero\0\0\0\0\0\0", 18),
-        24..=4294967295 => named([0; 24], 0),
+        24 => named(*b"AliasTableBad\0\0\0\0\0\0\0\0\0\0\0", 13),
+        25 => named(*b"AliasInvalid\0\0\0\0\0\0\0\0\0\0\0\0", 12),
+        26 => named(*b"TopicMissing\0\0\0\0\0\0\0\0\0\0\0\0", 12),
+        27 => named(*b"AliasUnknown\0\0\0\0\0\0\0\0\0\0\0\0", 12),
+        28 => named(*b"AliasNoRoom\0\0\0\0\0\0\0\0\0\0\0\0\0", 11),
+        29 => named(*b"InFlightFull\0\0\0\0\0\0\0\0\0\0\0\0", 12),
+        30 => named(*b"NoClaim\0\0\0\0\0\0\0\0\0\0\0\0\0\0\0\0\0", 7),
+        31 => named(*b"NotWaiting\0\0\0\0\0\0\0\0\0\0\0\0\0\0", 10),
+        32 => named(*b"BadArea\0\0\0\0\0\0\0\0\0\0\0\0\0\0\0\0\0", 7),
+        33 => named(*b"JournalEmpty\0\0\0\0\0\0\0\0\0\0\0\0", 12),
+        34 => named(*b"JournalEnded\0\0\0\0\0\0\0\0\0\0\0\0", 12),
+        35 => named(*b"BadBuffer\0\0\0\0\0\0\0\0\0\0\0\0\0\0\0", 9),
+        36 => named(*b"FrameTooLong\0\0\0\0\0\0\0\0\0\0\0\0", 12),
+        37 => named(*b"FilterTableFull\0\0\0\0\0\0\0\0\0", 15),
+        38 => named(*b"NotSubscribe\0\0\0\0\0\0\0\0\0\0\0\0", 12),
+        39..=4294967295 => named([0; 24], 0),
     }
 }
 

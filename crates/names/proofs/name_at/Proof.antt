@@ -6,15 +6,30 @@ use Rattle.names.proofs.Laws.{past-places}
 use Rattle.names.proofs.name_at.Statement.{statement}
 use Rattle.names.proofs.name_at.Tie as tie
 
-left-over : tie.Need-returns-25
+left-over : tie.Need-returns-40
 unfolding names nameAt
-left-over c = rw (past-places ("" ∷ names) "" (c .before .before .args .number) (c .before .match .rest)) (c .named25 .ensures)
+left-over c = rw (past-places ("" ∷ names) "" (c .before .before .args .number) (c .before .match .rest)) (c .named40 .ensures)
 
 pub name-at-spec : {M : Type 1} → statement M
 unfolding names nameAt
 name-at-spec =
     tie.close
     (tie.spec
+    (λ c κs. search needs)
+    (λ c κs. search needs)
+    (λ c κs. search needs)
+    (λ c κs. search needs)
+    (λ c κs. search needs)
+    (λ c κs. search needs)
+    (λ c κs. search needs)
+    (λ c κs. search needs)
+    (λ c κs. search needs)
+    (λ c κs. search needs)
+    (λ c κs. search needs)
+    (λ c κs. search needs)
+    (λ c κs. search needs)
+    (λ c κs. search needs)
+    (λ c κs. search needs)
     (λ c κs. search needs)
     (λ c κs. search needs)
     (λ c κs. search needs)
@@ -64,4 +79,19 @@ name-at-spec =
     (λ c. rw (c .before .before .before .match .keys22) (c .named22 .ensures))
     (λ c. rw (c .before .before .before .match .keys23) (c .named23 .ensures))
     (λ c. rw (c .before .before .before .match .keys24) (c .named24 .ensures))
+    (λ c. rw (c .before .before .before .match .keys25) (c .named25 .ensures))
+    (λ c. rw (c .before .before .before .match .keys26) (c .named26 .ensures))
+    (λ c. rw (c .before .before .before .match .keys27) (c .named27 .ensures))
+    (λ c. rw (c .before .before .before .match .keys28) (c .named28 .ensures))
+    (λ c. rw (c .before .before .before .match .keys29) (c .named29 .ensures))
+    (λ c. rw (c .before .before .before .match .keys30) (c .named30 .ensures))
+    (λ c. rw (c .before .before .before .match .keys31) (c .named31 .ensures))
+    (λ c. rw (c .before .before .before .match .keys32) (c .named32 .ensures))
+    (λ c. rw (c .before .before .before .match .keys33) (c .named33 .ensures))
+    (λ c. rw (c .before .before .before .match .keys34) (c .named34 .ensures))
+    (λ c. rw (c .before .before .before .match .keys35) (c .named35 .ensures))
+    (λ c. rw (c .before .before .before .match .keys36) (c .named36 .ensures))
+    (λ c. rw (c .before .before .before .match .keys37) (c .named37 .ensures))
+    (λ c. rw (c .before .before .before .match .keys38) (c .named38 .ensures))
+    (λ c. rw (c .before .before .before .match .keys39) (c .named39 .ensures))
     left-over)
