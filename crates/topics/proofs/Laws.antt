@@ -424,6 +424,38 @@ unfolding validFilter
 filter-none [] h = refl
 filter-none (c ∷ s) h = absurd (omega arith)
 
+-- a filter without wildcards
+
+-- no level has one
+unfoldable Plains : List Level → Type 0
+Plains [] = Unit
+Plains (l ∷ ls) = (hasWild l ≡ false) × Plains ls
+
+either : (a b : Bool) → (a || b) ≡ false → (a ≡ false) × (b ≡ false)
+either true b e = absurd (false≢true (sym e))
+either false b e = (refl, e)
+
+plain-levels : (s : List ℕ) → hasWild s ≡ false → Plains (levels s)
+unfolding hasWild levels Plains
+plain-levels [] e = (refl, tt)
+plain-levels (c ∷ s) e =
+    let (p, q) = either (isWild c) (hasWild s) e in
+    go (eqb c slash) (levels s) p (plain-levels s q)
+  where
+    go : (b : Bool) (ls : List Level) → isWild c ≡ false → Plains ls → Plains (cond b ([] ∷ ls) (onFirst c ls))
+    go true ls p h = (refl, h)
+    go false [] p h = tt
+    go false (l ∷ ls) p h = (rw p (h .0), h .1)
+
+plain-fine : (ls : List Level) → Plains ls → levelsFine ls ≡ true
+unfolding levelsFine Plains
+plain-fine [] h = refl
+plain-fine (l ∷ []) h = rw (h .0)
+plain-fine (l ∷ m ∷ ls) h = rw (h .0) (plain-fine (m ∷ ls) (h .1))
+
+pub filter-plain : (s : List ℕ) → (length s ≡ 0 → ⊥) → hasWild s ≡ false → true ≡ validFilter s
+filter-plain s h e = sym (plain-fine (levels s) (plain-levels s e)) ∙ filter-some s h
+
 -- ---- the first byte
 
 module _ (p : ℕ → Bool) where
@@ -536,10 +568,10 @@ decided topic filter b m e d = rw e at d
 pub record Fine (filter rest : List ℕ) (end : ℕ) : Type 0 where
   pub ends : Ends rest end
   pub within : length rest ≤ length filter
-  pub decides : levelsFine (levels rest) ≡ validFilter filter
+  pub decides : levelsFine (levels rest) ≡ levelsFine (levels filter)
 
 module _ {filter rest : List ℕ} {end : ℕ} (i : Fine filter rest end) where
-  pub fine-broken : end < length rest → levelFine false (take end rest) ≡ false → false ≡ validFilter filter
+  pub fine-broken : end < length rest → levelFine false (take end rest) ≡ false → false ≡ levelsFine (levels filter)
   fine-broken h b = rw (fine-next rest (omega (arith, i .ends .len)), ← i .ends .len, b) at (i .decides)
 
   pub fine-on : end < length rest → levelFine false (take end rest) ≡ true → (next : ℕ)
@@ -550,7 +582,7 @@ module _ {filter rest : List ℕ} {end : ℕ} (i : Fine filter rest end) where
     decides = rw (to-end rest (end + 1)) (rw (fine-next rest (omega (arith, i .ends .len)), ← i .ends .len, b) at (i .decides));
   }
 
-  pub fine-done : length rest ≤ end → levelFine true rest ≡ validFilter filter
+  pub fine-done : length rest ≤ end → levelFine true rest ≡ levelsFine (levels filter)
   fine-done h = sym (fine-last rest (omega (arith, i .ends .len, i .ends .within))) ∙ i .decides
 
 -- ---- the loop over half of the filter

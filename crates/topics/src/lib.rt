@@ -5,7 +5,7 @@ ghost use mathlib.Core.Bool.{not, true};
 ghost use Prim.Native.Nat.{_+_, _-_, _≤_, _<_};
 ghost use lib.Dec.{ltb};
 ghost use lib.ListN.{length, take};
-ghost use Rattle.topics.specs.Levels.{levels, isWild, hasWild, lone, hash, plus, levelFine, validTopic, validFilter};
+ghost use Rattle.topics.specs.Levels.{levels, isWild, hasWild, lone, hash, plus, levelFine, levelsFine, validTopic, validFilter};
 ghost use Rattle.topics.specs.Match.{same, restMatches, matchesOf, barred};
 ghost use Rattle.topics.specs.Step.{Clear, Asked, First, wildAt, slashAt, differAt, levelLen, Ends, endsAt, HaveMet, Decides, Halves};
 
@@ -89,8 +89,19 @@ fn wild_short(s: &[u8]) -> bool
     false
 }
 
+// The same of eight to sixteen: the first eight, and the last.
+fn wild_eights(s: &[u8]) -> bool
+    requires { ⌜ (8 ≤ length (now s)) × (length (now s) ≤ 16) ⌝ }
+    ensures { λ r. ⌜ r ≡ hasWild (now (s .entry)) ⌝ }
+{
+    if wild_in(s, 0, 8) {
+        return true;
+    }
+    wild_in(s, s.len() - 8, s.len())
+}
+
 // The same of sixteen and more; the last sixteen may be asked twice.
-fn wild_long(s: &[u8]) -> bool
+fn wild_sixteens(s: &[u8]) -> bool
     requires { ⌜ 16 ≤ length (now s) ⌝ }
     ensures { λ r. ⌜ r ≡ hasWild (now (s .entry)) ⌝ }
 {
@@ -104,11 +115,22 @@ fn wild_long(s: &[u8]) -> bool
     wild_in(s, s.len() - 16, s.len())
 }
 
+// The same of eight and more. It has two callers, so that it stays a call, and what is small before it goes into the caller.
+fn wild_long(s: &[u8]) -> bool
+    requires { ⌜ 8 ≤ length (now s) ⌝ }
+    ensures { λ r. ⌜ r ≡ hasWild (now (s .entry)) ⌝ }
+{
+    if s.len() < 16 {
+        return wild_eights(s);
+    }
+    wild_sixteens(s)
+}
+
 // Does a topic or filter have wildcards?
 pub fn has_wildcards(s: &[u8]) -> bool
     ensures { λ r. ⌜ r ≡ hasWild (now (s .entry)) ⌝ }
 {
-    if s.len() < 16 {
+    if s.len() < 8 {
         return wild_short(s);
     }
     wild_long(s)
@@ -261,13 +283,10 @@ fn level_fine(level: &[u8], last: bool) -> bool
     !has_wildcards(level)
 }
 
-// Is a filter valid? Level by level.
-pub fn valid_filter(filter: &[u8]) -> bool
-    ensures { λ r. ⌜ r ≡ validFilter (now (filter .entry)) ⌝ }
+// Is each level of a filter fine?
+fn levels_fine(filter: &[u8]) -> bool
+    ensures { λ r. ⌜ r ≡ levelsFine (levels (now (filter .entry))) ⌝ }
 {
-    if filter.len() == 0 {
-        return false;
-    }
     let mut rest = filter;
     let mut end = level_len(rest);
     while end < rest.len() {
@@ -278,6 +297,21 @@ pub fn valid_filter(filter: &[u8]) -> bool
         end = level_len(rest);
     }
     level_fine(rest, true)
+}
+
+// Is a filter valid? One of eight bytes and more that has no wildcards is; else level by level.
+pub fn valid_filter(filter: &[u8]) -> bool
+    ensures { λ r. ⌜ r ≡ validFilter (now (filter .entry)) ⌝ }
+{
+    if filter.len() == 0 {
+        return false;
+    }
+    if 8 <= filter.len() {
+        if !wild_long(filter) {
+            return true;
+        }
+    }
+    levels_fine(filter)
 }
 
 // ---- matching

@@ -1,4 +1,4 @@
--- `topics::wild_long` is right since what is not asked in the last sixteen was asked before. Assumes nothing.
+-- `topics::wild_sixteens` is right since what is not asked in the last sixteen was asked before. Assumes nothing.
 use mathlib.Core.Path.{sym, _∙_}
 use Prim.Native.Nat.{_+_, _-_, _≤_, _<_}
 use native.Mathlib.Omega.{arith}
@@ -6,8 +6,8 @@ use lib.ListN.{length, getD}
 use denote.Ref.{now}
 use Rattle.topics.specs.Step.{Clear, wildAt}
 use Rattle.topics.proofs.Laws.{clear-none, clear-join, wild-hit, wild-asked}
-use Rattle.topics.proofs.wild_long.Statement.{statement}
-use Rattle.topics.proofs.wild_long.Tie as tie
+use Rattle.topics.proofs.wild_sixteens.Statement.{statement}
+use Rattle.topics.proofs.wild_sixteens.Tie as tie
 
 abbrev Inv-loop : tie.InvT-loop
 Inv-loop s i₀ i = (i ≤ length s) × Clear (wildAt s) 0 i
@@ -54,8 +54,8 @@ returns-2 c =
     let l = c .before .before .loop in
     wild-asked (now (c .before .before .before .before .args .s)) (l .i) _ _ (omega arith) (l .inv .1) (c .wild-in2 .ensures)
 
-pub wild-long-spec : {M : Type 1} → statement M
-wild-long-spec =
+pub wild-sixteens-spec : {M : Type 1} → statement M
+wild-sixteens-spec =
     tie.close
     (tie.spec
     Inv-loop
