@@ -432,6 +432,20 @@ uint32_t ecch_ping_size(uint64_t *answer, size_t answer_len);
 uint32_t ecch_pingreq_write(uint8_t limited, size_t limit, uint8_t *out, size_t out_len, uint64_t *answer, size_t answer_len);
 uint32_t ecch_pingresp_write(uint8_t limited, size_t limit, uint8_t *out, size_t out_len, uint64_t *answer, size_t answer_len);
 
+/* Topics and filters, over any bytes (crate c_topics). Each answers 1 for true and 0 for false, and nothing is refused or written. '+' and '#'
+ * are wildcards, '/' separates levels; no text is tested for UTF-8, for U+0000 or for its length. Stack: less than 4 KiB, however long they are.
+ *
+ * ecch_has_wildcards: a '+' or a '#' stands somewhere in s.
+ * ecch_valid_topic: neither does. As in rumqttc the empty topic is valid; MQTT 4.7.3 asks for a character.
+ * ecch_valid_filter: it is not empty, each '+' and '#' fills its level, and '#' stands in the last one alone.
+ * ecch_matches: the filter matches the topic, level by level: '#' what is left of the topic, none included, '+' one level that is not '#', any
+ *   other level itself; and a filter that begins with a wildcard matches no topic that begins with '$' (MQTT 4.7.2). Test both before: of a
+ *   filter that is not valid, '#' as a level counts wherever it stands, and '+' or '#' within a level is a character like others. */
+uint8_t ecch_has_wildcards(const uint8_t *s, size_t s_len);
+uint8_t ecch_valid_topic(const uint8_t *topic, size_t topic_len);
+uint8_t ecch_valid_filter(const uint8_t *filter, size_t filter_len);
+uint8_t ecch_matches(const uint8_t *topic, size_t topic_len, const uint8_t *filter, size_t filter_len);
+
 /* A pointer for what has length 0: aligned, and not NULL. C++ needs a cast to the type of the parameter. */
 #define ECCH_NOTHING ((void *)sizeof(size_t))
 

@@ -11,6 +11,7 @@ mod frame;
 pub mod places;
 #[allow(clippy::too_many_arguments)]
 pub mod sys;
+mod topics;
 mod write;
 
 use bytes::{Buf, Bytes, BytesMut};
@@ -19,9 +20,11 @@ pub use error::Error;
 pub use frame::{check, FixedHeader, PacketType};
 use places::{Kind, Record};
 use sys::*;
+pub use topics::{has_wildcards, matches, valid_filter, valid_topic};
 
 /// The crate's paths: `ecchjulmina::mqttbytes` in the place of `rumqttc::v5::mqttbytes`.
 pub mod mqttbytes {
+    pub use crate::{has_wildcards, matches, valid_filter, valid_topic};
     pub use crate::{qos, Error, QoS};
 
     pub mod v5 {

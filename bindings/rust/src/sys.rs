@@ -208,4 +208,8 @@ extern "C" {
     pub fn ecch_ping_size(answer: *mut u64, answer_len: usize) -> u32;
     pub fn ecch_pingreq_write(limited: u8, limit: usize, out: *mut u8, out_len: usize, answer: *mut u64, answer_len: usize) -> u32;
     pub fn ecch_pingresp_write(limited: u8, limit: usize, out: *mut u8, out_len: usize, answer: *mut u64, answer_len: usize) -> u32;
+    pub fn ecch_has_wildcards(s: *const u8, s_len: usize) -> u8;
+    pub fn ecch_valid_topic(topic: *const u8, topic_len: usize) -> u8;
+    pub fn ecch_valid_filter(filter: *const u8, filter_len: usize) -> u8;
+    pub fn ecch_matches(topic: *const u8, topic_len: usize, filter: *const u8, filter_len: usize) -> u8;
 }

@@ -1,0 +1,37 @@
+//! Topics and filters by the crate's names and signatures. Two answers differ from the crate's (docs/DIFFERENCES.md, 40 and 41): a topic that
+//! begins with `$` is barred only from filters that begin with a wildcard, and one whose first character is longer than a byte is answered.
+use crate::error::fault;
+use crate::sys::{ecch_has_wildcards, ecch_matches, ecch_valid_filter, ecch_valid_topic};
+
+/// The library gives 0 or 1.
+fn flag(n: u8) -> bool {
+    match n {
+        0 => false,
+        1 => true,
+        _ => fault("flag", n as u64),
+    }
+}
+
+/// Checks if a topic or topic filter has wildcards
+pub fn has_wildcards(s: &str) -> bool {
+    // SAFETY: a str is that many bytes that can be read, and its pointer is not null
+    flag(unsafe { ecch_has_wildcards(s.as_ptr(), s.len()) })
+}
+
+/// Checks if a topic is valid
+pub fn valid_topic(topic: &str) -> bool {
+    // SAFETY: as above
+    flag(unsafe { ecch_valid_topic(topic.as_ptr(), topic.len()) })
+}
+
+/// Checks if the filter is valid
+pub fn valid_filter(filter: &str) -> bool {
+    // SAFETY: as above
+    flag(unsafe { ecch_valid_filter(filter.as_ptr(), filter.len()) })
+}
+
+/// Checks if topic matches a filter. topic and filter validation isn't done here.
+pub fn matches(topic: &str, filter: &str) -> bool {
+    // SAFETY: as above, for both; nothing is written
+    flag(unsafe { ecch_matches(topic.as_ptr(), topic.len(), filter.as_ptr(), filter.len()) })
+}
