@@ -1,0 +1,10 @@
+pub mod Bytes
+pub mod Finding
+pub mod Good
+pub mod Kept
+pub mod Latest
+pub mod Limits
+pub mod Places
+pub mod Theorems
+pub mod Turns
+pub mod Told
