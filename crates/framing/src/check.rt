@@ -38,7 +38,7 @@ pub fn parse_fixed_header(stream: &[u8]) -> Checked
 }
 
 // 3: the header of a frame of F bytes, if the limit lets F pass.
-fn limited(h: FixedHeader, size: usize, limit: Limit) -> Checked
+pub fn limited(h: FixedHeader, size: usize, limit: Limit) -> Checked
     ensures { λ r. ⌜ toldHeader r ≡ limitedTo (limitOf limit) size (headerIn h) ⌝ }
 {
     if let Limit::AtMost(most) = limit {

@@ -1,0 +1,5 @@
+pub mod Whole
+pub mod Step
+pub mod Feed
+pub mod Judge
+pub mod Told

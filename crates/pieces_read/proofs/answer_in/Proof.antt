@@ -1,0 +1,61 @@
+-- `pieces_read::answer_in` is right since the frame is read from its own bytes. Assumes nothing.
+use mathlib.Core.Path.{ap, _∙_}
+use Rattle.reading.specs.Place.{readPlacedOf}
+use Rattle.records.specs.Told.{limitOf}
+use Rattle.pieces.specs.Step.{inPiece, inBuffer}
+use borrow.Author.Needs.{needs}
+use Rattle.pieces_read.proofs.answer_in.Statement.{statement}
+use Rattle.pieces_read.proofs.answer_in.Tie as tie
+
+enum-told : tie.Need-enum-told
+enum-told c = search needs
+
+returns : tie.Need-returns
+returns c = search needs
+
+enum-known-given : tie.Need-enum-known-given
+enum-known-given c = search needs
+
+front-requires : tie.Need-front-requires
+front-requires c κs = search needs
+
+read-requires : tie.Need-read-requires
+read-requires c κs = search needs
+
+returns-2 : tie.Need-returns-2
+returns-2 c = rw (c .before .before .before .given .given .1) (ap inPiece (c .read .ensures .0 ∙ ap (readPlacedOf (limitOf (c .before .before .before .before .before .before .before .args .limit))) (c .before .front .ensures)))
+
+enum-known-given-2 : tie.Need-enum-known-given-2
+enum-known-given-2 c = search needs
+
+front-requires-2 : tie.Need-front-requires-2
+front-requires-2 c κs = search needs
+
+read-requires-2 : tie.Need-read-requires-2
+read-requires-2 c κs = search needs
+
+returns-3 : tie.Need-returns-3
+returns-3 c = rw (c .before .before .before .given2 .given .1) (ap inBuffer (c .read2 .ensures .0 ∙ ap (readPlacedOf (limitOf (c .before .before .before .before .before .before .before .args .limit))) (c .before .front2 .ensures)))
+
+enum-known-given-3 : tie.Need-enum-known-given-3
+enum-known-given-3 c = search needs
+
+returns-4 : tie.Need-returns-4
+returns-4 c = rw (c .before .given3 .given .1)
+
+pub answer-in-spec : {M : Type 1} → statement M
+answer-in-spec =
+    tie.close
+    (tie.spec
+    enum-told
+    returns
+    enum-known-given
+    front-requires
+    read-requires
+    returns-2
+    enum-known-given-2
+    front-requires-2
+    read-requires-2
+    returns-3
+    enum-known-given-3
+    returns-4)
