@@ -161,7 +161,9 @@ enum ecch_record_layout {
     ECCH_REASONS_LEN = 39,
     ECCH_TOPICS_START = 40, /* Unsubscribe: where the topics stand (ecch_topic, ecch_next_topic) */
     ECCH_TOPICS_LEN = 41,
-    ECCH_RECORD_LEN = 42
+    ECCH_PROPERTIES_START = 42, /* every kind: where the properties start in the stream, after the block's length, and where they end; */
+    ECCH_PROPERTIES_END = 43,   /* equal if there are none: the index after that length, or F where none was sent (a ping; R = 2 or 3) */
+    ECCH_RECORD_LEN = 44
 };
 
 /* `item` of ecch_user_property: the places of key and value. */

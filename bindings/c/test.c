@@ -42,10 +42,10 @@ static void refused(const uint8_t *stream, size_t len, uint8_t limited, size_t l
     CHECK(rec[ECCH_RECORD_LEN] == 0xEEEEEEEEEEEEEEEEu);
 }
 
-/* Which numbers of the record are not 0, besides those of taken and kind: a list that ends in 0. */
+/* Which numbers of the record are not 0, besides those of taken and kind and of where the properties stand: a list that ends in 0. */
 static void others(const size_t *places) {
     size_t i;
-    for (i = ECCH_KIND + 1; i < ECCH_RECORD_LEN; i++) {
+    for (i = ECCH_KIND + 1; i < ECCH_PROPERTIES_START; i++) {
         const size_t *p = places;
         while (*p != 0 && *p != i) p++;
         CHECK((rec[i] != 0) == (*p == i));
@@ -204,10 +204,34 @@ static void packets(void) {
     memset(rec, 0xEE, sizeof rec);
     CHECK(ecch_read(BYTES(0xC0, 0x00), FREE, rec, 2) == 0 && rec[ECCH_TAKEN] == 2 && rec[1] == 0);
     for (i = 2; i <= ECCH_RECORD_LEN; i++) CHECK(rec[i] == 0xEEEEEEEEEEEEEEEEu);
-    /* That of a header that ended at 37 takes what it took. */
+    /* That of a header that ended at 41 takes what it took, and so does that of one that ended at 37. */
+    memset(rec, 0xEE, sizeof rec);
+    CHECK(ecch_read(BYTES(0xC0, 0x00), FREE, rec, 42) == 0 && rec[ECCH_TOPICS_LEN] == 0);
+    for (i = ECCH_PROPERTIES_START; i <= ECCH_RECORD_LEN; i++) CHECK(rec[i] == 0xEEEEEEEEEEEEEEEEu);
     memset(rec, 0xEE, sizeof rec);
     CHECK(ecch_read(BYTES(0xA2, 0x06, 0x00, 0x01, 0x00, 0x00, 0x01, 'a'), FREE, rec, 38) == 0 && rec[ECCH_KIND] == ECCH_UNSUBSCRIBE && rec[ECCH_SUBSCRIPTION_VALUE] == 0);
     for (i = ECCH_REASONS_START; i <= ECCH_RECORD_LEN; i++) CHECK(rec[i] == 0xEEEEEEEEEEEEEEEEu);
+}
+
+/* Where the properties start and end, of every layout, present, of length 0, and not sent; the stream may go on. */
+#define STAND(start, end, ...) \
+    CHECK(reads(BYTES(__VA_ARGS__), FREE) == 0 && rec[ECCH_PROPERTIES_START] == (start) && rec[ECCH_PROPERTIES_END] == (end))
+static void properties_stand(void) {
+    STAND(8, 8, 0x30, 0x08, 0x00, 0x03, 'a', '/', 'b', 0x00, 'h', 'i', 0x99);
+    STAND(6, 12, 0x30, 0x0B, 0x00, 0x01, 'a', 0x06, 0x0B, 0x01, 0x0B, 0x02, 0x0B, 0x03, 0x07);
+    STAND(8, 10, 0x32, 0x08, 0x00, 0x01, 'a', 0x00, 0x07, 0x02, 0x01, 0x01);
+    STAND(5, 5, 0x82, 0x07, 0x00, 0x01, 0x00, 0x00, 0x01, 'a', 0x01);
+    STAND(5, 7, 0x82, 0x09, 0x00, 0x07, 0x02, 11, 0x05, 0x00, 0x01, 'a', 0x01);
+    STAND(4, 4, 0x40, 0x02, 0x00, 0x0A, 0x99);
+    STAND(5, 5, 0x50, 0x03, 0x00, 0x0A, 0x10, 0x99);
+    STAND(6, 6, 0x62, 0x04, 0x00, 0x0A, 0x00, 0x00, 0x99);
+    STAND(6, 10, 0x70, 0x08, 0x00, 0x0A, 0x92, 0x04, 31, 0x00, 0x01, 'n');
+    STAND(5, 5, 0x90, 0x04, 0x00, 0x01, 0x00, 0x01);
+    STAND(5, 9, 0xB0, 0x08, 0x00, 0x01, 0x04, 31, 0x00, 0x01, 'n', 0x11);
+    STAND(5, 5, 0xA2, 0x06, 0x00, 0x01, 0x00, 0x00, 0x01, 'a');
+    STAND(5, 10, 0xA2, 0x0B, 0x00, 0x01, 0x05, 38, 0x00, 0x00, 0x00, 0x00, 0x00, 0x01, 'a');
+    STAND(2, 2, 0xC0, 0x00, 0x99);
+    STAND(4, 4, 0xD0, 0x02, 0x01, 0x02);
 }
 
 /* PubAck, PubRec, PubRel and PubComp: flags, identifier 0, the three lengths, the properties, and what is refused. */
@@ -790,6 +814,7 @@ int main(void) {
     strictness();
     kinds();
     packets();
+    properties_stand();
     acks();
     replies();
     unsubscribes();

@@ -144,6 +144,17 @@ impl<'a> Record<'a> {
         flag(self.at(ECCH_BLOCK))
     }
 
+    /// Where the properties start in the frame, after the length of their block: the index after that length if there are none, and the
+    /// frame's length if no length was sent.
+    pub fn properties_start(&self) -> usize {
+        self.at(ECCH_PROPERTIES_START) as usize
+    }
+
+    /// Where the properties end in the frame; equal to their start if there are none.
+    pub fn properties_end(&self) -> usize {
+        self.at(ECCH_PROPERTIES_END) as usize
+    }
+
     pub fn payload_format_indicator(&self) -> Option<u8> {
         self.number_if(ECCH_FORMAT)
     }

@@ -11,7 +11,7 @@ ghost use Prim.Native.Nat.{_≤_};
 
 fn answer(s: &[u8], limit: Limit) {
     match packet::read(s, limit) {
-        Read::Packet(p, taken) => {
+        Read::Packet(p, _, taken) => {
             show::packet(s, p);
             show::taken(taken);
         }

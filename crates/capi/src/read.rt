@@ -7,6 +7,7 @@ ghost use mathlib.Core.Path.{_≡_};
 ghost use lib.ListN.{length};
 ghost use lib.Seq.{sets};
 ghost use Rattle.reading.specs.Place.{readPlacedOf, heldOf};
+ghost use Rattle.reading.specs.Bounds.{boundsOf};
 ghost use Rattle.layout_read.specs.Record.{readNumber, encoded};
 ghost use Rattle.given.specs.Given.{limitGiven};
 
@@ -14,7 +15,7 @@ ghost use Rattle.given.specs.Given.{limitGiven};
 #[no_mangle]
 pub extern "C" fn ecch_read(stream: &[u8], limited: u8, limit: usize, into: &mut [u64]) -> u32
     ensures number { λ r. ⌜ r ≡ readNumber (readPlacedOf (limitGiven limited limit) (now (stream .entry))) ⌝ }
-    ensures stored { λ r. ⌜ now (into .exit) ≡ sets (now (into .entry)) 0 (encoded (readPlacedOf (limitGiven limited limit) (now (stream .entry)))) ⌝ }
+    ensures stored { λ r. ⌜ now (into .exit) ≡ sets (now (into .entry)) 0 (encoded (readPlacedOf (limitGiven limited limit) (now (stream .entry))) (boundsOf (limitGiven limited limit) (now (stream .entry)))) ⌝ }
 {
     let read = packet::read(stream, bound(limited, limit));
     store_read(read, &mut *into)

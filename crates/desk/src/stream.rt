@@ -192,7 +192,7 @@ fn accepted(s: &[u8], out: &mut [u8], tally: &mut [u64], d: Desk, p: Packet, tak
 fn turn(fd: i32, limit: Limit, buf: &mut [u8], out: &mut [u8], tally: &mut [u64], d: Desk) -> Desk {
     let s = string::part(&*buf, d.held);
     match packet::read(s, limit) {
-        Read::Packet(p, taken) => accepted(s, &mut *out, &mut *tally, d, p, taken),
+        Read::Packet(p, _, taken) => accepted(s, &mut *out, &mut *tally, d, p, taken),
         Read::Refused(e, taken) => unread(fd, &mut *buf, &mut *out, &mut *tally, d, e, taken),
     }
 }

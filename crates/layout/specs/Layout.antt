@@ -5,7 +5,7 @@ use Rattle.layout.specs.declared.place.Head.{Head}
 use Rattle.layout.specs.declared.place.Block.{Block}
 
 -- the header's order, from 0 (ECCH_TAKEN) to 37 (ECCH_SUBSCRIPTION_VALUE); 02, P1: behind the last, the reasons and the topics, to 41
--- (ECCH_TOPICS_LEN)
+-- (ECCH_TOPICS_LEN); 02, P7: behind these, where the properties start and end, to 43 (ECCH_PROPERTIES_END)
 abbrev pub laidOut : Head → Block → List ℕ
 laidOut h b =
     h .taken
@@ -50,4 +50,6 @@ laidOut h b =
     ∷ h .reasons .len
     ∷ h .topics .start
     ∷ h .topics .len
+    ∷ h .properties .start
+    ∷ h .properties .end
     ∷ []

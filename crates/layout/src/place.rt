@@ -1,4 +1,5 @@
 // The numbers of a record by name, and their indices in the array that C is handed.
+use records::span::Bounds;
 use records::span::Span;
 ghost use mathlib.Core.Path.{_≡_};
 ghost use Rattle.layout.specs.Layout.{laidOut};
@@ -32,6 +33,7 @@ pub struct Head {
     pub filters: Span,
     pub reasons: Span,
     pub topics: Span,
+    pub properties: Bounds,
 }
 
 // The properties of every kind.
@@ -48,7 +50,7 @@ pub struct Block {
 }
 
 // Each number at its index in the header.
-pub fn numbers(h: Head, b: Block) -> [u64; 42]
+pub fn numbers(h: Head, b: Block) -> [u64; 44]
     ensures { λ r. ⌜ r ≡ laidOut h b ⌝ }
 {
     [
@@ -94,5 +96,7 @@ pub fn numbers(h: Head, b: Block) -> [u64; 42]
         h.reasons.len as u64,
         h.topics.start as u64,
         h.topics.len as u64,
+        h.properties.start as u64,
+        h.properties.end as u64,
     ]
 }

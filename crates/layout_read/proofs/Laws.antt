@@ -2,6 +2,7 @@
 use mathlib.Core.Path.{_≡_, refl}
 use Prim.Native.Nat.{ℕ}
 use Rattle.reading.specs.Refusal.{Refusal, nr, refusedAs}
+use Rattle.reading.specs.Reader.{bad}
 use Rattle.records.specs.Told.{rowOf, valuesOf}
 use Rattle.layout.specs.Layout.{laidOut}
 use Rattle.layout.specs.Value.{valueOrZero}
@@ -11,6 +12,6 @@ use Rattle.layout_read.specs.Record.{refusedHead, readNumber, encoded}
 pub refused-number : (k : Refusal) (n : ℕ) → rowOf k ≡ readNumber (refusedAs k n)
 refused-number (nr k vs) n = refl
 
-pub refused-encoded : (k : Refusal) (n : ℕ) → laidOut (refusedHead n (valueOrZero (valuesOf k) 0) (valueOrZero (valuesOf k) 1)) noBlock ≡ encoded (refusedAs k n)
+pub refused-encoded : (k : Refusal) (n : ℕ) → laidOut (refusedHead n (valueOrZero (valuesOf k) 0) (valueOrZero (valuesOf k) 1)) noBlock ≡ encoded (refusedAs k n) (bad k)
 unfolding encoded
 refused-encoded (nr k vs) n = refl

@@ -3,8 +3,10 @@ use mathlib.Core.List.{List}
 use Prim.Native.Nat.{ℕ}
 use Rattle.grammar.specs.Record.{publish, ack, subscribe, reply, unsubscribe, ping}
 use Rattle.reading.specs.Refusal.{Answer, accepted, refused}
+use Rattle.reading.specs.Reader.{Fit, got, bad}
 use Rattle.reading.specs.Place.{Placed}
 use Rattle.records.specs.Told.{backSpan}
+use Rattle.records.specs.declared.span.Bounds.{Bounds}
 use Rattle.records.specs.declared.span.Span.{Span}
 use Rattle.layout.specs.declared.place.Head.{Head}
 use Rattle.layout.specs.Layout.{laidOut}
@@ -16,6 +18,11 @@ use Rattle.layout_properties.specs.Block.{noBlock, packetBlock}
 -- no place
 abbrev pub noSpan : Span
 noSpan = record { start = 0; len = 0 }
+
+-- 02, P7: the two numbers; 0 and 0 where there are none
+abbrev pub boundsAt : Fit (ℕ × ℕ) → Bounds
+boundsAt (got z) = record { start = z .0; end = z .1 }
+boundsAt (bad k) = record { start = 0; end = 0 }
 
 -- a refusal: bytes taken, and its values
 abbrev pub refusedHead : ℕ → ℕ → ℕ → Head
@@ -34,11 +41,12 @@ refusedHead n a b = record {
   filters = noSpan;
   reasons = noSpan;
   topics = noSpan;
+  properties = record { start = 0; end = 0 };
 }
 
 -- a packet of a kind other than Publish; header: "0 where it does not apply"
-abbrev pub plainHead : (taken kind pkid reason : ℕ) → (filters reasons topics : Span) → Head
-plainHead n kind pkid reason filters reasons topics = record {
+abbrev pub plainHead : (taken kind pkid reason : ℕ) → (filters reasons topics : Span) → Bounds → Head
+plainHead n kind pkid reason filters reasons topics b = record {
   taken = n;
   first = 0;
   second = 0;
@@ -53,11 +61,12 @@ plainHead n kind pkid reason filters reasons topics = record {
   filters = filters;
   reasons = reasons;
   topics = topics;
+  properties = b;
 }
 
--- the packet of each kind, and the bytes taken
-abbrev pub headOf : ℕ → Placed → Head
-headOf n (publish m) = record {
+-- the packet of each kind, the bytes taken, and where its properties start and end
+abbrev pub headOf : ℕ → Bounds → Placed → Head
+headOf n b (publish m) = record {
   taken = n;
   first = 0;
   second = 0;
@@ -72,25 +81,26 @@ headOf n (publish m) = record {
   filters = noSpan;
   reasons = noSpan;
   topics = noSpan;
+  properties = b;
 }
-headOf n (ack k m) = plainHead n k (m .ident) (m .reason) noSpan noSpan noSpan
-headOf n (subscribe m) = plainHead n 8 (m .ident) 0 (backSpan (m .filters)) noSpan noSpan
-headOf n (reply k m) = plainHead n k (m .ident) 0 noSpan (backSpan (m .reasons)) noSpan
-headOf n (unsubscribe m) = plainHead n 10 (m .ident) 0 noSpan noSpan (backSpan (m .topics))
-headOf n (ping k) = plainHead n k 0 0 noSpan noSpan noSpan
+headOf n b (ack k m) = plainHead n k (m .ident) (m .reason) noSpan noSpan noSpan b
+headOf n b (subscribe m) = plainHead n 8 (m .ident) 0 (backSpan (m .filters)) noSpan noSpan b
+headOf n b (reply k m) = plainHead n k (m .ident) 0 noSpan (backSpan (m .reasons)) noSpan b
+headOf n b (unsubscribe m) = plainHead n 10 (m .ident) 0 noSpan noSpan (backSpan (m .topics)) b
+headOf n b (ping k) = plainHead n k 0 0 noSpan noSpan noSpan b
 
 -- ---- an answer
 
 -- the numbers of a packet that takes n bytes
-unfoldable pub packetNumbers : ℕ → Placed → List ℕ
-packetNumbers n p = laidOut (headOf n p) (packetBlock p)
+unfoldable pub packetNumbers : ℕ → Bounds → Placed → List ℕ
+packetNumbers n b p = laidOut (headOf n b p) (packetBlock p)
 
 -- the number that is returned
 abbrev pub readNumber : Answer Placed → ℕ
 readNumber (accepted p n) = 0
 readNumber (refused k vs n) = k
 
--- the numbers that are stored
-unfoldable pub encoded : Answer Placed → List ℕ
-encoded (accepted p n) = packetNumbers n p
-encoded (refused k vs n) = laidOut (refusedHead n (valueOrZero vs 0) (valueOrZero vs 1)) noBlock
+-- the numbers that are stored, of an answer and P7's two numbers
+unfoldable pub encoded : Answer Placed → Fit (ℕ × ℕ) → List ℕ
+encoded (accepted p n) f = packetNumbers n (boundsAt f) p
+encoded (refused k vs n) f = laidOut (refusedHead n (valueOrZero vs 0) (valueOrZero vs 1)) noBlock

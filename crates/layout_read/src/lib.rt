@@ -19,6 +19,7 @@ use records::packet_record::Packet;
 use records::publish_record::Publish;
 use records::reply_record::Reply;
 use records::reply_record::ReplyKind;
+use records::span::Bounds;
 use records::span::Span;
 use records::subscribe_record::Subscribe;
 use records::unsubscribe_record::Unsubscribe;
@@ -28,9 +29,10 @@ ghost use mathlib.Core.Path.{_≡_};
 ghost use lib.Seq.{sets};
 ghost use Rattle.grammar.specs.Record.{publish, ack, subscribe, reply, unsubscribe, ping};
 ghost use Rattle.reading.specs.Refusal.{refusedAs};
+ghost use Rattle.reading.specs.Reader.{bad};
 ghost use Rattle.records.specs.Told.{toldError, toldAckKind, toldReplyKind};
 ghost use Rattle.records.specs.Said.{toldPublish, toldSubscribe, toldAck, toldReply, toldUnsubscribe, toldPacket};
-ghost use Rattle.records.specs.Answered.{told};
+ghost use Rattle.records.specs.Answered.{told, carried};
 ghost use Rattle.kinds.specs.Kinds.{numberOf};
 ghost use Rattle.layout_read.specs.Record.{noSpan, refusedHead, plainHead, headOf, packetNumbers, readNumber, encoded};
 
@@ -46,6 +48,7 @@ fn refused_head(taken: usize, first: u64, second: u64) -> Head
     ensures { λ r. ⌜ r ≡ refusedHead taken first second ⌝ }
 {
     let nowhere = no_span();
+    let properties = Bounds { start: 0, end: 0 };
     Head {
         taken: taken as u64,
         first,
@@ -61,6 +64,7 @@ fn refused_head(taken: usize, first: u64, second: u64) -> Head
         filters: nowhere,
         reasons: nowhere,
         topics: nowhere,
+        properties,
     }
 }
 
@@ -70,8 +74,8 @@ fn kind_number(kind: Kind) -> u64
     number_of(kind) as u64
 }
 
-fn publish_head(taken: usize, m: Publish) -> Head
-    ensures { λ r. ⌜ r ≡ headOf taken (publish (toldPublish m)) ⌝ }
+fn publish_head(taken: usize, properties: Bounds, m: Publish) -> Head
+    ensures { λ r. ⌜ r ≡ headOf taken properties (publish (toldPublish m)) ⌝ }
 {
     let nowhere = no_span();
     let qos = m.qos;
@@ -92,6 +96,7 @@ fn publish_head(taken: usize, m: Publish) -> Head
         filters: nowhere,
         reasons: nowhere,
         topics: nowhere,
+        properties,
     }
 }
 
@@ -104,8 +109,9 @@ fn plain_head(
     filters: Span,
     reasons: Span,
     topics: Span,
+    properties: Bounds,
 ) -> Head
-    ensures { λ r. ⌜ r ≡ plainHead taken (numberOf kind) pkid reason filters reasons topics ⌝ }
+    ensures { λ r. ⌜ r ≡ plainHead taken (numberOf kind) pkid reason filters reasons topics properties ⌝ }
 {
     let nowhere = no_span();
     Head {
@@ -123,20 +129,21 @@ fn plain_head(
         filters,
         reasons,
         topics,
+        properties,
     }
 }
 
 // ---- a packet
 
-fn publish_numbers(taken: usize, m: Publish) -> [u64; 42]
-    ensures { λ r. ⌜ r ≡ packetNumbers taken (publish (toldPublish m)) ⌝ }
+fn publish_numbers(taken: usize, place: Bounds, m: Publish) -> [u64; 44]
+    ensures { λ r. ⌜ r ≡ packetNumbers taken place (publish (toldPublish m)) ⌝ }
 {
     let properties = m.properties;
-    numbers(publish_head(taken, m), publish_block(properties))
+    numbers(publish_head(taken, place, m), publish_block(properties))
 }
 
-fn ack_numbers(taken: usize, kind: AckKind, m: Ack) -> [u64; 42]
-    ensures { λ r. ⌜ r ≡ packetNumbers taken (ack (toldAckKind kind) (toldAck m)) ⌝ }
+fn ack_numbers(taken: usize, place: Bounds, kind: AckKind, m: Ack) -> [u64; 44]
+    ensures { λ r. ⌜ r ≡ packetNumbers taken place (ack (toldAckKind kind) (toldAck m)) ⌝ }
 {
     let properties = m.properties;
     let nowhere = no_span();
@@ -148,12 +155,13 @@ fn ack_numbers(taken: usize, kind: AckKind, m: Ack) -> [u64; 42]
         nowhere,
         nowhere,
         nowhere,
+        place,
     );
     numbers(head, props_block(properties))
 }
 
-fn subscribe_numbers(taken: usize, m: Subscribe) -> [u64; 42]
-    ensures { λ r. ⌜ r ≡ packetNumbers taken (subscribe (toldSubscribe m)) ⌝ }
+fn subscribe_numbers(taken: usize, place: Bounds, m: Subscribe) -> [u64; 44]
+    ensures { λ r. ⌜ r ≡ packetNumbers taken place (subscribe (toldSubscribe m)) ⌝ }
 {
     let filters = m.filters;
     let properties = m.properties;
@@ -166,12 +174,13 @@ fn subscribe_numbers(taken: usize, m: Subscribe) -> [u64; 42]
         filters,
         nowhere,
         nowhere,
+        place,
     );
     numbers(head, props_block(properties))
 }
 
-fn reply_numbers(taken: usize, kind: ReplyKind, m: Reply) -> [u64; 42]
-    ensures { λ r. ⌜ r ≡ packetNumbers taken (reply (toldReplyKind kind) (toldReply m)) ⌝ }
+fn reply_numbers(taken: usize, place: Bounds, kind: ReplyKind, m: Reply) -> [u64; 44]
+    ensures { λ r. ⌜ r ≡ packetNumbers taken place (reply (toldReplyKind kind) (toldReply m)) ⌝ }
 {
     let reasons = m.reasons;
     let properties = m.properties;
@@ -184,12 +193,13 @@ fn reply_numbers(taken: usize, kind: ReplyKind, m: Reply) -> [u64; 42]
         nowhere,
         reasons,
         nowhere,
+        place,
     );
     numbers(head, props_block(properties))
 }
 
-fn unsubscribe_numbers(taken: usize, m: Unsubscribe) -> [u64; 42]
-    ensures { λ r. ⌜ r ≡ packetNumbers taken (unsubscribe (toldUnsubscribe m)) ⌝ }
+fn unsubscribe_numbers(taken: usize, place: Bounds, m: Unsubscribe) -> [u64; 44]
+    ensures { λ r. ⌜ r ≡ packetNumbers taken place (unsubscribe (toldUnsubscribe m)) ⌝ }
 {
     let topics = m.topics;
     let properties = m.properties;
@@ -202,38 +212,39 @@ fn unsubscribe_numbers(taken: usize, m: Unsubscribe) -> [u64; 42]
         nowhere,
         nowhere,
         topics,
+        place,
     );
     numbers(head, props_block(properties))
 }
 
-fn ping_numbers(taken: usize, kind: Kind) -> [u64; 42]
-    ensures { λ r. ⌜ r ≡ packetNumbers taken (ping (numberOf kind)) ⌝ }
+fn ping_numbers(taken: usize, place: Bounds, kind: Kind) -> [u64; 44]
+    ensures { λ r. ⌜ r ≡ packetNumbers taken place (ping (numberOf kind)) ⌝ }
 {
     let nowhere = no_span();
     numbers(
-        plain_head(taken, kind, 0, 0, nowhere, nowhere, nowhere),
+        plain_head(taken, kind, 0, 0, nowhere, nowhere, nowhere, place),
         no_block(),
     )
 }
 
-fn packet_numbers(taken: usize, p: Packet) -> [u64; 42]
-    ensures { λ r. ⌜ r ≡ packetNumbers taken (toldPacket p) ⌝ }
+fn packet_numbers(taken: usize, place: Bounds, p: Packet) -> [u64; 44]
+    ensures { λ r. ⌜ r ≡ packetNumbers taken place (toldPacket p) ⌝ }
 {
     match p {
-        Packet::Publish(m) => publish_numbers(taken, m),
-        Packet::Ack(k, m) => ack_numbers(taken, k, m),
-        Packet::Subscribe(m) => subscribe_numbers(taken, m),
-        Packet::Reply(k, m) => reply_numbers(taken, k, m),
-        Packet::Unsubscribe(m) => unsubscribe_numbers(taken, m),
-        Packet::PingReq => ping_numbers(taken, Kind::PingReq),
-        Packet::PingResp => ping_numbers(taken, Kind::PingResp),
+        Packet::Publish(m) => publish_numbers(taken, place, m),
+        Packet::Ack(k, m) => ack_numbers(taken, place, k, m),
+        Packet::Subscribe(m) => subscribe_numbers(taken, place, m),
+        Packet::Reply(k, m) => reply_numbers(taken, place, k, m),
+        Packet::Unsubscribe(m) => unsubscribe_numbers(taken, place, m),
+        Packet::PingReq => ping_numbers(taken, place, Kind::PingReq),
+        Packet::PingResp => ping_numbers(taken, place, Kind::PingResp),
     }
 }
 
 // ---- an answer
 
-fn error_numbers(taken: usize, e: Error) -> [u64; 42]
-    ensures { λ r. ⌜ r ≡ encoded (refusedAs (toldError e) taken) ⌝ }
+fn error_numbers(taken: usize, e: Error) -> [u64; 44]
+    ensures { λ r. ⌜ r ≡ encoded (refusedAs (toldError e) taken) (bad (toldError e)) ⌝ }
 {
     let v = values(e);
     numbers(
@@ -242,11 +253,11 @@ fn error_numbers(taken: usize, e: Error) -> [u64; 42]
     )
 }
 
-fn read_numbers(read: Read) -> [u64; 42]
-    ensures { λ r. ⌜ r ≡ encoded (told read) ⌝ }
+fn read_numbers(read: Read) -> [u64; 44]
+    ensures { λ r. ⌜ r ≡ encoded (told read) (carried read) ⌝ }
 {
     match read {
-        Read::Packet(p, taken) => packet_numbers(taken, p),
+        Read::Packet(p, place, taken) => packet_numbers(taken, place, p),
         Read::Refused(e, taken) => error_numbers(taken, e),
     }
 }
@@ -255,7 +266,7 @@ fn read_number(read: Read) -> u32
     ensures { λ r. ⌜ r ≡ readNumber (told read) ⌝ }
 {
     match read {
-        Read::Packet(_, _) => 0,
+        Read::Packet(_, _, _) => 0,
         Read::Refused(e, _) => number(e) as u32,
     }
 }
@@ -263,7 +274,7 @@ fn read_number(read: Read) -> u32
 // 0, or the refusal's number; every number of the layout is stored.
 pub fn store_read(read: Read, into: &mut [u64]) -> u32
     ensures number { λ r. ⌜ r ≡ readNumber (told read) ⌝ }
-    ensures stored { λ r. ⌜ now (into .exit) ≡ sets (now (into .entry)) 0 (encoded (told read)) ⌝ }
+    ensures stored { λ r. ⌜ now (into .exit) ≡ sets (now (into .entry)) 0 (encoded (told read) (carried read)) ⌝ }
 {
     let numbers = read_numbers(read);
     store(&mut *into, &numbers);

@@ -1,13 +1,14 @@
 -- The answers of `records`: a read, sizes, items and a forward rule; the values of a refusal; a limit. Assumes nothing.
-use Rattle.records.specs.Answered.{told, toldSized, toldWritten, toldUser, toldIdentifier, toldFilterItem, toldReasonItem, toldTopicItem, toldGotRule}
+use Rattle.records.specs.Answered.{told, carried, toldSized, toldWritten, toldUser, toldIdentifier, toldFilterItem, toldReasonItem, toldTopicItem, toldGotRule}
 use Rattle.records.specs.Told.{toldValues, limitOf}
 use Rattle.records.proofs.Answered.{backRead, back-read, backSized, back-sized, backWritten, back-written, backUser, back-user, backIdentifier, back-identifier, backFilterItem, back-filter-item, backReasonItem, back-reason-item, backTopicItem, back-topic-item, backGotRule, back-got-rule}
 use Rattle.records.proofs.Told.{backValues, back-values, backLimit, back-limit}
 use Rattle.one_result.specs.OneResult.{OneResult}
 use Rattle.one_result.proofs.Laws.{one-by}
 
-pub read-same : OneResult told
-read-same = one-by told backRead back-read
+-- 02's two numbers included
+pub read-same : OneResult (λ r. (told r, carried r))
+read-same = one-by (λ r. (told r, carried r)) backRead back-read
 
 pub sized-same : OneResult toldSized
 sized-same = one-by toldSized backSized back-sized

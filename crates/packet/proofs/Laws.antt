@@ -14,15 +14,21 @@ use Rattle.reading.specs.Refusal.{Refusal, nr, Answer, refusedAs}
 use Rattle.reading.specs.Reader.{Fit, got, bad, _>>_, guard, mapFit, isFit}
 use Rattle.reading.specs.Read.{frameOf, fieldsFit, layoutFit, bodyFit, bodyAnswer, wholeAnswer, frameAnswer, readAs, readOf}
 use Rattle.reading.specs.Place.{asPlaces, Placed, readPlacedOf, sayAnswer}
+use Rattle.reading.specs.Bounds.{boundsBy}
 use Rattle.reading.proofs.Reading.{got-inj}
 use Rattle.reading.proofs.Faults.{answered}
 use Rattle.reading.proofs.Places.{placed-says}
-use Rattle.records.specs.Answered.{told}
+use Rattle.reading.proofs.Bounds.{read-bounds}
+use Rattle.records.specs.Told.{limitOf}
+use Rattle.records.specs.Answered.{told, Bounded}
+use Rattle.records.proofs.Answered.{refusal-bounded}
+use Rattle.records.specs.declared.error.Error.{Error}
+use Rattle.records.specs.declared.answer.Limit.{Limit}
 use Rattle.records.specs.declared.answer.Read.{Read}
 use Rattle.framing.specs.Told.{frameAt}
 use Rattle.kinds.specs.Kinds.{kindRow}
 use Rattle.framing.proofs.Laws.{checked-within, checked-read, checked-refused}
-use Rattle.packet.specs.Told.{takenIn, Judged}
+use Rattle.packet.specs.Told.{Tells, Meets, takenIn, Judged}
 
 -- ---- the body of a frame whose first byte is x
 
@@ -77,6 +83,14 @@ left-some s at h = rw (drop-cons s at 0 h)
 
 -- ---- the answer
 
+-- what is told may be said in other words
+pub through : {r : Read} {a b : Answer Placed} → Tells r a → a ≡ b → Tells r b
+through t e = record { answer = t .answer ∙ e; bounded = t .bounded }
+
+-- 02, P7: a refusal has no numbers to carry
+pub refusing : {e : Error} {n : ℕ} {a : Answer Placed} → told (Read.Refused e n) ≡ a → Tells (Read.Refused e n) a
+refusing {e = e} {n = n} i = record { answer = i; bounded = refusal-bounded e n }
+
 -- what the body of a whole frame says is the answer to it
 pub whole-as : (n x : ℕ) (b : List ℕ) {f : Fit Placed} → f ≡ bodyFit asPlaces x n b → bodyAnswer n f ≡ wholeAnswer asPlaces n (x, b)
 unfolding wholeAnswer
@@ -127,5 +141,12 @@ module _ (limit : Option ℕ) (s : List ℕ) (r : Read) (e : told r ≡ readPlac
   pub judged : Judged limit s r
   judged a = (λ i. answered limit s a .0 (got-inj (sym says-read ∙ i)), λ v. says-read ∙ ap got (answered limit s a .1 v))
 
-  pub promised : (told r ≡ readPlacedOf limit s) × ((takenIn (told r) ≤ length s) × Judged limit s r)
-  promised = (e, (taken-within limit s r e, judged))
+-- 02, P7: what the record says of its two numbers is what the frame says of them
+pub promised : (limit : Limit) (s : List ℕ) (r : Read) → Tells r (readPlacedOf (limitOf limit) s) → Meets limit s r × ((takenIn (told r) ≤ length s) × Judged (limitOf limit) s r)
+promised limit s r t =
+    let m : Meets limit s r = record { answer = t .answer; carries = t .bounded ∙ ap boundsBy (t .answer) ∙ sym (read-bounds (limitOf limit) s) } in
+    (m, (taken-within (limitOf limit) s r (t .answer), judged (limitOf limit) s r (t .answer)))
+
+-- and back
+pub meets-bounded : {limit : Limit} {s : List ℕ} {r : Read} → Meets limit s r → Bounded r
+meets-bounded {limit = limit} {s = s} m = m .carries ∙ read-bounds (limitOf limit) s ∙ ap boundsBy (sym (m .answer))

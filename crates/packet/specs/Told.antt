@@ -8,15 +8,23 @@ use Rattle.grammar.specs.Sentence.{Packet}
 use Rattle.reading.specs.Refusal.{Answer, accepted, refused}
 use Rattle.reading.specs.Fault.{Verdict}
 use Rattle.reading.specs.Reader.{got}
-use Rattle.reading.specs.Place.{readPlacedOf, sayAnswer}
+use Rattle.reading.specs.Place.{Placed, readPlacedOf, sayAnswer}
+use Rattle.reading.specs.Bounds.{boundsOf}
 use Rattle.records.specs.Told.{limitOf}
-use Rattle.records.specs.Answered.{told}
+use Rattle.records.specs.Answered.{told, carried, Bounded}
 use Rattle.records.specs.declared.answer.Limit.{Limit}
 use Rattle.records.specs.declared.answer.Read.{Read}
 
--- the contract of `read`: the answer r to the stream s tells what `reading` answers, every number and place in it
-abbrev pub Meets : Limit → List ℕ → Read → Type 0
-Meets limit s r = told r ≡ readPlacedOf (limitOf limit) s
+-- of a whole frame: the answer r tells a, and its two numbers are those that its record says
+pub record Tells (r : Read) (a : Answer Placed) : Type 0 where
+  pub answer : told r ≡ a
+  pub bounded : Bounded r
+
+-- the contract of `read`: the answer r to the stream s tells what `reading` answers, every number and place in it; 02, P7: "Every record
+-- read shall also carry where its properties start, after the block's length, and end, within the frame"
+pub record Meets (limit : Limit) (s : List ℕ) (r : Read) : Type 0 where
+  pub answer : told r ≡ readPlacedOf (limitOf limit) s
+  pub carries : carried r ≡ boundsOf (limitOf limit) s
 
 -- 01: "Taken is the count of stream bytes used up"
 abbrev pub takenIn : {A : Type 0} → Answer A → ℕ

@@ -17,6 +17,7 @@ use Rattle.records.specs.Told.{toldSpan, toldAckKind, toldReplyKind}
 use Rattle.records.specs.Said.{toldPublishProperties, toldProperties, toldPublishBlock, toldBlock, toldPublish, toldSubscribe, toldAck, toldReply, toldUnsubscribe}
 use Rattle.records.specs.declared.answer.Limit.{Limit}
 use Rattle.records.specs.declared.answer.Read.{Read}
+use Rattle.records.specs.declared.span.Bounds.{Bounds}
 use Rattle.records.specs.declared.packet_record.Packet as code
 use Rattle.records.specs.declared.ack_record.Ack.{Ack}
 use Rattle.records.specs.declared.ack_record.AckKind.{AckKind}
@@ -134,70 +135,70 @@ itself (bad k) = refl
 
 -- ---- of an answer that meets the contract of `packet::read`
 
-module _ (limit : Limit) (s : List ℕ) (r : Read) (h : Meets limit s r) (n : ℕ) where
+module _ (limit : Limit) (s : List ℕ) (r : Read) (h : Meets limit s r) (o : Bounds) (n : ℕ) where
   -- user properties and subscription identifiers of a Publish that has a block
-  pub publish-items : (m : Publish) (p : PublishProperties) → r ≡ Read.Packet (code.Packet.Publish m) n → m .properties ≡ MaybePublishProperties.Present p
+  pub publish-items : (m : Publish) (p : PublishProperties) → r ≡ Read.Packet (code.Packet.Publish m) o n → m .properties ≡ MaybePublishProperties.Present p
       → (w : record-of.Publish (List ℕ) List) × (qs : PublishProps (List ℕ) List)
       × Says s r (accepted (publish w) n) × (w .props ≡ some qs) × UserItems s publishPlace (p .block) (qs .user) × IdentifierItems s (p .block) (qs .subscriptions)
   publish-items m p e f =
-      let (v, a, t) = items limit s r h (code.Packet.Publish m) n e in
+      let (v, a, t) = items limit s r h (code.Packet.Publish m) o n e in
       let (w, i, b) = of-publish s t (toldPublish m) refl in
       let (qs, j, l) = present b (toldPublishProperties p) (ap toldPublishBlock f) in
       (w, qs, subst (λ (x : Packet). Says s r (accepted x n)) i a, j, λ k u c. ap (onGot (sayVal s)) c ∙ l .0 k, λ k u c. ap (onGot (sayVal s)) c ∙ l .1 k)
 
   -- user properties of a publish acknowledgement that has a block
-  pub ack-items : (k : AckKind) (m : Ack) (p : Properties) → r ≡ Read.Packet (code.Packet.Ack k m) n → m .properties ≡ MaybeProperties.Present p
+  pub ack-items : (k : AckKind) (m : Ack) (p : Properties) → r ≡ Read.Packet (code.Packet.Ack k m) o n → m .properties ≡ MaybeProperties.Present p
       → (w : record-of.Ack (List ℕ) List) × (qs : Props (List ℕ) List) × Says s r (accepted (ack (toldAckKind k) w) n) × (w .props ≡ some qs) × UserItems s ackPlace (p .block) (qs .user)
   ack-items k m p e f =
-      let (v, a, t) = items limit s r h (code.Packet.Ack k m) n e in
+      let (v, a, t) = items limit s r h (code.Packet.Ack k m) o n e in
       let (w, i, b) = of-ack s t (toldAckKind k) (toldAck m) refl in
       let (qs, j, l) = block-items s ackPlace (m .properties) p b f in
       (w, qs, subst (λ (x : Packet). Says s r (accepted x n)) i a, j, l)
 
   -- user properties of a Subscribe that has a block
-  pub subscribe-items : (m : Subscribe) (p : Properties) → r ≡ Read.Packet (code.Packet.Subscribe m) n → m .properties ≡ MaybeProperties.Present p
+  pub subscribe-items : (m : Subscribe) (p : Properties) → r ≡ Read.Packet (code.Packet.Subscribe m) o n → m .properties ≡ MaybeProperties.Present p
       → (w : record-of.Subscribe (List ℕ) List) × (qs : Props (List ℕ) List) × Says s r (accepted (subscribe w) n) × (w .props ≡ some qs) × UserItems s subscribePlace (p .block) (qs .user)
   subscribe-items m p e f =
-      let (v, a, t) = items limit s r h (code.Packet.Subscribe m) n e in
+      let (v, a, t) = items limit s r h (code.Packet.Subscribe m) o n e in
       let (w, i, b, g) = of-subscribe s t (toldSubscribe m) refl in
       let (qs, j, l) = block-items s subscribePlace (m .properties) p b f in
       (w, qs, subst (λ (x : Packet). Says s r (accepted x n)) i a, j, l)
 
   -- user properties of a SubAck or UnsubAck that has a block
-  pub reply-items : (k : ReplyKind) (m : Reply) (p : Properties) → r ≡ Read.Packet (code.Packet.Reply k m) n → m .properties ≡ MaybeProperties.Present p
+  pub reply-items : (k : ReplyKind) (m : Reply) (p : Properties) → r ≡ Read.Packet (code.Packet.Reply k m) o n → m .properties ≡ MaybeProperties.Present p
       → (w : record-of.Reply (List ℕ) List) × (qs : Props (List ℕ) List) × Says s r (accepted (reply (toldReplyKind k) w) n) × (w .props ≡ some qs) × UserItems s ackPlace (p .block) (qs .user)
   reply-items k m p e f =
-      let (v, a, t) = items limit s r h (code.Packet.Reply k m) n e in
+      let (v, a, t) = items limit s r h (code.Packet.Reply k m) o n e in
       let (w, i, b, g) = of-reply s t (toldReplyKind k) (toldReply m) refl in
       let (qs, j, l) = block-items s ackPlace (m .properties) p b f in
       (w, qs, subst (λ (x : Packet). Says s r (accepted x n)) i a, j, l)
 
   -- user properties of an Unsubscribe that has a block
-  pub unsubscribe-items : (m : Unsubscribe) (p : Properties) → r ≡ Read.Packet (code.Packet.Unsubscribe m) n → m .properties ≡ MaybeProperties.Present p
+  pub unsubscribe-items : (m : Unsubscribe) (p : Properties) → r ≡ Read.Packet (code.Packet.Unsubscribe m) o n → m .properties ≡ MaybeProperties.Present p
       → (w : record-of.Unsubscribe (List ℕ) List) × (qs : Props (List ℕ) List) × Says s r (accepted (unsubscribe w) n) × (w .props ≡ some qs) × UserItems s unsubscribePlace (p .block) (qs .user)
   unsubscribe-items m p e f =
-      let (v, a, t) = items limit s r h (code.Packet.Unsubscribe m) n e in
+      let (v, a, t) = items limit s r h (code.Packet.Unsubscribe m) o n e in
       let (w, i, b, g) = of-unsubscribe s t (toldUnsubscribe m) refl in
       let (qs, j, l) = block-items s unsubscribePlace (m .properties) p b f in
       (w, qs, subst (λ (x : Packet). Says s r (accepted x n)) i a, j, l)
 
   -- filters of a Subscribe
-  pub filter-items : (m : Subscribe) → r ≡ Read.Packet (code.Packet.Subscribe m) n → (w : record-of.Subscribe (List ℕ) List) × Says s r (accepted (subscribe w) n) × FilterItems s (m .filters) (w .filters)
+  pub filter-items : (m : Subscribe) → r ≡ Read.Packet (code.Packet.Subscribe m) o n → (w : record-of.Subscribe (List ℕ) List) × Says s r (accepted (subscribe w) n) × FilterItems s (m .filters) (w .filters)
   filter-items m e =
-      let (v, a, t) = items limit s r h (code.Packet.Subscribe m) n e in
+      let (v, a, t) = items limit s r h (code.Packet.Subscribe m) o n e in
       let (w, i, b, g) = of-subscribe s t (toldSubscribe m) refl in
       (w, subst (λ (x : Packet). Says s r (accepted x n)) i a, λ k u c. ap (onGot (sayFilter s)) c ∙ g k)
 
   -- reasons of a SubAck or UnsubAck
-  pub reason-items : (k : ReplyKind) (m : Reply) → r ≡ Read.Packet (code.Packet.Reply k m) n → (w : record-of.Reply (List ℕ) List) × Says s r (accepted (reply (toldReplyKind k) w) n) × ReasonItems s k (m .reasons) (w .reasons)
+  pub reason-items : (k : ReplyKind) (m : Reply) → r ≡ Read.Packet (code.Packet.Reply k m) o n → (w : record-of.Reply (List ℕ) List) × Says s r (accepted (reply (toldReplyKind k) w) n) × ReasonItems s k (m .reasons) (w .reasons)
   reason-items k m e =
-      let (v, a, t) = items limit s r h (code.Packet.Reply k m) n e in
+      let (v, a, t) = items limit s r h (code.Packet.Reply k m) o n e in
       let (w, i, b, g) = of-reply s t (toldReplyKind k) (toldReply m) refl in
       (w, subst (λ (x : Packet). Says s r (accepted x n)) i a, λ j u c. c ∙ itself (reasonAt s (toldSpan (m .reasons)) (reasonsOf (toldReplyKind k)) j) ∙ g j)
 
   -- topics of an Unsubscribe
-  pub topic-items : (m : Unsubscribe) → r ≡ Read.Packet (code.Packet.Unsubscribe m) n → (w : record-of.Unsubscribe (List ℕ) List) × Says s r (accepted (unsubscribe w) n) × TopicItems s (m .topics) (w .topics)
+  pub topic-items : (m : Unsubscribe) → r ≡ Read.Packet (code.Packet.Unsubscribe m) o n → (w : record-of.Unsubscribe (List ℕ) List) × Says s r (accepted (unsubscribe w) n) × TopicItems s (m .topics) (w .topics)
   topic-items m e =
-      let (v, a, t) = items limit s r h (code.Packet.Unsubscribe m) n e in
+      let (v, a, t) = items limit s r h (code.Packet.Unsubscribe m) o n e in
       let (w, i, b, g) = of-unsubscribe s t (toldUnsubscribe m) refl in
       (w, subst (λ (x : Packet). Says s r (accepted x n)) i a, λ k u c. ap (onGot (heldOf s)) c ∙ g k)

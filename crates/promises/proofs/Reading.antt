@@ -13,6 +13,7 @@ use Rattle.reading.specs.Refusal.{Refusal, nr, Answer, accepted, refused, refus
 use Rattle.reading.specs.Reader.{Fit, got, bad}
 use Rattle.reading.specs.Read.{readOf}
 use Rattle.reading.specs.Place.{asPlaces, Placed, onGot, say, sayAnswer, Items}
+use Rattle.reading.specs.Bounds.{boundsOf, boundsIn, boundsBy}
 use Rattle.reading.specs.Rows.{Above, insufficient, malformed, exceeded, invalid, required, notCarried, FramingGiven, Breaks, lacks}
 use Rattle.reading.specs.Demand.{Begins, Taken}
 use Rattle.reading.proofs.Reading.{bad-got, got-inj}
@@ -22,12 +23,13 @@ use Rattle.reading.proofs.Rows.{row-1, row-2, row-3, row-4, row-5, row-6, field
 use Rattle.reading.proofs.Theorems as reading
 use Rattle.records.specs.Told.{toldError, rowOf, valuesOf, limitOf}
 use Rattle.records.specs.Said.{toldPacket}
-use Rattle.records.specs.Answered.{told}
-use Rattle.records.proofs.Answered.{read-injective}
+use Rattle.records.specs.Answered.{told, carried}
+use Rattle.records.proofs.Answered.{read-injective, refusal-bounded}
 use Rattle.records.specs.declared.answer.Limit.{Limit}
 use Rattle.records.specs.declared.answer.Read.{Read}
 use Rattle.records.specs.declared.error.Error.{Error}
 use Rattle.records.specs.declared.packet_record.Packet as code
+use Rattle.records.specs.declared.span.Bounds.{Bounds}
 use Rattle.packet.specs.Told.{Meets, takenIn, Says, Judged}
 use Rattle.packet.proofs.Laws as packet
 
@@ -47,14 +49,14 @@ numbered (nr k vs) = refl
 module _ (limit : Limit) (s : List ℕ) (r : Read) (m : Meets limit s r) where
   -- what the answer says is what the definition answers
   says-read : sayAnswer s (told r) ≡ got (readOf (limitOf limit) s)
-  says-read = packet.says-read (limitOf limit) s r m
+  says-read = packet.says-read (limitOf limit) s r (m .answer)
 
   says : (a : Answer Packet) → Says s r a ↔ (readOf (limitOf limit) s ≡ a)
   says a = (λ e. got-inj (sym says-read ∙ e), λ e. says-read ∙ ap got e)
 
-  -- inputs admit one answer only, with every number and place in it
+  -- inputs admit one answer only, with every number and place in it, P7's two numbers included
   pub one-answer : (r′ : Read) → Meets limit s r′ → r ≡ r′
-  one-answer r′ m′ = read-injective (m ∙ sym m′)
+  one-answer r′ m′ = read-injective (packet.meets-bounded m) (packet.meets-bounded m′) (m .answer ∙ sym (m′ .answer))
 
   -- the answer says something: no place in it fails to be read
   pub says-something : (a : Answer Packet) × Says s r a
@@ -62,11 +64,11 @@ module _ (limit : Limit) (s : List ℕ) (r : Read) (m : Meets limit s r) where
 
   -- and what it says is the verdict on the stream: a sentence, or the first fault
   pub verdict : Judged (limitOf limit) s r
-  verdict = packet.judged (limitOf limit) s r m
+  verdict = packet.judged (limitOf limit) s r (m .answer)
 
   -- no more bytes are taken than the stream has
   pub taken-within : takenIn (told r) ≤ length s
-  taken-within = packet.taken-within (limitOf limit) s r m
+  taken-within = packet.taken-within (limitOf limit) s r (m .answer)
 
   -- ---- each refusal is given exactly when its row says, with its values and the bytes taken
 
@@ -74,7 +76,7 @@ module _ (limit : Limit) (s : List ℕ) (r : Read) (m : Meets limit s r) where
   refused-as e t =
       let k = toldError e in
       let p = placed-refused (limitOf limit) s (rowOf k) (valuesOf k) t in
-      (λ i. p .0 (sym m ∙ ap told i ∙ row-of k t), λ i. read-injective (m ∙ p .1 i ∙ sym (row-of k t)))
+      (λ i. p .0 (sym (m .answer) ∙ ap told i ∙ row-of k t), λ i. read-injective (packet.meets-bounded m) (refusal-bounded e t) (m .answer ∙ p .1 i ∙ sym (row-of k t)))
 
   -- 1
   pub insufficient-bytes : (n t : ℕ) → (r ≡ Read.Refused (Error.InsufficientBytes n) t) ↔ FramingGiven (limitOf limit) insufficient s (n ∷ []) t
@@ -123,35 +125,43 @@ module _ (limit : Limit) (s : List ℕ) (r : Read) (m : Meets limit s r) where
   -- ---- an accepted record, its places looked up
 
   -- a record p says a value v, and v is what the answer says
-  pub record-says : (p : code.Packet) (n : ℕ) → r ≡ Read.Packet p n → (v : Packet) × (say s (toldPacket p) ≡ got v) × Says s r (accepted v n)
-  record-says p n i = go (say s (toldPacket p)) refl
+  pub record-says : (p : code.Packet) (b : Bounds) (n : ℕ) → r ≡ Read.Packet p b n → (v : Packet) × (say s (toldPacket p) ≡ got v) × Says s r (accepted v n)
+  record-says p b n i = go (say s (toldPacket p)) refl
     where
       go : (f : Fit Packet) → say s (toldPacket p) ≡ f → (v : Packet) × (say s (toldPacket p) ≡ got v) × Says s r (accepted v n)
       go (got v) e = (v, e, ap (λ (q : Read). sayAnswer s (told q)) i ∙ ap (onGot (λ (w : Packet). accepted w n)) e)
       go (bad k) e = absurd (bad-got (sym (ap (λ (q : Read). sayAnswer s (told q)) i ∙ ap (onGot (λ (w : Packet). accepted w n)) e) ∙ says-read))
 
   -- and back: what says an accepted value is a record
-  pub says-record : (v : Packet) (n : ℕ) → Says s r (accepted v n) → (p : code.Packet) × (r ≡ Read.Packet p n) × (say s (toldPacket p) ≡ got v)
+  pub says-record : (v : Packet) (n : ℕ) → Says s r (accepted v n) → (p : code.Packet) × (b : Bounds) × (r ≡ Read.Packet p b n) × (say s (toldPacket p) ≡ got v)
   says-record v n = go r refl
     where
-      held : (p : code.Packet) (n′ : ℕ) → r ≡ Read.Packet p n′ → (f : Fit Packet) → say s (toldPacket p) ≡ f → onGot (λ (w : Packet). accepted w n′) f ≡ got (accepted v n)
-          → (q : code.Packet) × (r ≡ Read.Packet q n) × (say s (toldPacket q) ≡ got v)
-      held p n′ i (got w) e j =
+      held : (p : code.Packet) (b : Bounds) (n′ : ℕ) → r ≡ Read.Packet p b n′ → (f : Fit Packet) → say s (toldPacket p) ≡ f → onGot (λ (w : Packet). accepted w n′) f ≡ got (accepted v n)
+          → (q : code.Packet) × (b : Bounds) × (r ≡ Read.Packet q b n) × (say s (toldPacket q) ≡ got v)
+      held p b n′ i (got w) e j =
           let h : accepted w n′ ≡ accepted v n = got-inj j in
           let u : n′ ≡ n = cc in
           let x : w ≡ v = cc in
-          (p, i ∙ ap (Read.Packet p) u, e ∙ ap got x)
-      held p n′ i (bad k) e j = absurd (bad-got j)
+          (p, b, i ∙ ap (Read.Packet p b) u, e ∙ ap got x)
+      held p b n′ i (bad k) e j = absurd (bad-got j)
 
-      go : (q : Read) → r ≡ q → sayAnswer s (told q) ≡ got (accepted v n) → (p : code.Packet) × (r ≡ Read.Packet p n) × (say s (toldPacket p) ≡ got v)
-      go (Read.Packet p n′) i e = held p n′ i (say s (toldPacket p)) refl e
+      go : (q : Read) → r ≡ q → sayAnswer s (told q) ≡ got (accepted v n) → (p : code.Packet) × (b : Bounds) × (r ≡ Read.Packet p b n) × (say s (toldPacket p) ≡ got v)
+      go (Read.Packet p b n′) i e = held p b n′ i (say s (toldPacket p)) refl e
       go (Read.Refused k t) i e = absurd (no-accept (got-inj (rw (row-of (toldError k) t) at e)))
 
   -- the items of its lists, n from 0, are those of the value, and then 21
-  pub items : (p : code.Packet) (n : ℕ) → r ≡ Read.Packet p n → (w : Packet) × Says s r (accepted w n) × Items s (toldPacket p) w
-  items p n i =
-      let (w, e, t) = reading.items (limitOf limit) s (toldPacket p) n (sym m ∙ ap told i) in
+  pub items : (p : code.Packet) (b : Bounds) (n : ℕ) → r ≡ Read.Packet p b n → (w : Packet) × Says s r (accepted w n) × Items s (toldPacket p) w
+  items p b n i =
+      let (w, e, t) = reading.items (limitOf limit) s (toldPacket p) n (sym (m .answer) ∙ ap told i) in
       (w, says (accepted w n) .1 e, t)
+
+  -- 02, P7: "Every record read shall also carry where its properties start, after the block's length, and end, within the frame"
+  pub bounds : (p : code.Packet) (b : Bounds) (n : ℕ) → r ≡ Read.Packet p b n → boundsOf (limitOf limit) s ≡ got (b .start, b .end)
+  bounds p b n i = sym (m .carries) ∙ ap carried i
+
+  -- 02, P7: "When absent they are equal": they are where the record's own block stands, or both the place where what follows it begins
+  pub bounds-said : (p : code.Packet) (b : Bounds) (n : ℕ) → r ≡ Read.Packet p b n → (b .start, b .end) ≡ boundsIn (toldPacket p) n
+  bounds-said p b n i = got-inj (ap carried (sym i) ∙ packet.meets-bounded m ∙ ap (λ (q : Read). boundsBy (told q)) i)
 
 -- ---- demand 3
 
@@ -161,20 +171,20 @@ module _ (s : List ℕ) (r : Read) (m : Meets Limit.Unlimited s r) where
   succeeds v n = both (says Limit.Unlimited s r m (accepted v n)) (reading.succeeds s v n)
 
   -- a sentence is answered with a record that says it, and its length
-  pub sentence-read : (v : Packet) (n : ℕ) → Begins Sentence s v n → (p : code.Packet) × (r ≡ Read.Packet p n) × (say s (toldPacket p) ≡ got v)
+  pub sentence-read : (v : Packet) (n : ℕ) → Begins Sentence s v n → (p : code.Packet) × (b : Bounds) × (r ≡ Read.Packet p b n) × (say s (toldPacket p) ≡ got v)
   sentence-read v n b = says-record Limit.Unlimited s r m v n (succeeds v n .1 b)
 
   -- a record is given only for a sentence that it says
-  pub read-sentence : (p : code.Packet) (n : ℕ) → r ≡ Read.Packet p n → (v : Packet) × (say s (toldPacket p) ≡ got v) × Begins Sentence s v n
-  read-sentence p n i =
-      let (v, e, w) = record-says Limit.Unlimited s r m p n i in
+  pub read-sentence : (p : code.Packet) (b : Bounds) (n : ℕ) → r ≡ Read.Packet p b n → (v : Packet) × (say s (toldPacket p) ≡ got v) × Begins Sentence s v n
+  read-sentence p b n i =
+      let (v, e, w) = record-says Limit.Unlimited s r m p b n i in
       (v, e, succeeds v n .0 w)
 
   -- "record and taken count are the only ones the grammar allows"
-  pub only-one : (p : code.Packet) (n : ℕ) → r ≡ Read.Packet p n → (v : Packet) (n′ : ℕ) → Begins Sentence s v n′ → (say s (toldPacket p) ≡ got v) × (n ≡ n′)
-  only-one p n i v n′ b =
-      let (w, e, c) = read-sentence p n i in
-      let (j, u) = reading.only-one s w v n n′ c b in
+  pub only-one : (p : code.Packet) (b : Bounds) (n : ℕ) → r ≡ Read.Packet p b n → (v : Packet) (n′ : ℕ) → Begins Sentence s v n′ → (say s (toldPacket p) ≡ got v) × (n ≡ n′)
+  only-one p b n i v n′ t =
+      let (w, e, c) = read-sentence p b n i in
+      let (j, u) = reading.only-one s w v n n′ c t in
       (e ∙ ap got j, u)
 
 -- "each strict prefix of a sentence lacks bytes": just so many as 01 says
@@ -183,13 +193,16 @@ prefix v f u w y r g e m = refused-as Limit.Unlimited u r m (Error.InsufficientB
 
 -- "bytes after it alter nothing": not one number or place of the answer, of any whole frame, accepted or refused, under any limit
 pub suffix : (limit : Limit) (z : ℕ × List ℕ) (c t t′ : List ℕ) (r r′ : Read) → Frame Spells z c → Meets limit (c ++ t) r → Meets limit (c ++ t′) r′ → r ≡ r′
-suffix limit z c t t′ r r′ f m m′ = read-injective (m ∙ reading.after-frame asPlaces (limitOf limit) z c t t′ f ∙ sym m′)
+suffix limit z c t t′ r r′ f m m′ =
+    read-injective (packet.meets-bounded m) (packet.meets-bounded m′) (m .answer ∙ reading.after-frame asPlaces (limitOf limit) z c t t′ f ∙ sym (m′ .answer))
 
 -- "A limit adds the size refusal alone": F is above the limit and the answer is 3 with nothing taken, or it is the answer with no limit
 pub limited : (n : ℕ) (s : List ℕ) (r r₀ : Read) → Meets (Limit.AtMost n) s r → Meets Limit.Unlimited s r₀
     → ((F : ℕ) × Above s F n × (r ≡ Read.Refused (Error.PayloadSizeLimitExceeded F n) 0)) ⊎ (((F : ℕ) → Above s F n → ⊥) × (r ≡ r₀))
 limited n s r r₀ m m₀ =
-    ⊎-elim (λ (F, a, e). inl (F, a, read-injective (m ∙ e))) (λ (a, e). inr (a, read-injective (m ∙ e ∙ sym m₀))) (reading.limited asPlaces n s)
+    ⊎-elim
+    (λ (F, a, e). inl (F, a, read-injective (packet.meets-bounded m) (refusal-bounded (Error.PayloadSizeLimitExceeded F n) 0) (m .answer ∙ e)))
+    (λ (a, e). inr (a, read-injective (packet.meets-bounded m) (packet.meets-bounded m₀) (m .answer ∙ e ∙ sym (m₀ .answer)))) (reading.limited asPlaces n s)
 
 -- so under a limit a read succeeds exactly when the stream begins with a sentence of at most so many bytes
 pub succeeds-within : (n : ℕ) (s : List ℕ) (r : Read) → Meets (Limit.AtMost n) s r → (v : Packet) (k : ℕ) → Says s r (accepted v k) ↔ Begins (ShortSentence n) s v k

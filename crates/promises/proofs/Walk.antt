@@ -33,6 +33,7 @@ use Rattle.records.specs.Told.{toldSpan, toldAckKind, toldReplyKind}
 use Rattle.records.specs.Said.{toldPublishProperties, toldProperties, toldPublishBlock, toldBlock, toldPublish, toldSubscribe, toldAck, toldReply, toldUnsubscribe}
 use Rattle.records.specs.declared.answer.Limit.{Limit}
 use Rattle.records.specs.declared.answer.Read.{Read}
+use Rattle.records.specs.declared.span.Bounds.{Bounds}
 use Rattle.records.specs.declared.packet_record.Packet as code
 use Rattle.records.specs.declared.ack_record.Ack.{Ack}
 use Rattle.records.specs.declared.ack_record.AckKind.{AckKind}
@@ -241,65 +242,65 @@ reply-row ReplyKind.UnsubAck = refl
 
 -- ---- of an answer that meets the contract of `packet::read`
 
-module _ (limit : Limit) (s : List ℕ) (r : Read) (h : Meets limit s r) (n : ℕ) where
+module _ (limit : Limit) (s : List ℕ) (r : Read) (h : Meets limit s r) (o : Bounds) (n : ℕ) where
   -- user properties and subscription identifiers of a Publish that has a block
-  pub publish-walk : (m : Publish) (p : PublishProperties) → r ≡ Read.Packet (code.Packet.Publish m) n → m .properties ≡ MaybePublishProperties.Present p
+  pub publish-walk : (m : Publish) (p : PublishProperties) → r ≡ Read.Packet (code.Packet.Publish m) o n → m .properties ≡ MaybePublishProperties.Present p
       → (w : record-of.Publish (List ℕ) List) × (qs : PublishProps (List ℕ) List)
       × Says s r (accepted (publish w) n) × (w .props ≡ some qs) × PublishWalk s (toldSpan (p .block)) (qs .user) (qs .subscriptions)
   publish-walk m p e f =
-      let (v, i, a) = record-says limit s r h (code.Packet.Publish m) n e in
+      let (v, i, a) = record-says limit s r h (code.Packet.Publish m) o n e in
       let (w, j, b) = says-publish s (toldPublish m) v i in
       let (qs, k, l) = present b (toldPublishProperties p) (ap toldPublishBlock f) in
       (w, qs, subst (λ (x : Packet). Says s r (accepted x n)) j a, k, publish-block-walk s p qs l)
 
   -- user properties of a publish acknowledgement that has a block
-  pub ack-walk : (k : AckKind) (m : Ack) (p : Properties) → r ≡ Read.Packet (code.Packet.Ack k m) n → m .properties ≡ MaybeProperties.Present p
+  pub ack-walk : (k : AckKind) (m : Ack) (p : Properties) → r ≡ Read.Packet (code.Packet.Ack k m) o n → m .properties ≡ MaybeProperties.Present p
       → (w : record-of.Ack (List ℕ) List) × (qs : Props (List ℕ) List) × Says s r (accepted (ack (toldAckKind k) w) n) × (w .props ≡ some qs) × UserWalk (toldAckKind k) s (toldSpan (p .block)) (qs .user)
   ack-walk k m p e f =
-      let (v, i, a) = record-says limit s r h (code.Packet.Ack k m) n e in
+      let (v, i, a) = record-says limit s r h (code.Packet.Ack k m) o n e in
       let (w, j, b) = says-ack s (toldAckKind k) (toldAck m) v i in
       let (qs, k′, l) = block-walks s (toldAckKind k) ackPlace (ack-row k) (m .properties) p b f in
       (w, qs, subst (λ (x : Packet). Says s r (accepted x n)) j a, k′, l)
 
   -- user properties of a Subscribe that has a block
-  pub subscribe-walk : (m : Subscribe) (p : Properties) → r ≡ Read.Packet (code.Packet.Subscribe m) n → m .properties ≡ MaybeProperties.Present p
+  pub subscribe-walk : (m : Subscribe) (p : Properties) → r ≡ Read.Packet (code.Packet.Subscribe m) o n → m .properties ≡ MaybeProperties.Present p
       → (w : record-of.Subscribe (List ℕ) List) × (qs : Props (List ℕ) List) × Says s r (accepted (subscribe w) n) × (w .props ≡ some qs) × UserWalk 8 s (toldSpan (p .block)) (qs .user)
   unfolding placeAt kinds
   subscribe-walk m p e f =
-      let (v, i, a) = record-says limit s r h (code.Packet.Subscribe m) n e in
+      let (v, i, a) = record-says limit s r h (code.Packet.Subscribe m) o n e in
       let (w, j, b, g) = says-subscribe s (toldSubscribe m) v i in
       let (qs, k′, l) = block-walks s 8 subscribePlace refl (m .properties) p b f in
       (w, qs, subst (λ (x : Packet). Says s r (accepted x n)) j a, k′, l)
 
   -- user properties of a SubAck or UnsubAck that has a block
-  pub reply-walk : (k : ReplyKind) (m : Reply) (p : Properties) → r ≡ Read.Packet (code.Packet.Reply k m) n → m .properties ≡ MaybeProperties.Present p
+  pub reply-walk : (k : ReplyKind) (m : Reply) (p : Properties) → r ≡ Read.Packet (code.Packet.Reply k m) o n → m .properties ≡ MaybeProperties.Present p
       → (w : record-of.Reply (List ℕ) List) × (qs : Props (List ℕ) List) × Says s r (accepted (reply (toldReplyKind k) w) n) × (w .props ≡ some qs) × UserWalk (toldReplyKind k) s (toldSpan (p .block)) (qs .user)
   reply-walk k m p e f =
-      let (v, i, a) = record-says limit s r h (code.Packet.Reply k m) n e in
+      let (v, i, a) = record-says limit s r h (code.Packet.Reply k m) o n e in
       let (w, j, b) = says-reply s (toldReplyKind k) (toldReply m) v i in
       let (qs, k′, l) = block-walks s (toldReplyKind k) ackPlace (reply-row k) (m .properties) p b f in
       (w, qs, subst (λ (x : Packet). Says s r (accepted x n)) j a, k′, l)
 
   -- user properties of an Unsubscribe that has a block
-  pub unsubscribe-walk : (m : Unsubscribe) (p : Properties) → r ≡ Read.Packet (code.Packet.Unsubscribe m) n → m .properties ≡ MaybeProperties.Present p
+  pub unsubscribe-walk : (m : Unsubscribe) (p : Properties) → r ≡ Read.Packet (code.Packet.Unsubscribe m) o n → m .properties ≡ MaybeProperties.Present p
       → (w : record-of.Unsubscribe (List ℕ) List) × (qs : Props (List ℕ) List) × Says s r (accepted (unsubscribe w) n) × (w .props ≡ some qs) × UserWalk 10 s (toldSpan (p .block)) (qs .user)
   unfolding placeAt kinds
   unsubscribe-walk m p e f =
-      let (v, i, a) = record-says limit s r h (code.Packet.Unsubscribe m) n e in
+      let (v, i, a) = record-says limit s r h (code.Packet.Unsubscribe m) o n e in
       let (w, j, b, g) = says-unsubscribe s (toldUnsubscribe m) v i in
       let (qs, k′, l) = block-walks s 10 unsubscribePlace refl (m .properties) p b f in
       (w, qs, subst (λ (x : Packet). Says s r (accepted x n)) j a, k′, l)
 
   -- filters of a Subscribe
-  pub filter-walk : (m : Subscribe) → r ≡ Read.Packet (code.Packet.Subscribe m) n → (w : record-of.Subscribe (List ℕ) List) × Says s r (accepted (subscribe w) n) × FilterWalk s (toldSpan (m .filters)) (w .filters)
+  pub filter-walk : (m : Subscribe) → r ≡ Read.Packet (code.Packet.Subscribe m) o n → (w : record-of.Subscribe (List ℕ) List) × Says s r (accepted (subscribe w) n) × FilterWalk s (toldSpan (m .filters)) (w .filters)
   filter-walk m e =
-      let (v, i, a) = record-says limit s r h (code.Packet.Subscribe m) n e in
+      let (v, i, a) = record-says limit s r h (code.Packet.Subscribe m) o n e in
       let (w, j, b, g) = says-subscribe s (toldSubscribe m) v i in
       (w, subst (λ (x : Packet). Says s r (accepted x n)) j a, g)
 
   -- topics of an Unsubscribe
-  pub topic-walk : (m : Unsubscribe) → r ≡ Read.Packet (code.Packet.Unsubscribe m) n → (w : record-of.Unsubscribe (List ℕ) List) × Says s r (accepted (unsubscribe w) n) × TopicWalk s (toldSpan (m .topics)) (w .topics)
+  pub topic-walk : (m : Unsubscribe) → r ≡ Read.Packet (code.Packet.Unsubscribe m) o n → (w : record-of.Unsubscribe (List ℕ) List) × Says s r (accepted (unsubscribe w) n) × TopicWalk s (toldSpan (m .topics)) (w .topics)
   topic-walk m e =
-      let (v, i, a) = record-says limit s r h (code.Packet.Unsubscribe m) n e in
+      let (v, i, a) = record-says limit s r h (code.Packet.Unsubscribe m) o n e in
       let (w, j, b, g) = says-unsubscribe s (toldUnsubscribe m) v i in
       (w, subst (λ (x : Packet). Says s r (accepted x n)) j a, g)

@@ -27,6 +27,7 @@ use Rattle.records.specs.Said.{toldPacket}
 use Rattle.records.specs.Answered.{toldWritten}
 use Rattle.records.specs.declared.answer.Limit.{Limit}
 use Rattle.records.specs.declared.answer.Read.{Read}
+use Rattle.records.specs.declared.span.Bounds.{Bounds}
 use Rattle.records.specs.declared.answer.Written.{Written}
 use Rattle.records.specs.declared.packet_record.Packet as code
 use Rattle.records.specs.declared.ack_record.Ack.{Ack}
@@ -146,8 +147,8 @@ module _ (limit : Limit) (alone : Bool) (h : Handed) (before after : List ℕ) (
     -- whatever follows, what is read is what the bytes say, and taken is the size
     pub reads-said : ReadsAs (frameBytes h ++ rest) r (said h) n
     reads-said =
-        let (p, e, f) = sentence-read (frameBytes h ++ rest) r j (said h) n (begins rest) in
-        (p, e, f, say-items (frameBytes h ++ rest) (toldPacket p) (said h) f)
+        let (p, o, e, f) = sentence-read (frameBytes h ++ rest) r j (said h) n (begins rest) in
+        (p, o, e, f, say-items (frameBytes h ++ rest) (toldPacket p) (said h) f)
 
     -- 01, "Reading back": it is the record, if "QoS 0 has identifier 0, and no property set is present but empty"
     pub reads-back : Plain h → ReadsAs (frameBytes h ++ rest) r (meant h) n
@@ -164,21 +165,21 @@ module _ (limit : Limit) (alone : Bool) (h : Handed) (before after : List ℕ) (
 
     -- ---- the parts of a Publish, an acknowledgement and a reply, as the functions of `publish_parts` and `ack` give them
 
-    told-by : (p : code.Packet) → r ≡ Read.Packet p n → say (frameBytes h ++ rest) (toldPacket p) ≡ got (said h)
-    told-by p e =
-        let (q, f, g) = sentence-read (frameBytes h ++ rest) r j (said h) n (begins rest) in
-        let a : Read.Packet q n ≡ Read.Packet p n = sym f ∙ e in
+    told-by : (p : code.Packet) (o : Bounds) → r ≡ Read.Packet p o n → say (frameBytes h ++ rest) (toldPacket p) ≡ got (said h)
+    told-by p o e =
+        let (q, o′, f, g) = sentence-read (frameBytes h ++ rest) r j (said h) n (begins rest) in
+        let a : Read.Packet q o′ n ≡ Read.Packet p o n = sym f ∙ e in
         let b : q ≡ p = cc in
         subst (λ (x : code.Packet). say (frameBytes h ++ rest) (toldPacket x) ≡ got (said h)) b g
 
-    pub publish-back : (x : Publish) → r ≡ Read.Packet (code.Packet.Publish x) n → (v : record-of.Publish (List ℕ) List) × (said h ≡ record-of.publish v) × PublishParts (frameBytes h ++ rest) x v
-    publish-back x e = publish-parts (frameBytes h ++ rest) x (said h) (told-by (code.Packet.Publish x) e)
+    pub publish-back : (x : Publish) (o : Bounds) → r ≡ Read.Packet (code.Packet.Publish x) o n → (v : record-of.Publish (List ℕ) List) × (said h ≡ record-of.publish v) × PublishParts (frameBytes h ++ rest) x v
+    publish-back x o e = publish-parts (frameBytes h ++ rest) x (said h) (told-by (code.Packet.Publish x) o e)
 
-    pub ack-back : (k : AckKind) (x : Ack) → r ≡ Read.Packet (code.Packet.Ack k x) n → (v : record-of.Ack (List ℕ) List) × (said h ≡ record-of.ack (toldAckKind k) v) × ReasonPart (frameBytes h ++ rest) (x .properties) (v .props)
-    ack-back k x e = ack-parts (frameBytes h ++ rest) k x (said h) (told-by (code.Packet.Ack k x) e)
+    pub ack-back : (k : AckKind) (x : Ack) (o : Bounds) → r ≡ Read.Packet (code.Packet.Ack k x) o n → (v : record-of.Ack (List ℕ) List) × (said h ≡ record-of.ack (toldAckKind k) v) × ReasonPart (frameBytes h ++ rest) (x .properties) (v .props)
+    ack-back k x o e = ack-parts (frameBytes h ++ rest) k x (said h) (told-by (code.Packet.Ack k x) o e)
 
-    pub reply-back : (k : ReplyKind) (x : Reply) → r ≡ Read.Packet (code.Packet.Reply k x) n → (v : record-of.Reply (List ℕ) List) × (said h ≡ record-of.reply (toldReplyKind k) v) × ReasonPart (frameBytes h ++ rest) (x .properties) (v .props)
-    reply-back k x e = reply-parts (frameBytes h ++ rest) k x (said h) (told-by (code.Packet.Reply k x) e)
+    pub reply-back : (k : ReplyKind) (x : Reply) (o : Bounds) → r ≡ Read.Packet (code.Packet.Reply k x) o n → (v : record-of.Reply (List ℕ) List) × (said h ≡ record-of.reply (toldReplyKind k) v) × ReasonPart (frameBytes h ++ rest) (x .properties) (v .props)
+    reply-back k x o e = reply-parts (frameBytes h ++ rest) k x (said h) (told-by (code.Packet.Reply k x) o e)
 
   -- the output itself, read
   pub output-read : (r : Read) → reading.Meets Limit.Unlimited after r → ReadsAs after r (said h) n
@@ -188,86 +189,86 @@ module _ (limit : Limit) (alone : Bool) (h : Handed) (before after : List ℕ) (
 
 -- ---- the items, as the functions of `items`, `filter_runs` and `entry_runs` give them: the lists that were handed over, in order, and then 21
 
-module _ (limit : Limit) (alone : Bool) (before after : List ℕ) (w : Written) (n : ℕ) (i : w ≡ Written.Size n) (rest : List ℕ) (r : Read) where
+module _ (limit : Limit) (alone : Bool) (before after : List ℕ) (w : Written) (n : ℕ) (i : w ≡ Written.Size n) (rest : List ℕ) (r : Read) (o : Bounds) where
   pub publish-items-back : (h : PublishHanded) → Obeys limit alone (publish h) before after w → Typed (publish h) → reading.Meets Limit.Unlimited (frameBytes (publish h) ++ rest) r
-      → (x : Publish) (p : PublishProperties) → r ≡ Read.Packet (code.Packet.Publish x) n → x .properties ≡ MaybePublishProperties.Present p
+      → (x : Publish) (p : PublishProperties) → r ≡ Read.Packet (code.Packet.Publish x) o n → x .properties ≡ MaybePublishProperties.Present p
       → UserItems (frameBytes (publish h) ++ rest) publishPlace (p .block) (duos (strings (h .user))) × IdentifierItems (frameBytes (publish h) ++ rest) (p .block) (map num (h .subscriptions))
   unfolding said
   publish-items-back h m t j x p e f =
       let s = frameBytes (publish h) ++ rest in
-      let (v, qs, a, b, us, ns) = publish-items Limit.Unlimited s r j n x p e f in
+      let (v, qs, a, b, us, ns) = publish-items Limit.Unlimited s r j o n x p e f in
       let c : _≡_ {A = Packet} (said (publish h)) (record-of.publish v) = says-said limit alone (publish h) before after w m n i t rest r j (record-of.publish v) a in
       let d : publishSet h ≡ qs = the-set (nonePublish h) (publishSet h) qs (publish-props c ∙ b) in
       (subst (λ (q : PublishProps (List ℕ) List). UserItems s publishPlace (p .block) (q .user)) (sym d) us, subst (λ (q : PublishProps (List ℕ) List). IdentifierItems s (p .block) (q .subscriptions)) (sym d) ns)
 
   pub ack-items-back : (k : AckKind) (h : AckHanded) → Obeys limit alone (ack (toldAckKind k) h) before after w → Typed (ack (toldAckKind k) h) → reading.Meets Limit.Unlimited (frameBytes (ack (toldAckKind k) h) ++ rest) r
-      → (x : Ack) (p : Properties) → r ≡ Read.Packet (code.Packet.Ack k x) n → x .properties ≡ MaybeProperties.Present p
+      → (x : Ack) (p : Properties) → r ≡ Read.Packet (code.Packet.Ack k x) o n → x .properties ≡ MaybeProperties.Present p
       → UserItems (frameBytes (ack (toldAckKind k) h) ++ rest) ackPlace (p .block) (duos (strings (h .user)))
   unfolding said
   ack-items-back k h m t j x p e f =
       let s = frameBytes (ack (toldAckKind k) h) ++ rest in
-      let (v, qs, a, b, us) = ack-items Limit.Unlimited s r j n k x p e f in
+      let (v, qs, a, b, us) = ack-items Limit.Unlimited s r j o n k x p e f in
       let c : _≡_ {A = Packet} (said (ack (toldAckKind k) h)) (record-of.ack (toldAckKind k) v) = says-said limit alone (ack (toldAckKind k) h) before after w m n i t rest r j (record-of.ack (toldAckKind k) v) a in
       let d : ackSet (h .text) (h .user) ≡ qs = the-set (noneAck (h .text) (h .user)) (ackSet (h .text) (h .user)) qs (ack-props (toldAckKind k) c ∙ b) in
       subst (λ (q : Props (List ℕ) List). UserItems s ackPlace (p .block) (q .user)) (sym d) us
 
   pub subscribe-items-back : (h : SubscribeHanded) → Obeys limit alone (subscribe h) before after w → Typed (subscribe h) → reading.Meets Limit.Unlimited (frameBytes (subscribe h) ++ rest) r
-      → (x : Subscribe) (p : Properties) → r ≡ Read.Packet (code.Packet.Subscribe x) n → x .properties ≡ MaybeProperties.Present p
+      → (x : Subscribe) (p : Properties) → r ≡ Read.Packet (code.Packet.Subscribe x) o n → x .properties ≡ MaybeProperties.Present p
       → UserItems (frameBytes (subscribe h) ++ rest) subscribePlace (p .block) (duos (strings (h .user)))
   unfolding said
   subscribe-items-back h m t j x p e f =
       let s = frameBytes (subscribe h) ++ rest in
-      let (v, qs, a, b, us) = subscribe-items Limit.Unlimited s r j n x p e f in
+      let (v, qs, a, b, us) = subscribe-items Limit.Unlimited s r j o n x p e f in
       let c : _≡_ {A = Packet} (said (subscribe h)) (record-of.subscribe v) = says-said limit alone (subscribe h) before after w m n i t rest r j (record-of.subscribe v) a in
       let d : subscribeSet h ≡ qs = the-set (noneSubscribe h) (subscribeSet h) qs (subscribe-props c ∙ b) in
       subst (λ (q : Props (List ℕ) List). UserItems s subscribePlace (p .block) (q .user)) (sym d) us
 
   pub reply-items-back : (k : ReplyKind) (h : ReplyHanded) → Obeys limit alone (reply (toldReplyKind k) h) before after w → Typed (reply (toldReplyKind k) h) → reading.Meets Limit.Unlimited (frameBytes (reply (toldReplyKind k) h) ++ rest) r
-      → (x : Reply) (p : Properties) → r ≡ Read.Packet (code.Packet.Reply k x) n → x .properties ≡ MaybeProperties.Present p
+      → (x : Reply) (p : Properties) → r ≡ Read.Packet (code.Packet.Reply k x) o n → x .properties ≡ MaybeProperties.Present p
       → UserItems (frameBytes (reply (toldReplyKind k) h) ++ rest) ackPlace (p .block) (duos (strings (h .user)))
   unfolding said
   reply-items-back k h m t j x p e f =
       let s = frameBytes (reply (toldReplyKind k) h) ++ rest in
-      let (v, qs, a, b, us) = reply-items Limit.Unlimited s r j n k x p e f in
+      let (v, qs, a, b, us) = reply-items Limit.Unlimited s r j o n k x p e f in
       let c : _≡_ {A = Packet} (said (reply (toldReplyKind k) h)) (record-of.reply (toldReplyKind k) v) = says-said limit alone (reply (toldReplyKind k) h) before after w m n i t rest r j (record-of.reply (toldReplyKind k) v) a in
       let d : ackSet (h .text) (h .user) ≡ qs = the-set (noneAck (h .text) (h .user)) (ackSet (h .text) (h .user)) qs (reply-props (toldReplyKind k) c ∙ b) in
       subst (λ (q : Props (List ℕ) List). UserItems s ackPlace (p .block) (q .user)) (sym d) us
 
   pub unsubscribe-items-back : (h : UnsubscribeHanded) → Obeys limit alone (unsubscribe h) before after w → Typed (unsubscribe h) → reading.Meets Limit.Unlimited (frameBytes (unsubscribe h) ++ rest) r
-      → (x : Unsubscribe) (p : Properties) → r ≡ Read.Packet (code.Packet.Unsubscribe x) n → x .properties ≡ MaybeProperties.Present p
+      → (x : Unsubscribe) (p : Properties) → r ≡ Read.Packet (code.Packet.Unsubscribe x) o n → x .properties ≡ MaybeProperties.Present p
       → UserItems (frameBytes (unsubscribe h) ++ rest) unsubscribePlace (p .block) (duos (strings (h .user)))
   unfolding said
   unsubscribe-items-back h m t j x p e f =
       let s = frameBytes (unsubscribe h) ++ rest in
-      let (v, qs, a, b, us) = unsubscribe-items Limit.Unlimited s r j n x p e f in
+      let (v, qs, a, b, us) = unsubscribe-items Limit.Unlimited s r j o n x p e f in
       let c : _≡_ {A = Packet} (said (unsubscribe h)) (record-of.unsubscribe v) = says-said limit alone (unsubscribe h) before after w m n i t rest r j (record-of.unsubscribe v) a in
       let d : unsubscribeSet (h .user) ≡ qs = the-set (noneUnsubscribe (h .user)) (unsubscribeSet (h .user)) qs (unsubscribe-props c ∙ b) in
       subst (λ (q : Props (List ℕ) List). UserItems s unsubscribePlace (p .block) (q .user)) (sym d) us
 
   pub filter-items-back : (h : SubscribeHanded) → Obeys limit alone (subscribe h) before after w → Typed (subscribe h) → reading.Meets Limit.Unlimited (frameBytes (subscribe h) ++ rest) r
-      → (x : Subscribe) → r ≡ Read.Packet (code.Packet.Subscribe x) n → FilterItems (frameBytes (subscribe h) ++ rest) (x .filters) (map mkFilter (filters h))
+      → (x : Subscribe) → r ≡ Read.Packet (code.Packet.Subscribe x) o n → FilterItems (frameBytes (subscribe h) ++ rest) (x .filters) (map mkFilter (filters h))
   unfolding said
   filter-items-back h m t j x e =
       let s = frameBytes (subscribe h) ++ rest in
-      let (v, a, fs) = filter-items Limit.Unlimited s r j n x e in
+      let (v, a, fs) = filter-items Limit.Unlimited s r j o n x e in
       let c : _≡_ {A = Packet} (said (subscribe h)) (record-of.subscribe v) = says-said limit alone (subscribe h) before after w m n i t rest r j (record-of.subscribe v) a in
       subst (λ (l : List (record-of.Filter (List ℕ))). FilterItems s (x .filters) l) (sym (subscribe-filters c)) fs
 
   pub reason-items-back : (k : ReplyKind) (h : ReplyHanded) → Obeys limit alone (reply (toldReplyKind k) h) before after w → Typed (reply (toldReplyKind k) h) → reading.Meets Limit.Unlimited (frameBytes (reply (toldReplyKind k) h) ++ rest) r
-      → (x : Reply) → r ≡ Read.Packet (code.Packet.Reply k x) n → ReasonItems (frameBytes (reply (toldReplyKind k) h) ++ rest) k (x .reasons) (h .reasons)
+      → (x : Reply) → r ≡ Read.Packet (code.Packet.Reply k x) o n → ReasonItems (frameBytes (reply (toldReplyKind k) h) ++ rest) k (x .reasons) (h .reasons)
   unfolding said
   reason-items-back k h m t j x e =
       let s = frameBytes (reply (toldReplyKind k) h) ++ rest in
-      let (v, a, fs) = reason-items Limit.Unlimited s r j n k x e in
+      let (v, a, fs) = reason-items Limit.Unlimited s r j o n k x e in
       let c : _≡_ {A = Packet} (said (reply (toldReplyKind k) h)) (record-of.reply (toldReplyKind k) v) = says-said limit alone (reply (toldReplyKind k) h) before after w m n i t rest r j (record-of.reply (toldReplyKind k) v) a in
       subst (λ (l : List ℕ). ReasonItems s k (x .reasons) l) (sym (reply-reasons (toldReplyKind k) c)) fs
 
   pub topic-items-back : (h : UnsubscribeHanded) → Obeys limit alone (unsubscribe h) before after w → Typed (unsubscribe h) → reading.Meets Limit.Unlimited (frameBytes (unsubscribe h) ++ rest) r
-      → (x : Unsubscribe) → r ≡ Read.Packet (code.Packet.Unsubscribe x) n → TopicItems (frameBytes (unsubscribe h) ++ rest) (x .topics) (strings (h .topics))
+      → (x : Unsubscribe) → r ≡ Read.Packet (code.Packet.Unsubscribe x) o n → TopicItems (frameBytes (unsubscribe h) ++ rest) (x .topics) (strings (h .topics))
   unfolding said
   topic-items-back h m t j x e =
       let s = frameBytes (unsubscribe h) ++ rest in
-      let (v, a, fs) = topic-items Limit.Unlimited s r j n x e in
+      let (v, a, fs) = topic-items Limit.Unlimited s r j o n x e in
       let c : _≡_ {A = Packet} (said (unsubscribe h)) (record-of.unsubscribe v) = says-said limit alone (unsubscribe h) before after w m n i t rest r j (record-of.unsubscribe v) a in
       subst (λ (l : List (List ℕ)). TopicItems s (x .topics) l) (sym (unsubscribe-topics c)) fs
 

@@ -15,6 +15,7 @@ use Rattle.records.specs.Said.{toldPacket}
 use Rattle.records.specs.Answered.{toldSized, toldWritten}
 use Rattle.records.specs.declared.answer.Limit.{Limit}
 use Rattle.records.specs.declared.answer.Read.{Read}
+use Rattle.records.specs.declared.span.Bounds.{Bounds}
 use Rattle.records.specs.declared.answer.Sized.{Sized}
 use Rattle.records.specs.declared.answer.Written.{Written}
 use Rattle.records.specs.declared.packet_record.Packet as code
@@ -34,9 +35,10 @@ Obeys limit alone h before after w = WrittenBehind (limitOf limit) (guard alone 
 abbrev pub Counts : Bool → Handed → Sized → Type 0
 Counts alone h z = toldSized z ≡ sizedBehind (guard alone (nr 20 []) >> got h)
 
--- demand 2: "A written record reads back equal": the answer r says v: it is a record, its places say v, its items are those of v, and n bytes are taken
+-- demand 2: "A written record reads back equal": the answer r says v: it is a record, its places say v, its items are those of v, and n bytes are taken;
+-- 02, P7: "Comparing a record read back with one written leaves these two numbers aside": whatever they are
 abbrev pub ReadsAs : List ℕ → Read → Packet → ℕ → Type 0
-ReadsAs s r v n = (p : code.Packet) × (r ≡ Read.Packet p n) × (say s (toldPacket p) ≡ got v) × Items s (toldPacket p) v
+ReadsAs s r v n = (p : code.Packet) × (b : Bounds) × (r ≡ Read.Packet p b n) × (say s (toldPacket p) ≡ got v) × Items s (toldPacket p) v
 
 -- 01, writing order: 20 for what does not belong to the record, else what P says
 pub data Refusing (P : Refusal → Type 0) : Bool → Refusal → Type 0 where

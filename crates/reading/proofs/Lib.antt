@@ -12,3 +12,4 @@ pub mod Numbers
 pub mod Rows
 pub mod Stream
 pub mod Theorems
+pub mod Bounds

@@ -1,5 +1,5 @@
 -- Answers: each comes back from what it tells. So an input, whose answer is told by a definition, admits one answer only. Assumes nothing.
-use mathlib.Core.Path.{_≡_, refl, ap, _∙_}
+use mathlib.Core.Path.{_≡_, refl, sym, ap, _∙_}
 use Prim.Native.Nat.{ℕ}
 use Rattle.grammar.specs.Record.{Val, num, str, duo}
 use Rattle.grammar.specs.Record as record-of
@@ -7,11 +7,13 @@ use Rattle.reading.specs.Refusal.{Refusal, nr, Answer, accepted, refused, refus
 use Rattle.reading.specs.Reader.{Fit, got, bad}
 use Rattle.reading.specs.Place.{Placed}
 use Rattle.reading.specs.Place as place
+use Rattle.reading.specs.Bounds.{boundsBy}
 use Rattle.records.specs.Told.{toldError, backSpan}
-use Rattle.records.specs.Answered.{told, toldSized, toldWritten, toldUser, toldIdentifier, toldFilterItem, toldReasonItem, toldTopicItem, toldGotRule}
+use Rattle.records.specs.Answered.{told, carried, Bounded, toldSized, toldWritten, toldUser, toldIdentifier, toldFilterItem, toldReasonItem, toldTopicItem, toldGotRule}
 use Rattle.records.proofs.Laws.{injective-by}
 use Rattle.records.proofs.Told.{backError, back-error, backFit, backRule, back-rule, back-span}
 use Rattle.records.proofs.Said.{backFilter, back-filter, backPacket, back-packet}
+use Rattle.records.specs.declared.error.Error.{Error}
 use Rattle.records.specs.declared.answer.Read.{Read}
 use Rattle.records.specs.declared.answer.Sized.{Sized}
 use Rattle.records.specs.declared.answer.Written.{Written}
@@ -24,18 +26,23 @@ use Rattle.records.specs.declared.subscribe_record.GotRule.{GotRule}
 
 -- ---- reading
 
-pub backRead : Answer Placed → Read
-backRead (accepted p n) = Read.Packet (backPacket p) n
-backRead (refused k vs n) = Read.Refused (backError (nr k vs)) n
+-- the two numbers, or 0 and 0 where there are none
+abbrev pub numbersIn : Fit (ℕ × ℕ) → ℕ × ℕ
+numbersIn (got z) = z
+numbersIn (bad k) = (0, 0)
 
-back-taken : (k : Refusal) (n : ℕ) → backRead (refusedAs k n) ≡ Read.Refused (backError k) n
-unfolding backRead
-back-taken (nr k vs) n = refl
+pub backRead : Answer Placed × Fit (ℕ × ℕ) → Read
+backRead (accepted p n, f) = Read.Packet (backPacket p) (record { start = numbersIn f .0; end = numbersIn f .1 }) n
+backRead (refused k vs n, f) = Read.Refused (backError (nr k vs)) n
 
-pub back-read : (r : Read) → backRead (told r) ≡ r
+back-taken : (k : Refusal) (n : ℕ) (f : Fit (ℕ × ℕ)) → backRead (refusedAs k n, f) ≡ Read.Refused (backError k) n
 unfolding backRead
-back-read (Read.Packet p n) = ap (λ q. Read.Packet q n) (back-packet p)
-back-read (Read.Refused e n) = back-taken (toldError e) n ∙ ap (λ k. Read.Refused k n) (back-error e)
+back-taken (nr k vs) n f = refl
+
+pub back-read : (r : Read) → backRead (told r, carried r) ≡ r
+unfolding backRead
+back-read (Read.Packet p b n) = ap (λ q. Read.Packet q b n) (back-packet p)
+back-read (Read.Refused e n) = back-taken (toldError e) n (bad (toldError e)) ∙ ap (λ k. Read.Refused k n) (back-error e)
 
 -- ---- sizes
 
@@ -121,8 +128,18 @@ back-got-rule (GotRule.Refused e) = ap GotRule.Refused (back-error e)
 
 -- ---- one answer only
 
-pub read-injective : {a b : Read} → told a ≡ told b → a ≡ b
-read-injective = injective-by told backRead back-read
+-- the two numbers of 02's P7 included
+pub read-injective : {a b : Read} → Bounded a → Bounded b → told a ≡ told b → a ≡ b
+read-injective {a = a} {b = b} c d e =
+    let f : carried a ≡ carried b = c ∙ ap boundsBy e ∙ sym d in
+    injective-by (λ r. (told r, carried r)) backRead back-read (rw (e, f))
+
+-- a refusal has none of them
+pub refusal-bounded : (e : Error) (n : ℕ) → Bounded (Read.Refused e n)
+refusal-bounded e n = go (toldError e)
+  where
+    go : (k : Refusal) → bad k ≡ boundsBy (refusedAs k n)
+    go (nr k vs) = refl
 
 pub sized-injective : {a b : Sized} → toldSized a ≡ toldSized b → a ≡ b
 sized-injective = injective-by toldSized backSized back-sized

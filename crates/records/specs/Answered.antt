@@ -1,4 +1,5 @@
 -- What each answer tells: of a read, a size, a write, an item and a forward rule. Assumes nothing.
+use mathlib.Core.Path.{_≡_}
 use mathlib.Core.List.{[], _∷_}
 use Prim.Native.Nat.{ℕ}
 use lib.Dec.{ltb}
@@ -8,8 +9,10 @@ use Rattle.reading.specs.Refusal.{nr, Answer, accepted, refusedAs}
 use Rattle.reading.specs.Reader.{Fit, got, bad, _>>_, guard}
 use Rattle.reading.specs.Place.{Placed, noItem}
 use Rattle.reading.specs.Place as place
+use Rattle.reading.specs.Bounds.{boundsBy}
 use Rattle.records.specs.Told.{toldError, toldRule, toldSpan}
 use Rattle.records.specs.Said.{toldFilter, toldPacket}
+use Rattle.records.specs.declared.span.Bounds.{Bounds}
 use Rattle.records.specs.declared.answer.Read.{Read}
 use Rattle.records.specs.declared.answer.Sized.{Sized}
 use Rattle.records.specs.declared.answer.Written.{Written}
@@ -20,10 +23,23 @@ use Rattle.records.specs.declared.answer.ReasonItem.{ReasonItem}
 use Rattle.records.specs.declared.answer.TopicItem.{TopicItem}
 use Rattle.records.specs.declared.subscribe_record.GotRule.{GotRule}
 
--- 01, "When the desk says no": "Taken is the count of stream bytes used up"
+-- 01, "When the desk says no": "Taken is the count of stream bytes used up"; all but the two numbers of 02's P7
 abbrev pub told : Read → Answer Placed
-told (Read.Packet p n) = accepted (toldPacket p) n
+told (Read.Packet p b n) = accepted (toldPacket p) n
 told (Read.Refused e n) = refusedAs (toldError e) n
+
+-- 02, P7: "where its properties start .. and end"
+abbrev pub toldBounds : Bounds → ℕ × ℕ
+toldBounds b = (b .start, b .end)
+
+-- 02, P7: "Every record read shall also carry" the two numbers; a refusal has none
+abbrev pub carried : Read → Fit (ℕ × ℕ)
+carried (Read.Packet p b n) = got (toldBounds b)
+carried (Read.Refused e n) = bad (toldError e)
+
+-- the two numbers are those that the record itself says
+abbrev pub Bounded : Read → Type 0
+Bounded r = carried r ≡ boundsBy (told r)
 
 -- 01: "Asked alone, size refuses only with 20, then 17 for R"
 abbrev pub toldSized : Sized → Fit ℕ

@@ -1,6 +1,7 @@
 // The answers: of a read, a size, a write, and an item.
 use crate::error::Error;
 use crate::packet_record::Packet;
+use crate::span::Bounds;
 use crate::span::Span;
 use crate::subscribe_record::Filter;
 
@@ -10,9 +11,9 @@ pub enum Limit {
     AtMost(usize),
 }
 
-// The record or the refusal, and how many bytes of the stream are taken.
+// The record, where its properties start and end, and how many bytes of the stream are taken; or the refusal, and how many.
 pub enum Read {
-    Packet(Packet, usize),
+    Packet(Packet, Bounds, usize),
     Refused(Error, usize),
 }
 

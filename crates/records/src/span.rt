@@ -6,6 +6,12 @@ pub struct Span {
     pub len: usize,
 }
 
+// Where something starts and where it ends; equal where it is absent.
+pub struct Bounds {
+    pub start: usize,
+    pub end: usize,
+}
+
 pub enum MaybeU8 {
     Absent,
     Present(u8),

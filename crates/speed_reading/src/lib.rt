@@ -32,7 +32,7 @@ pub extern "C" fn speed_reading_sum(stream: &[u8]) -> u64
     let mut at: usize = 0;
     while at < stream.len() {
         match packet::read(&stream[at..], Limit::Unlimited) {
-            Read::Packet(p, taken) => {
+            Read::Packet(p, _, taken) => {
                 sum = num::wrapping_add_u64(sum, weight(p));
                 sum = num::wrapping_add_u64(sum, taken as u64);
                 at = at + taken;

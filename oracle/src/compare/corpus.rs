@@ -8,6 +8,8 @@ use std::collections::{HashMap, HashSet};
 
 /// How much is kept: rows of one bucket, and bytes of one input.
 const BYTES: usize = 30;
+/// Of a record, crates/corpus replays the numbers up to ECCH_TOPICS_LEN.
+const REPLAYED: usize = 42;
 
 #[derive(Default)]
 pub struct Corpus {
@@ -121,7 +123,7 @@ impl Corpus {
         let mut row = start(1, class);
         on(&mut row, limit);
         run(&mut row, s);
-        answer(&mut row, no, &filled);
+        answer(&mut row, no, &filled[..REPLAYED]);
         let cap = match no {
             // these have few buckets
             0 if matches!(first >> 4, 6 | 7 | 10) => self.cap,

@@ -262,6 +262,8 @@ impl Walk<'_> {
     }
     fn block(&mut self, place: Place, r: &mut Record, lists: &mut Lists) -> Result<(), No> {
         let len = self.number()?;
+        // P7: after the block's length, and where its bytes end
+        r.bounds = Bounds(Some((self.at, self.at + len)));
         if len == 0 {
             return Ok(());
         }
@@ -398,7 +400,12 @@ pub fn read(s: &[u8], limit: Option<u64>, by: &Switches, lists: &mut Lists) -> A
         return (Err(no1(1, (end - s.len()) as u64)), 0);
     }
     let kind = s[0] >> 4;
-    let mut record = Record { kind, ..Record::default() };
+    // P7: F where no length is sent
+    let mut record = Record {
+        kind,
+        bounds: Bounds(Some((end, end))),
+        ..Record::default()
+    };
     let mut walk = Walk { s, at: start, end, by };
     let done = match kind {
         0 | 15 => Err(no1(4, kind as u64)),

@@ -3,7 +3,7 @@
 use super::shape::*;
 
 /// The numbers of `record`, after enum ecch_record_layout.
-pub const RECORD: usize = 42;
+pub const RECORD: usize = 44;
 
 /// A record's numbers, as ecch_read fills them.
 pub fn numbers(answer: &Answer) -> [u64; RECORD] {
@@ -53,6 +53,9 @@ pub fn numbers(answer: &Answer) -> [u64; RECORD] {
     if r.kind == 10 {
         set(40, &span(r.topics));
     }
+    if let Some((start, end)) = r.bounds.0 {
+        set(42, &[start as u64, end as u64]);
+    }
     n
 }
 
@@ -86,6 +89,7 @@ fn told(n: &[u64; RECORD]) -> Record {
         sid: value(36).map(|v| v as u32),
         reasons: span(38),
         topics: span(40),
+        bounds: Bounds(Some((n[42] as usize, n[43] as usize))),
     };
     let back = numbers(&(Ok(r.clone()), n[0] as usize));
     if back == *n {

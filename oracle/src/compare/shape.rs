@@ -96,6 +96,17 @@ pub fn first_byte(kind: u8) -> u8 {
     kind << 4 | if matches!(kind, 6 | 8 | 10) { 2 } else { 0 }
 }
 
+/// Where the properties of a record start and end; None of a side that does not say it, which is then not compared.
+#[derive(Clone, Copy, Debug, Default)]
+pub struct Bounds(pub Option<(usize, usize)>);
+
+impl PartialEq for Bounds {
+    fn eq(&self, other: &Self) -> bool {
+        self.0.is_none() || other.0.is_none() || self.0 == other.0
+    }
+}
+impl Eq for Bounds {}
+
 /// A record as read. What a kind does not have keeps its default.
 #[derive(Clone, Debug, Default, PartialEq, Eq)]
 pub struct Record {
@@ -124,6 +135,8 @@ pub struct Record {
     pub reasons: Span,
     /// of an Unsubscribe
     pub topics: Span,
+    /// 02's P7
+    pub bounds: Bounds,
 }
 
 /// The lists of a record, item by item. An option of a filter is its bits 0 to 5.

@@ -6,7 +6,7 @@ use Rattle.packet.proofs.ping_req.Tie as tie
 
 returns : tie.Need-returns
 unfolding bodyAnswer
-returns c = refl
+returns c = record { answer = refl; bounded = refl }
 
 pub ping-req-spec : {M : Type 1} → statement M
 ping-req-spec = tie.close (tie.spec returns)

@@ -6,7 +6,7 @@ use Rattle.packet.proofs.ping_resp.Tie as tie
 
 returns : tie.Need-returns
 unfolding bodyAnswer
-returns c = refl
+returns c = record { answer = refl; bounded = refl }
 
 pub ping-resp-spec : {M : Type 1} → statement M
 ping-resp-spec = tie.close (tie.spec returns)

@@ -6,7 +6,7 @@ use denote.Ref.{now}
 use Rattle.records.specs.Told.{toldError, limitOf}
 use Rattle.records.specs.declared.answer.Read.{Read}
 use Rattle.framing.specs.Told.{toldChecked}
-use Rattle.packet.proofs.Laws.{frame-end, frame-count, answer-none, answer-whole, promised}
+use Rattle.packet.proofs.Laws.{frame-end, frame-count, answer-none, answer-whole, refusing, promised}
 use Rattle.packet.proofs.read.Statement.{statement}
 use Rattle.packet.proofs.read.Tie as tie
 
@@ -20,8 +20,8 @@ returns : tie.Need-returns
 returns c =
     let a = c .before .before .before .before .before .args in
     let k = c .before .e .given .0 .0 in
-    promised (limitOf (a .limit)) (now (a .stream)) (Read.Refused k 0)
-    (answer-none (limitOf (a .limit)) (now (a .stream)) (toldError k) (sym (ap (toldChecked (now (a .stream))) (c .before .e .given .1)) ∙ c .before .before .before .check .ensures))
+    promised (a .limit) (now (a .stream)) (Read.Refused k 0)
+    (refusing (answer-none (limitOf (a .limit)) (now (a .stream)) (toldError k) (sym (ap (toldChecked (now (a .stream))) (c .before .e .given .1)) ∙ c .before .before .before .check .ensures)))
 
 enum-known-h : tie.Need-enum-known-h
 enum-known-h c = search needs
@@ -43,7 +43,8 @@ returns-2 c =
     let a = c .before .before .before .before .before .before .before .before .args in
     let e = sym (ap (toldChecked (now (a .stream))) (c .before .before .before .before .h .given .1)) ∙ c .before .before .before .before .before .before .check .ensures in
     let n = frame-end (limitOf (a .limit)) (now (a .stream)) _ _ _ e _ (c .before .before .frame-length .ensures) (omega arith) in
-    promised (limitOf (a .limit)) (now (a .stream)) (c .read-frame .result) (answer-whole (limitOf (a .limit)) (now (a .stream)) _ _ _ e _ n (c .read-frame .ensures))
+    let t = c .read-frame .ensures in
+    promised (a .limit) (now (a .stream)) (c .read-frame .result) (record { answer = answer-whole (limitOf (a .limit)) (now (a .stream)) _ _ _ e _ n (t .answer); bounded = t .bounded })
 
 pub read-spec : {M : Type 1} → statement M
 read-spec =

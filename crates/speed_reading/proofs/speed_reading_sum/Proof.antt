@@ -42,21 +42,21 @@ wrapping-add-u64-requires-2 : tie.Need-wrapping-add-u64-requires-2 Inv-loop μ-l
 wrapping-add-u64-requires-2 c κs = search needs
 
 add-at : tie.Need-add-at Inv-loop μ-loop
-add-at c = omega (arith, ahead (c .before .before .before .before .before .before .before .before .before .loop .inv) (c .before .before .before .before .before .before .before .before .loop-test .taken) _ _ (rw (c .before .before .before .before .p .given .1) at (c .before .before .before .before .before .before .read .ensures .0)))
+add-at c = omega (arith, ahead (c .before .before .before .before .before .before .before .before .before .loop .inv) (c .before .before .before .before .before .before .before .before .loop-test .taken) _ _ (rw (c .before .before .before .before .p .given .1) at (c .before .before .before .before .before .before .read .ensures .0 .answer)))
 
 loop-less : tie.Need-loop-less Inv-loop μ-loop
-loop-less c = omega (arith, ahead (c .before .before .before .before .before .before .before .before .before .loop .inv) (c .before .before .before .before .before .before .before .before .loop-test .taken) _ _ (rw (c .before .before .before .before .p .given .1) at (c .before .before .before .before .before .before .read .ensures .0)))
+loop-less c = omega (arith, ahead (c .before .before .before .before .before .before .before .before .before .loop .inv) (c .before .before .before .before .before .before .before .before .loop-test .taken) _ _ (rw (c .before .before .before .before .p .given .1) at (c .before .before .before .before .before .before .read .ensures .0 .answer)))
 
 loop-again : tie.Need-loop-again Inv-loop μ-loop
 loop-again c =
     rw (c .wrapping-add-u642 .ensures, c .before .wrapping-add-u64 .ensures, c .before .before .weight .ensures)
-    (one-summed (c .before .before .before .before .before .before .before .before .before .loop .inv) (c .before .before .before .before .before .before .before .before .loop-test .taken) _ _ (rw (c .before .before .before .before .p .given .1) at (c .before .before .before .before .before .before .read .ensures .0)))
+    (one-summed (c .before .before .before .before .before .before .before .before .before .loop .inv) (c .before .before .before .before .before .before .before .before .loop-test .taken) _ _ (rw (c .before .before .before .before .p .given .1) at (c .before .before .before .before .before .before .read .ensures .0 .answer)))
 
 enum-told : tie.Need-enum-told Inv-loop μ-loop
 enum-told c = search needs
 
 returns : tie.Need-returns Inv-loop μ-loop
-returns c = last-summed (c .before .before .before .before .before .loop .inv) (toldError (c .enum-told .given .0 .0)) (c .enum-told .given .0 .1 .0) (rw (c .enum-told .given .1) at (c .before .before .read .ensures .0))
+returns c = last-summed (c .before .before .before .before .before .loop .inv) (toldError (c .enum-told .given .0 .0)) (c .enum-told .given .0 .1 .0) (rw (c .enum-told .given .1) at (c .before .before .read .ensures .0 .answer))
 
 returns-2 : tie.Need-returns-2 Inv-loop μ-loop
 returns-2 c = all-summed (c .before .loop .inv) (c .loop-test .left)

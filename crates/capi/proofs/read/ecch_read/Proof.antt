@@ -17,7 +17,7 @@ same-length : tie.Need-same-length
 same-length c = search needs
 
 returns : tie.Need-returns
-returns c = (c .before .before .store-read .ensures .0 ∙ rw (c .before .before .before .before .read .ensures .0, c .before .before .before .before .before .bound .ensures), c .before .before .store-read .ensures .1 ∙ rw (c .before .before .before .before .read .ensures .0, c .before .before .before .before .before .bound .ensures))
+returns c = (c .before .before .store-read .ensures .0 ∙ rw (c .before .before .before .before .read .ensures .0 .answer, c .before .before .before .before .before .bound .ensures), c .before .before .store-read .ensures .1 ∙ rw (c .before .before .before .before .read .ensures .0 .answer, c .before .before .before .before .read .ensures .0 .carries, c .before .before .before .before .before .bound .ensures))
 
 pub ecch-read-spec : {M : Type 1} → statement M
 ecch-read-spec =

@@ -1,0 +1,34 @@
+//! Where the properties of a record stand (02's P7), of every layout: present, of length 0, and not sent.
+use ecchjulmina::places;
+
+/// Start and end of the properties of the frame at the start of the stream.
+fn stand(stream: &[u8]) -> (usize, usize) {
+    let record = places::read(stream, None).0.unwrap();
+    (record.properties_start(), record.properties_end())
+}
+
+#[test]
+fn properties_stand() {
+    assert_eq!(stand(b"\x30\x08\0\x03a/b\0hi\x99"), (8, 8));
+    assert_eq!(stand(b"\x30\x0B\0\x01a\x06\x0B\x01\x0B\x02\x0B\x03\x07"), (6, 12));
+    assert_eq!(stand(b"\x32\x08\0\x01a\0\x07\x02\x01\x01"), (8, 10));
+    assert_eq!(stand(b"\x82\x07\0\x01\0\0\x01a\x01"), (5, 5));
+    assert_eq!(stand(b"\x82\x09\0\x07\x02\x0B\x05\0\x01a\x01"), (5, 7));
+    assert_eq!(stand(b"\x40\x02\0\x0A\x99"), (4, 4));
+    assert_eq!(stand(b"\x50\x03\0\x0A\x10\x99"), (5, 5));
+    assert_eq!(stand(b"\x62\x04\0\x0A\0\0\x99"), (6, 6));
+    assert_eq!(stand(b"\x70\x08\0\x0A\x92\x04\x1F\0\x01n"), (6, 10));
+    assert_eq!(stand(b"\x90\x04\0\x01\0\x01"), (5, 5));
+    assert_eq!(stand(b"\xB0\x08\0\x01\x04\x1F\0\x01n\x11"), (5, 9));
+    assert_eq!(stand(b"\xA2\x0B\0\x01\x05\x26\0\0\0\0\0\x01a"), (5, 10));
+    assert_eq!(stand(b"\xC0\0\x99"), (2, 2));
+    assert_eq!(stand(b"\xD0\x02\x01\x02"), (4, 4));
+}
+
+/// The bytes between the two are those that the property set is read from.
+#[test]
+fn part_of_the_frame() {
+    let frame = b"\x30\x0B\0\x01a\x06\x0B\x01\x0B\x02\x0B\x03\x07";
+    let (start, end) = stand(frame);
+    assert_eq!(&frame[start..end], b"\x0B\x01\x0B\x02\x0B\x03");
+}
