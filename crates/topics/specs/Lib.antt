@@ -1,0 +1,4 @@
+pub mod Levels
+pub mod Match
+pub mod Standard
+pub mod Step
