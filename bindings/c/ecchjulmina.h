@@ -448,6 +448,39 @@ uint8_t ecch_valid_topic(const uint8_t *topic, size_t topic_len);
 uint8_t ecch_valid_filter(const uint8_t *filter, size_t filter_len);
 uint8_t ecch_matches(const uint8_t *topic, size_t topic_len, const uint8_t *filter, size_t filter_len);
 
+/* ---- topics by alias (MQTT 3.3.2.3.4): a broker sends a topic once with a Topic Alias, and then leaves it empty.
+ *
+ * The table is ECCH_ALIAS_TABLE_LEN bytes of the caller's: for aliases 1 to 16 in turn a length byte, 0 if never set, and 128 bytes for the
+ * topic. Fill it with zeros where a connection begins, hand every Publish that is read to ecch_alias_learn in the order of the stream, and
+ * write to it by no other way: then it holds the last topic of each alias, which is proved. Any bytes may be handed over as a table: one of
+ * another length, or with a length byte above 128, is refusal 24.
+ *
+ * `start`, `len`: where the packet's own topic stands in the stream (ECCH_TOPIC_START, ECCH_TOPIC_LEN of its record); a place that does not
+ * lie in the stream is an empty topic. `alias_on`, `alias`: its alias, if it has one (ECCH_ALIAS, ECCH_ALIAS_VALUE). Where a message has more
+ * than one of the faults below, the first of them is given. None has values. */
+enum ecch_alias_refusal {
+    ECCH_ALIAS_TABLE_BAD = 24, /* the table has the wrong size, or a stored length above 128 */
+    ECCH_ALIAS_INVALID = 25,   /* alias 0 or above 16 */
+    ECCH_TOPIC_MISSING = 26,   /* empty topic and no alias */
+    ECCH_ALIAS_UNKNOWN = 27,   /* empty topic and alias never set */
+    ECCH_ALIAS_NO_ROOM = 28    /* topic over 128 bytes with an alias */
+};
+
+enum ecch_alias_table { ECCH_ALIAS_TABLE_LEN = 2064 };
+
+/* `item` of ecch_topic_in_force: which slice, and the place there; zeros if refused. */
+enum ecch_force_layout { ECCH_FORCE_SLICE = 0, ECCH_FORCE_START = 1, ECCH_FORCE_LEN = 2, ECCH_FORCE_NUMBERS = 3 };
+enum ecch_force_slice { ECCH_IN_STREAM = 1, ECCH_IN_TABLE = 2 };
+
+/* Takes a message in: 0, or the refusal's number. A topic that is sent with an alias is stored for it: its length byte and its bytes are
+ * written, and no other byte of the table. A refusal leaves the table alone. */
+uint32_t ecch_alias_learn(const uint8_t *stream, size_t stream_len, size_t start, size_t len, uint8_t alias_on, uint16_t alias, uint8_t *table, size_t table_len);
+
+/* Where the topic in force lies: 0, or the refusal's number. It is the packet's own topic, in the stream, or if that is empty the one that is
+ * stored for the alias, in the table; the place lies within that slice, and has one byte at least. It may be asked before the message is
+ * learnt or after. A place in the table is good until the alias is set anew. */
+uint32_t ecch_topic_in_force(const uint8_t *stream, size_t stream_len, size_t start, size_t len, uint8_t alias_on, uint16_t alias, const uint8_t *table, size_t table_len, uint64_t *item, size_t item_len);
+
 /* A pointer for what has length 0: aligned, and not NULL. C++ needs a cast to the type of the parameter. */
 #define ECCH_NOTHING ((void *)sizeof(size_t))
 

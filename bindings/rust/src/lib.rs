@@ -3,9 +3,11 @@
 //! The first, `mqttbytes`, has the paths, types and signatures of rumqttc's `v5::mqttbytes`: `Packet::read(&mut BytesMut, Option<u32>)`,
 //! `write`, `size`, and the records with `Bytes` that share the stream's memory. Where the answers differ from the crate's is listed in
 //! docs/DIFFERENCES.md, and what is not there in bindings/README.md.
-//! `places` is the thinner one: the records as they are read, with no copy at all.
+//! `places` is the thinner one: the records as they are read, with no copy at all. `Aliases` keeps the topics of a connection by their
+//! aliases.
 //!
 //! What is proved ends at the C interface; this crate is tested.
+mod alias;
 mod error;
 mod frame;
 pub mod places;
@@ -14,6 +16,7 @@ pub mod sys;
 mod topics;
 mod write;
 
+pub use alias::{AliasError, Aliases};
 use bytes::{Buf, Bytes, BytesMut};
 use error::fault;
 pub use error::Error;

@@ -30,6 +30,9 @@ layout! {
     ECCH_NEXT_FILTER_NEXT = 0, ECCH_NEXT_FILTER_START = 1, ECCH_NEXT_FILTER_LEN = 2, ECCH_NEXT_FILTER_QOS = 3,
     ECCH_NEXT_FILTER_NO_LOCAL = 4, ECCH_NEXT_FILTER_PRESERVE_RETAIN = 5, ECCH_NEXT_FILTER_RULE = 6, ECCH_NEXT_FILTER_NUMBERS = 7,
     ECCH_NEXT_TOPIC_NEXT = 0, ECCH_NEXT_TOPIC_START = 1, ECCH_NEXT_TOPIC_LEN = 2, ECCH_NEXT_TOPIC_NUMBERS = 7,
+    ECCH_ALIAS_TABLE_BAD = 24, ECCH_ALIAS_INVALID = 25, ECCH_TOPIC_MISSING = 26, ECCH_ALIAS_UNKNOWN = 27, ECCH_ALIAS_NO_ROOM = 28,
+    ECCH_ALIAS_TABLE_LEN = 2064, ECCH_FORCE_SLICE = 0, ECCH_FORCE_START = 1, ECCH_FORCE_LEN = 2, ECCH_FORCE_NUMBERS = 3, ECCH_IN_STREAM = 1,
+    ECCH_IN_TABLE = 2,
 }
 
 extern "C" {
@@ -212,4 +215,11 @@ extern "C" {
     pub fn ecch_valid_topic(topic: *const u8, topic_len: usize) -> u8;
     pub fn ecch_valid_filter(filter: *const u8, filter_len: usize) -> u8;
     pub fn ecch_matches(topic: *const u8, topic_len: usize, filter: *const u8, filter_len: usize) -> u8;
+    pub fn ecch_alias_learn(
+        stream: *const u8, stream_len: usize, start: usize, len: usize, alias_on: u8, alias: u16, table: *mut u8, table_len: usize,
+    ) -> u32;
+    pub fn ecch_topic_in_force(
+        stream: *const u8, stream_len: usize, start: usize, len: usize, alias_on: u8, alias: u16, table: *const u8, table_len: usize,
+        item: *mut u64, item_len: usize,
+    ) -> u32;
 }

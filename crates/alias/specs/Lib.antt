@@ -1,0 +1,5 @@
+pub mod Table
+pub mod Alias
+pub mod Told
+pub mod Known
+pub mod Rows
