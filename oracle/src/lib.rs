@@ -10,3 +10,4 @@ pub mod limit;
 pub mod same;
 pub mod streams;
 pub mod timing;
+pub mod topics;
