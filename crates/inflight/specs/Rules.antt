@@ -1,6 +1,6 @@
 -- P4 of 02 on lists: a table is the list of what each identifier waits for, from identifier 1 upward, by P11's numbers.
 use mathlib.Core.Path.{_≡_}
-use mathlib.Core.Bool.{Bool, true, false, cond}
+use mathlib.Core.Bool.{Bool, true, false, _&&_, cond}
 use mathlib.Core.List.{List, [], _∷_}
 use Prim.Native.Nat.{ℕ, zero, suc, _+_, _<_, _≤_}
 use lib.Dec.{eqb, leb, ltb}
@@ -98,6 +98,17 @@ oneIfWaits (suc w) = 1
 unfoldable pub waiting : List ℕ → ℕ
 waiting [] = 0
 waiting (w ∷ t) = oneIfWaits w + waiting t
+
+-- ---- a table as bytes
+
+-- each is "free 0, PubAck 1, PubRec 2, PubComp 3"
+unfoldable pub allStates : List ℕ → Bool
+allStates [] = true
+allStates (w ∷ t) = ltb w 4 && allStates t
+
+-- a state for each identifier
+unfoldable pub isTable : List ℕ → Bool
+isTable t = eqb (length t) limit && allStates t
 
 -- ---- any call
 
