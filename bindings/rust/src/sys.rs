@@ -30,6 +30,9 @@ layout! {
     ECCH_NEXT_FILTER_NEXT = 0, ECCH_NEXT_FILTER_START = 1, ECCH_NEXT_FILTER_LEN = 2, ECCH_NEXT_FILTER_QOS = 3,
     ECCH_NEXT_FILTER_NO_LOCAL = 4, ECCH_NEXT_FILTER_PRESERVE_RETAIN = 5, ECCH_NEXT_FILTER_RULE = 6, ECCH_NEXT_FILTER_NUMBERS = 7,
     ECCH_NEXT_TOPIC_NEXT = 0, ECCH_NEXT_TOPIC_START = 1, ECCH_NEXT_TOPIC_LEN = 2, ECCH_NEXT_TOPIC_NUMBERS = 7,
+    ECCH_BAD_BUFFER = 35, ECCH_FRAME_TOO_LONG = 36,
+    ECCH_STATE_HELD = 0, ECCH_STATE_ENDED = 1, ECCH_STATE_VALUE_1 = 2, ECCH_STATE_VALUE_2 = 3, ECCH_STATE_NUMBERS = 4,
+    ECCH_FRAME_USED = 0, ECCH_FRAME_VALUE_1 = 1, ECCH_FRAME_VALUE_2 = 2, ECCH_FRAME_PLACE = 3, ECCH_FRAME_LEN = 4, ECCH_FRAME_NUMBERS = 5,
 }
 
 extern "C" {
@@ -208,4 +211,11 @@ extern "C" {
     pub fn ecch_ping_size(answer: *mut u64, answer_len: usize) -> u32;
     pub fn ecch_pingreq_write(limited: u8, limit: usize, out: *mut u8, out_len: usize, answer: *mut u64, answer_len: usize) -> u32;
     pub fn ecch_pingresp_write(limited: u8, limit: usize, out: *mut u8, out_len: usize, answer: *mut u64, answer_len: usize) -> u32;
+    pub fn ecch_next_frame(
+        limited: u8, limit: usize,
+        state: *mut u64, state_len: usize,
+        buffer: *mut u8, buffer_len: usize,
+        piece: *const u8, piece_len: usize,
+        item: *mut u64, item_len: usize,
+    ) -> u32;
 }
