@@ -90,10 +90,8 @@ pub fn values(why: Stop) -> Values
 pub fn start() -> State
     ensures { λ r. ⌜ toldState r ≡ fresh ⌝ }
 {
-    State {
-        held: 0,
-        end: End::Open,
-    }
+    let end = End::Open;
+    State { held: 0, end }
 }
 
 // The header at the start of `s`: 1 or 2 of it, then 3, then whether its frame is longer than the buffer.
