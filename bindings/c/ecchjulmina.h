@@ -3,8 +3,8 @@
  *
  * Every function ends, allocates nothing, keeps nothing, and calls nothing but its own code and C's memcpy. What each gives for every
  * input is proved (docs/PROMISES.md); that a C caller hands over what the declarations below say is assumed:
- * - a pointer with a length stands for that many elements that can be read, and for `out`, `record`, `item`, `answer` and `name` also be
- *   written; it is aligned and never NULL, not even with length 0 (ECCH_NOTHING serves there);
+ * - a pointer with a length stands for that many elements that can be read, and for `out`, `record`, `item`, `answer`, `name`, `state` and `buffer`
+ *   also be written; it is aligned and never NULL, not even with length 0 (ECCH_NOTHING serves there);
  * - what is written overlaps nothing else that is handed over, and no other thread writes what is handed over while the call lasts.
  *
  * Numbers of refusals are those of 01 and 02, 1 to 23 (enum ecch_refusal); 0 is success. A flag that is handed over is false if it is 0, else
@@ -481,6 +481,52 @@ uint32_t ecch_alias_learn(const uint8_t *stream, size_t stream_len, size_t start
  * stored for the alias, in the table; the place lies within that slice, and has one byte at least. It may be asked before the message is
  * learnt or after. A place in the table is good until the alias is set anew. */
 uint32_t ecch_topic_in_force(const uint8_t *stream, size_t stream_len, size_t start, size_t len, uint8_t alias_on, uint16_t alias, const uint8_t *table, size_t table_len, uint64_t *item, size_t item_len);
+
+/* ---- a stream that arrives in pieces (02, P10; crate c_pieces). The caller lends a buffer of 5 to 65,536 bytes, in which an unfinished
+ * frame is kept, and a state of four numbers, all 0 before the first piece. Both are the callee's until the stream ends: while nobody else
+ * writes them, and the limit and the buffer's length stay, the frames are those of the whole stream, however it is cut.
+ *
+ * With each piece that comes in, call ecch_next_frame. If ECCH_FRAME_PLACE is 1, the next frame is the first ECCH_FRAME_LEN bytes of the
+ * piece, and nothing was copied; if it is 2, the first ECCH_FRAME_LEN bytes of the buffer: hand those bytes to ecch_read, which gives the
+ * packet or its refusal; its places lie in the slice that was handed over, and a frame in the buffer stays until the next call. Then call
+ * again with the rest of the piece, from ECCH_FRAME_USED on. If it is 0 and the result is 0, the piece is taken in and bytes are lacking.
+ * A refusal within a frame comes from ecch_read, and the stream goes on at the next frame. */
+
+/* The refusals of ecch_next_frame besides 2 and 3. */
+enum ecch_pieces_refusal {
+    ECCH_BAD_BUFFER = 35,    /* the buffer has not 5 to 65,536 bytes, or fewer than the state says that it holds; or the numbers are no state */
+    ECCH_FRAME_TOO_LONG = 36 /* the frame is longer than the buffer */
+};
+
+/* `state`. Any numbers may be handed over: fewer than four, or an ECCH_STATE_ENDED that is none of 0, 2, 3 and 36, get 35, and nothing
+ * changes; all others are taken at their word. Of a longer array the rest stays. */
+enum ecch_state_layout {
+    ECCH_STATE_HELD = 0,  /* so many bytes at the start of the buffer are held */
+    ECCH_STATE_ENDED = 1, /* 0 while the stream goes on, else the refusal that ended it: 2, 3 or 36 */
+    ECCH_STATE_VALUE_1 = 2, /* its values */
+    ECCH_STATE_VALUE_2 = 3,
+    ECCH_STATE_NUMBERS = 4
+};
+
+/* `item` of ecch_next_frame. */
+enum ecch_frame_layout {
+    ECCH_FRAME_USED = 0,    /* bytes of the piece used up; 0 if refused */
+    ECCH_FRAME_VALUE_1 = 1, /* the refusal's values */
+    ECCH_FRAME_VALUE_2 = 2,
+    ECCH_FRAME_PLACE = 3, /* 1: a frame at the start of the piece; 2: at the start of the buffer; 0: none */
+    ECCH_FRAME_LEN = 4,   /* its length */
+    ECCH_FRAME_NUMBERS = 5
+};
+
+/* The next frame, of the bytes held and the piece behind them: 0, or the refusal's number. 2 and 3 (of a header) and 36 end the stream: every
+ * later call gives that refusal again. 35 ends nothing. The header alone is looked at: 36 comes as soon as it is complete, after 3. If
+ * `limited` is not 0, F may be `limit` at most. */
+uint32_t ecch_next_frame(
+    uint8_t limited, size_t limit,
+    uint64_t *state, size_t state_len,
+    uint8_t *buffer, size_t buffer_len,
+    const uint8_t *piece, size_t piece_len,
+    uint64_t *item, size_t item_len);
 
 /* A pointer for what has length 0: aligned, and not NULL. C++ needs a cast to the type of the parameter. */
 #define ECCH_NOTHING ((void *)sizeof(size_t))

@@ -3,13 +3,14 @@
 //! The first, `mqttbytes`, has the paths, types and signatures of rumqttc's `v5::mqttbytes`: `Packet::read(&mut BytesMut, Option<u32>)`,
 //! `write`, `size`, and the records with `Bytes` that share the stream's memory. Where the answers differ from the crate's is listed in
 //! docs/DIFFERENCES.md, and what is not there in bindings/README.md.
-//! `places` is the thinner one: the records as they are read, with no copy at all. `Aliases` keeps the topics of a connection by their
-//! aliases.
+//! `places` is the thinner one: the records as they are read, with no copy at all. `pieces` reads a stream that arrives in pieces, over either.
+//! `Aliases` keeps the topics of a connection by their aliases.
 //!
 //! What is proved ends at the C interface; this crate is tested.
 mod alias;
 mod error;
 mod frame;
+pub mod pieces;
 pub mod places;
 #[allow(clippy::too_many_arguments)]
 pub mod sys;
@@ -523,7 +524,7 @@ impl Packet {
     }
 
     /// The packet of a frame whose numbers were read.
-    fn of(frame: Bytes, numbers: [u64; ECCH_RECORD_LEN]) -> Result<Packet, Error> {
+    pub(crate) fn of(frame: Bytes, numbers: [u64; ECCH_RECORD_LEN]) -> Result<Packet, Error> {
         let record = Record::again(&frame, numbers);
         match record.kind() {
             Kind::Publish => publish(&record, &frame),

@@ -33,6 +33,9 @@ layout! {
     ECCH_ALIAS_TABLE_BAD = 24, ECCH_ALIAS_INVALID = 25, ECCH_TOPIC_MISSING = 26, ECCH_ALIAS_UNKNOWN = 27, ECCH_ALIAS_NO_ROOM = 28,
     ECCH_ALIAS_TABLE_LEN = 2064, ECCH_FORCE_SLICE = 0, ECCH_FORCE_START = 1, ECCH_FORCE_LEN = 2, ECCH_FORCE_NUMBERS = 3, ECCH_IN_STREAM = 1,
     ECCH_IN_TABLE = 2,
+    ECCH_BAD_BUFFER = 35, ECCH_FRAME_TOO_LONG = 36,
+    ECCH_STATE_HELD = 0, ECCH_STATE_ENDED = 1, ECCH_STATE_VALUE_1 = 2, ECCH_STATE_VALUE_2 = 3, ECCH_STATE_NUMBERS = 4,
+    ECCH_FRAME_USED = 0, ECCH_FRAME_VALUE_1 = 1, ECCH_FRAME_VALUE_2 = 2, ECCH_FRAME_PLACE = 3, ECCH_FRAME_LEN = 4, ECCH_FRAME_NUMBERS = 5,
 }
 
 extern "C" {
@@ -220,6 +223,13 @@ extern "C" {
     ) -> u32;
     pub fn ecch_topic_in_force(
         stream: *const u8, stream_len: usize, start: usize, len: usize, alias_on: u8, alias: u16, table: *const u8, table_len: usize,
+        item: *mut u64, item_len: usize,
+    ) -> u32;
+    pub fn ecch_next_frame(
+        limited: u8, limit: usize,
+        state: *mut u64, state_len: usize,
+        buffer: *mut u8, buffer_len: usize,
+        piece: *const u8, piece_len: usize,
         item: *mut u64, item_len: usize,
     ) -> u32;
 }

@@ -5,16 +5,17 @@ use framing::check;
 use framing::check::Checked;
 use records::answer::Limit;
 use records::error::Error;
+use records::values::Values;
 use refusals;
 ghost use mathlib.Core.Path.{_≡_};
 ghost use mathlib.Core.List.{_++_};
 ghost use Prim.Native.Nat.{_+_, _-_, _≤_, _<_, min};
 ghost use lib.ListN.{length, take};
-ghost use Rattle.records.specs.Told.{limitOf};
+ghost use Rattle.records.specs.Told.{rowOf, valuesOf, toldValues, limitOf};
 ghost use Rattle.pieces.specs.Whole.{lacks, frame};
 ghost use Rattle.pieces.specs.Step.{serves, waiting, fresh, stepFrom, called, foundOf};
 ghost use Rattle.pieces.specs.Judge.{judgeOf, spans};
-ghost use Rattle.pieces.specs.Told.{toldJudged, toldState, toldStep};
+ghost use Rattle.pieces.specs.Told.{toldStop, toldJudged, toldState, toldStep};
 
 // Why a call gives no frame, and takes nothing.
 pub enum Stop {
@@ -63,14 +64,34 @@ enum Judged {
     Stopped(Stop),
 }
 
+// The number of a refusal.
+pub fn number(why: Stop) -> u8
+    ensures { λ r. ⌜ r ≡ rowOf (toldStop why) ⌝ }
+{
+    match why {
+        Stop::Header(e) => refusals::number(e),
+        Stop::BadBuffer => 35,
+        Stop::FrameTooLong => 36,
+    }
+}
+
+// Its values.
+pub fn values(why: Stop) -> Values
+    ensures { λ r. ⌜ toldValues r ≡ valuesOf (toldStop why) ⌝ }
+{
+    match why {
+        Stop::Header(e) => refusals::values(e),
+        Stop::BadBuffer => Values::None,
+        Stop::FrameTooLong => Values::None,
+    }
+}
+
 // The state before the first piece.
 pub fn start() -> State
     ensures { λ r. ⌜ toldState r ≡ fresh ⌝ }
 {
-    State {
-        held: 0,
-        end: End::Open,
-    }
+    let end = End::Open;
+    State { held: 0, end }
 }
 
 // The header at the start of `s`: 1 or 2 of it, then 3, then whether its frame is longer than the buffer.

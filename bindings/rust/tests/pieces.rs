@@ -1,0 +1,176 @@
+//! A stream cut into pieces against the whole stream read frame by frame (02, P10). The whole stream is read by `places::read`, with the rule for
+//! a frame longer than the buffer written out here.
+use ecchjulmina::pieces::{Answer, Pieces, Stop, Stopped};
+use ecchjulmina::places;
+
+/// An answer: the refusal's number or 0, the bytes taken, and the bytes of the frame that it speaks of, with what the record says.
+type Line = (u8, usize, String);
+
+fn says(frame: &[u8], read: &Result<places::Record<'_>, ecchjulmina::Error>) -> Line {
+    match read {
+        Ok(r) => (0, frame.len(), format!("{:?} {} {:?} {:?} {:?}", r.kind(), r.pkid(), r.topic(), r.payload(), r.user_properties().collect::<Vec<_>>())),
+        Err(e) => (e.number(), frame.len(), format!("{e:?}")),
+    }
+}
+
+/// F, where the header is whole.
+fn frame_length(s: &[u8]) -> Option<usize> {
+    let mut rest = 0;
+    for (i, b) in s.iter().skip(1).take(4).enumerate() {
+        rest |= ((b & 0x7F) as usize) << (7 * i);
+        if b & 0x80 == 0 {
+            return Some(2 + i + rest);
+        }
+    }
+    None
+}
+
+fn whole(mut s: &[u8], limit: Option<usize>, room: usize) -> Vec<Line> {
+    let mut all = Vec::new();
+    loop {
+        let (read, taken) = places::read(s, limit);
+        let over = frame_length(s).is_some_and(|f| f > room);
+        match read {
+            Err(e) if e.number() == 2 && taken == 0 => return push(all, (2, 0, format!("{e:?}"))),
+            Err(e) if e.number() == 3 => return push(all, (3, 0, format!("{e:?}"))),
+            _ if over => return push(all, (36, 0, String::new())),
+            Err(e) if e.number() == 1 => return all,
+            read => all.push(says(&s[..taken], &read)),
+        }
+        s = &s[taken..];
+    }
+}
+
+fn push(mut all: Vec<Line>, line: Line) -> Vec<Line> {
+    all.push(line);
+    all
+}
+
+/// The answers to all pieces; a refusal that is given again is listed once. With each piece all is listed that its bytes complete.
+fn cut(pieces: &[&[u8]], limit: Option<usize>, room: usize) -> Vec<Line> {
+    let mut reader = Pieces::new(room, limit).unwrap();
+    let mut all: Vec<Line> = Vec::new();
+    let mut ended: Option<u8> = None;
+    for piece in pieces {
+        let mut pushed = reader.push(piece);
+        while let Some(answer) = pushed.next() {
+            match answer {
+                Answer::Frame { frame, copied, read } => {
+                    assert!(ended.is_none());
+                    let inside = piece.as_ptr_range().start <= frame.as_ptr() && frame.as_ptr_range().end <= piece.as_ptr_range().end;
+                    assert_eq!(copied, !inside);
+                    all.push(says(frame, &read));
+                }
+                Answer::Stopped(why) => match ended {
+                    None => {
+                        ended = Some(why.number());
+                        all.push((why.number(), 0, if let Stop::Header(e) = &why { format!("{e:?}") } else { String::new() }));
+                    }
+                    Some(n) => assert_eq!(n, why.number()),
+                },
+            }
+        }
+    }
+    all
+}
+
+const PARTS: &[&[u8]] = &[
+    b"\x30\x08\x00\x03a/b\x00hi",
+    b"\xC0\x00",
+    b"\xF0\x00",
+    b"\x40\x02\x00\x0A",
+    b"\x82\x08\x00\x01\x00\x00\x02#a\x00",
+    b"\x30\x0A\x00\x01x\x05\x26\x00\x00\x00\x00y",
+    b"\x30\x81\x01",
+    b"\x30\x80\x00",
+    b"\x30\x80\x80\x80\x80",
+    b"\xD0\x00",
+];
+
+/// Every cut of short streams into two and three pieces, an empty one among them, for every buffer from 5 bytes on.
+#[test]
+fn every_cut() {
+    let mut cuts = 0;
+    for a in PARTS {
+        for b in PARTS {
+            let s: Vec<u8> = [*a, *b, b"\xC0\x00"].concat();
+            for room in 5..16 {
+                for limit in [None, Some(4), Some(9), Some(10)] {
+                    let all = whole(&s, limit, room);
+                    for i in 0..=s.len() {
+                        for j in i..=s.len() {
+                            assert_eq!(cut(&[&s[..i], &s[i..j], &s[j..]], limit, room), all, "{s:?} {i} {j} {room} {limit:?}");
+                            assert_eq!(cut(&[&s[..i], &s[i..j]], limit, room), whole(&s[..j], limit, room));
+                            cuts += 2;
+                        }
+                    }
+                }
+            }
+        }
+    }
+    assert_eq!(cuts, 991_672);
+}
+
+/// The sample file, at every place, in pieces of every size up to 70, and a few larger.
+#[test]
+fn the_sample() {
+    let s = std::fs::read(concat!(env!("CARGO_MANIFEST_DIR"), "/../../samples/armouring-line.mqtt")).unwrap();
+    for room in [5, 64, 300, 65_536] {
+        let all = whole(&s, None, room);
+        for i in 0..=s.len().min(2_000) {
+            assert_eq!(cut(&[&s[..i], &s[i..]], None, room), all);
+        }
+        for size in (1..70).chain([100, 1_000, 65_536]) {
+            assert_eq!(cut(&s.chunks(size).collect::<Vec<_>>(), None, room), all, "{size}");
+        }
+    }
+}
+
+/// Long streams of good and damaged frames, cut at random.
+#[test]
+fn random_cuts() {
+    let mut seed = 0x9E37_79B9_7F4A_7C15u64;
+    let mut below = move |n: usize| {
+        seed ^= seed << 13;
+        seed ^= seed >> 7;
+        seed ^= seed << 17;
+        (seed % n as u64) as usize
+    };
+    for _ in 0..20_000 {
+        let mut s = Vec::new();
+        for _ in 0..below(40) {
+            let part = PARTS[if below(30) == 0 { below(10) } else { below(6) }];
+            s.extend(part);
+        }
+        if !s.is_empty() && below(4) == 0 {
+            let i = below(s.len());
+            s[i] = below(256) as u8;
+        }
+        let most = [20, 400, 400][below(3)];
+        let room = 5 + below(most);
+        let limit = (below(3) == 0).then(|| below(30));
+        let mut pieces: Vec<&[u8]> = Vec::new();
+        let mut rest = &s[..];
+        while !rest.is_empty() {
+            let most = [1, 3, 17, 200][below(4)];
+            let n = below(1 + most).min(rest.len());
+            pieces.push(&rest[..n]);
+            rest = &rest[n..];
+        }
+        assert_eq!(cut(&pieces, limit, room), whole(&s, limit, room), "{s:?} {room} {limit:?}");
+    }
+}
+
+/// A buffer of any other length, the owned packets, and what is held.
+#[test]
+fn buffers_and_packets() {
+    for room in [0, 4, 65_537] {
+        assert!(matches!(Pieces::new(room, None), Err(Stop::BadBuffer)));
+    }
+    let mut reader = Pieces::new(10, None).unwrap();
+    assert!(reader.packets(b"\xC0").is_empty());
+    assert_eq!(reader.held(), 1);
+    let all = reader.packets(b"\x00\xF0\x00\x30\x09");
+    assert!(matches!(all[..], [Ok(ecchjulmina::Packet::PingReq(_)), Err(Stopped::Frame(ecchjulmina::Error::InvalidPacketType(15))), Err(Stopped::Stream(Stop::FrameTooLong))]));
+    assert!(matches!(reader.packets(b"")[..], [Err(Stopped::Stream(Stop::FrameTooLong))]));
+}
