@@ -222,12 +222,13 @@ enum ecch_next_topic_layout { ECCH_NEXT_TOPIC_NEXT = 0, ECCH_NEXT_TOPIC_START = 
  * and 0 is a limit. */
 uint32_t ecch_read(const uint8_t *stream, size_t stream_len, uint8_t limited, size_t limit, uint64_t *record, size_t record_len);
 
-/* How many bytes of a place lie in the stream: `len` if all of it does, and the part is then stream + start; else 0, and no part. */
-size_t ecch_part(const uint8_t *stream, size_t stream_len, size_t start, size_t len);
+/* 0 if all of a place lies in the stream: the part is then stream + start, and may be empty; else 21, and there is no part. */
+uint32_t ecch_part(const uint8_t *stream, size_t stream_len, size_t start, size_t len);
 
 /* The n-th item, n from 0, of the list at a place of the stream: 0, or 21 if there is none, or if the place is no well-formed block of
- * the kind (run of filters, reasons or topics). `kind` is 3 to 11; any other is 21. Each call goes over the list from its start: to have
- * every item, walk it with ecch_property, ecch_next_filter or ecch_next_topic. */
+ * the kind (run of filters, reasons or topics). `kind` is 3 to 11; any other is 21. ecch_subscription_identifier asks for the
+ * block of a Publish, and reads the place by that row; the identifier of a Subscribe stands in its record. Each call goes over the list
+ * from its start: to have every item, walk it with ecch_property, ecch_next_filter or ecch_next_topic. */
 uint32_t ecch_user_property(const uint8_t *stream, size_t stream_len, uint8_t kind, size_t start, size_t len, size_t n, uint64_t *item, size_t item_len);
 uint32_t ecch_subscription_identifier(const uint8_t *stream, size_t stream_len, size_t start, size_t len, size_t n, uint64_t *item, size_t item_len);
 uint32_t ecch_filter(const uint8_t *stream, size_t stream_len, size_t start, size_t len, size_t n, uint64_t *item, size_t item_len);
@@ -237,14 +238,14 @@ uint32_t ecch_topic(const uint8_t *stream, size_t stream_len, size_t start, size
  * one, take them from the stream. */
 uint32_t ecch_reason(const uint8_t *stream, size_t stream_len, uint8_t kind, size_t start, size_t len, size_t n, uint64_t *item, size_t item_len);
 
-/* The property, the topic, or the filter, at index `at` of the stream, whose end is the end of its room: 0, or the refusal's number
- * (property: 2, 7, 8, 9, 10, 23; topic: 7, 8, 9; filter: 7, 8, 9, 11, 14). `kind` is 3 to 11; any other is 21. To walk what ecch_read
- * found, hand over the stream up to the end of the block (of the filters) and begin at its start; the item begins where the last one
- * ended, and the last one ends at that end. Topics are walked as filters are. What stands before the index is not looked at, so that no
- * property is 22 here. */
-uint32_t ecch_property(const uint8_t *stream, size_t stream_len, uint8_t kind, size_t at, uint64_t *item, size_t item_len);
-uint32_t ecch_next_filter(const uint8_t *stream, size_t stream_len, size_t at, uint64_t *item, size_t item_len);
-uint32_t ecch_next_topic(const uint8_t *stream, size_t stream_len, size_t at, uint64_t *item, size_t item_len);
+/* The property, the filter, or the topic, at index `at` of the stream, in a block or run that ends at index `end` of it: 0, or the
+ * refusal's number (property: 2, 7, 8, 9, 10, 23; filter: 7, 8, 9, 11, 14; topic: 7, 8, 9). An `end` beyond the stream is 21. `kind` is 3
+ * to 11; any other is 21. To walk what ecch_read found, hand over the end of the block (of the run), which is its start and its length,
+ * and begin at its start; the item begins where the last one ended, and the last one ends at that end. Nothing from the end on is read,
+ * and what stands before the index is not looked at, so that no property is 22 here. */
+uint32_t ecch_property(const uint8_t *stream, size_t stream_len, uint8_t kind, size_t at, size_t end, uint64_t *item, size_t item_len);
+uint32_t ecch_next_filter(const uint8_t *stream, size_t stream_len, size_t at, size_t end, uint64_t *item, size_t item_len);
+uint32_t ecch_next_topic(const uint8_t *stream, size_t stream_len, size_t at, size_t end, uint64_t *item, size_t item_len);
 
 /* The name of a refusal, as in 01 and 02: how many bytes it has (24 at most), 0 for a number that is none of 1 to 23. Its bytes are set
  * from index 0 on, what fits of them; no 0 follows them. */
@@ -253,13 +254,15 @@ size_t ecch_name(uint32_t number, uint8_t *name, size_t name_len);
 /* ---- size and write: 0, or the refusal's number. `answer` has the size, or the refusal's values. A refused write leaves `out` as it
  * stood; an accepted one sets the first `size` bytes of it and keeps the rest. If `limited` is not 0, the size may be `limit` at most.
  *
- * `.._on` says whether the value behind it is present; `block` whether there is a property set at all. A value that is off is not looked
- * at, but bytes for one that is off, and anything for a set that is absent, are refusal 20. User properties are one run of bytes, and the
- * lengths of key, value, key, value and so on; filters are one run of bytes, their lengths, and an options byte each (bits 0-1 QoS, 2
- * no-local, 3 preserve-retain, 4-5 forward rule); topics are one run of bytes, and their lengths; reasons are a byte each. A QoS above 2
- * is refused with 11 before all else, by size too. A reason that its kind does not list is refused with 15, by write alone: after 20, and
- * before the texts of a PubAck, PubRec, PubRel or PubComp, behind those of a SubAck or UnsubAck. A subscription identifier 0 is refused
- * with 23, by write alone, where one that is too large is with 17. */
+ * `.._on` says whether the value behind it is present; `block` whether there is a property set at all. What is handed over for a value that
+ * is off is refusal 20, bytes as well as a number other than 0; so is anything for a set that is absent. User properties are one run of
+ * bytes, and the lengths of key, value, key, value and so on; filters are one run of bytes, their lengths, and an options byte each (bits
+ * 0-1 QoS, 2 no-local, 3 preserve-retain, 4-5 forward rule); topics are one run of bytes, and their lengths; reasons are a byte each.
+ *
+ * Which refusal comes first: 20; then 11 for a QoS of a Publish above 2, by size too; then field by field as written 18 and 9, with 14 and
+ * 11 for a filter, and 15 for a reason that its kind does not list, which stands before the texts of a PubAck, PubRec, PubRel or PubComp
+ * and behind those of a SubAck or UnsubAck; 17 for the length; 16; 12; 17 and 23 for subscription identifiers in order; 13; 19. Size alone
+ * refuses with 20, that 11, and 17 for the length. */
 
 uint32_t ecch_publish_size(
     uint8_t dup, uint8_t qos, uint8_t retain, uint16_t pkid,

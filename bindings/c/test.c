@@ -381,8 +381,10 @@ static void items(void) {
     CHECK(ecch_topic(unsubscribe, sizeof unsubscribe, SIZE_MAX, 7, 0, item, ECCH_TOPIC_NUMBERS) == ECCH_NO_ITEM);
     CHECK(ecch_topic(BYTES(0, 1, 'a', 0, 1, 0), 0, 6, 0, item, ECCH_TOPIC_NUMBERS) == ECCH_NO_ITEM);
 
-    CHECK(ecch_part(three, sizeof three, 4, 1) == 1 && ecch_part(three, sizeof three, 12, 1) == 1 && ecch_part(three, sizeof three, 12, 2) == 0);
-    CHECK(ecch_part(three, sizeof three, 13, 0) == 0 && ecch_part(three, sizeof three, SIZE_MAX, 2) == 0);
+    CHECK(ecch_part(three, sizeof three, 4, 1) == 0 && ecch_part(three, sizeof three, 12, 1) == 0 && ecch_part(three, sizeof three, 12, 2) == ECCH_NO_ITEM);
+    /* an empty part, the one at the end too, is told from a place outside */
+    CHECK(ecch_part(three, sizeof three, 0, 0) == 0 && ecch_part(three, sizeof three, 13, 0) == 0 && ecch_part(three, sizeof three, 14, 0) == ECCH_NO_ITEM);
+    CHECK(ecch_part(three, sizeof three, SIZE_MAX, 2) == ECCH_NO_ITEM && ecch_part(three, sizeof three, SIZE_MAX, 0) == ECCH_NO_ITEM && ecch_part(NONE, 0, 0) == 0);
 }
 
 static uint64_t walk[ECCH_PROPERTY_NUMBERS + 1];
@@ -400,11 +402,12 @@ static void walks(void) {
     static const uint8_t block[] = {1,   1,    2,    0x01, 0x02, 0x03, 0x04, 35, 0x05, 0x06, 8,   0x00, 0x01, 'r',  9,    0x00, 0x02, 0xFE,
                                     0xFF, 38,   0x00, 0x01, 'k',  0x00, 0x02, 'v', 'w',  11,   0x80, 0x01, 3,    0x00, 0x00};
     static const uint8_t filters[] = {0x99, 0x00, 0x01, 'a', 0x01, 0x00, 0x00, 0x2E};
+    static const uint8_t crossing[] = {0x30, 0x0B, 0x00, 0x01, 'a', 0x05, 38, 0x00, 0x00, 0x00, 0x00, 11, 0x07};
     static const uint8_t named[] = {31, 0x00, 0x01, 'n', 31, 0x00, 0x01, 'm'};
     static const uint8_t topics[] = {0x99, 0x00, 0x02, 'a', '#', 0x00, 0x00};
     unsigned i;
     memset(walk, 0xEE, sizeof walk);
-#define PROPERTY(stream, len, kind, at) ecch_property(stream, len, kind, at, walk, ECCH_PROPERTY_NUMBERS)
+#define PROPERTY(stream, len, kind, at) ecch_property(stream, len, kind, at, len, walk, ECCH_PROPERTY_NUMBERS)
     walked(PROPERTY(block, sizeof block, 3, 0), 0, 2, 1, 1, 0, 0, 0, 0);
     walked(PROPERTY(block, sizeof block, 3, 2), 0, 7, 2, 0x01020304, 0, 0, 0, 0);
     walked(PROPERTY(block, sizeof block, 3, 7), 0, 10, 35, 0x0506, 0, 0, 0, 0);
@@ -424,10 +427,10 @@ static void walks(void) {
     }
     /* An index has no memory: no 22. A number 0, a number in more bytes than it needs, and U+0000 are refused. */
     walked(PROPERTY(named, sizeof named, 4, 4), 0, 8, 31, 0, 7, 1, 0, 0);
-    walked(ecch_property(BYTES(11, 0x00), 3, 0, walk, ECCH_PROPERTY_NUMBERS), ECCH_SUBSCRIPTION_ID_ZERO, 0, 0, 0, 0, 0, 0, 0);
-    walked(ecch_property(BYTES(11, 0x00), 8, 0, walk, ECCH_PROPERTY_NUMBERS), ECCH_SUBSCRIPTION_ID_ZERO, 0, 0, 0, 0, 0, 0, 0);
-    walked(ecch_property(BYTES(11, 0x81, 0x00), 3, 0, walk, ECCH_PROPERTY_NUMBERS), ECCH_MALFORMED_REMAINING_LENGTH, 0, 0, 0, 0, 0, 0, 0);
-    walked(ecch_property(BYTES(31, 0x00, 0x01, 0x00), 7, 0, walk, ECCH_PROPERTY_NUMBERS), ECCH_TOPIC_NOT_UTF8, 0, 0, 0, 0, 0, 0, 0);
+    walked(ecch_property(BYTES(11, 0x00), 3, 0, 2, walk, ECCH_PROPERTY_NUMBERS), ECCH_SUBSCRIPTION_ID_ZERO, 0, 0, 0, 0, 0, 0, 0);
+    walked(ecch_property(BYTES(11, 0x00), 8, 0, 2, walk, ECCH_PROPERTY_NUMBERS), ECCH_SUBSCRIPTION_ID_ZERO, 0, 0, 0, 0, 0, 0, 0);
+    walked(ecch_property(BYTES(11, 0x81, 0x00), 3, 0, 3, walk, ECCH_PROPERTY_NUMBERS), ECCH_MALFORMED_REMAINING_LENGTH, 0, 0, 0, 0, 0, 0, 0);
+    walked(ecch_property(BYTES(31, 0x00, 0x01, 0x00), 7, 0, 4, walk, ECCH_PROPERTY_NUMBERS), ECCH_TOPIC_NOT_UTF8, 0, 0, 0, 0, 0, 0, 0);
     /* Refusals: past the end, another row, another kind, cut, crossed, not UTF-8, a length too long. */
     walked(PROPERTY(block, sizeof block, 3, 33), ECCH_MALFORMED_PACKET, 0, 0, 0, 0, 0, 0, 0);
     walked(PROPERTY(block, sizeof block, 3, SIZE_MAX), ECCH_MALFORMED_PACKET, 0, 0, 0, 0, 0, 0, 0);
@@ -438,18 +441,18 @@ static void walks(void) {
     walked(PROPERTY(block, sizeof block, 255, SIZE_MAX), ECCH_NO_ITEM, 0, 0, 0, 0, 0, 0, 0);
     walked(PROPERTY(block, 26, 3, 19), ECCH_BOUNDARY_CROSSED, 2, 0, 0, 0, 0, 0, 0);
     walked(PROPERTY(block, 24, 3, 19), ECCH_MALFORMED_PACKET, 0, 0, 0, 0, 0, 0, 0);
-    walked(ecch_property(BYTES(8, 0x00, 0x01, 0xFF), 3, 0, walk, ECCH_PROPERTY_NUMBERS), ECCH_TOPIC_NOT_UTF8, 0, 0, 0, 0, 0, 0, 0);
-    walked(ecch_property(BYTES(11, 0xFF, 0xFF, 0xFF, 0xFF), 3, 0, walk, ECCH_PROPERTY_NUMBERS), ECCH_MALFORMED_REMAINING_LENGTH, 0, 0, 0, 0, 0, 0, 0);
-#define FILTER(stream, len, at) ecch_next_filter(stream, len, at, walk, ECCH_NEXT_FILTER_NUMBERS)
+    walked(ecch_property(BYTES(8, 0x00, 0x01, 0xFF), 3, 0, 4, walk, ECCH_PROPERTY_NUMBERS), ECCH_TOPIC_NOT_UTF8, 0, 0, 0, 0, 0, 0, 0);
+    walked(ecch_property(BYTES(11, 0xFF, 0xFF, 0xFF, 0xFF), 3, 0, 5, walk, ECCH_PROPERTY_NUMBERS), ECCH_MALFORMED_REMAINING_LENGTH, 0, 0, 0, 0, 0, 0, 0);
+#define FILTER(stream, len, at) ecch_next_filter(stream, len, at, len, walk, ECCH_NEXT_FILTER_NUMBERS)
     walked(FILTER(filters, sizeof filters, 1), 0, 5, 3, 1, 1, 0, 0, 0);
     walked(FILTER(filters, sizeof filters, 5), 0, 8, 7, 0, 2, 1, 1, 2);
     walked(FILTER(filters, sizeof filters, 8), ECCH_MALFORMED_PACKET, 0, 0, 0, 0, 0, 0, 0);
     walked(FILTER(filters, sizeof filters, SIZE_MAX), ECCH_MALFORMED_PACKET, 0, 0, 0, 0, 0, 0, 0);
     walked(FILTER(filters, 3, 1), ECCH_BOUNDARY_CROSSED, 1, 0, 0, 0, 0, 0, 0);
-    walked(ecch_next_filter(BYTES(0x00, 0x00, 0x33), 0, walk, ECCH_NEXT_FILTER_NUMBERS), ECCH_INVALID_RETAIN_FORWARD_RULE, 3, 0, 0, 0, 0, 0, 0);
-    walked(ecch_next_filter(BYTES(0x00, 0x00, 0x03), 0, walk, ECCH_NEXT_FILTER_NUMBERS), ECCH_INVALID_QOS, 3, 0, 0, 0, 0, 0, 0);
-    walked(ecch_next_filter(BYTES(0x00, 0x01, 0x00, 0x00), 0, walk, ECCH_NEXT_FILTER_NUMBERS), ECCH_TOPIC_NOT_UTF8, 0, 0, 0, 0, 0, 0, 0);
-#define TOPIC(stream, len, at) ecch_next_topic(stream, len, at, walk, ECCH_NEXT_TOPIC_NUMBERS)
+    walked(ecch_next_filter(BYTES(0x00, 0x00, 0x33), 0, 3, walk, ECCH_NEXT_FILTER_NUMBERS), ECCH_INVALID_RETAIN_FORWARD_RULE, 3, 0, 0, 0, 0, 0, 0);
+    walked(ecch_next_filter(BYTES(0x00, 0x00, 0x03), 0, 3, walk, ECCH_NEXT_FILTER_NUMBERS), ECCH_INVALID_QOS, 3, 0, 0, 0, 0, 0, 0);
+    walked(ecch_next_filter(BYTES(0x00, 0x01, 0x00, 0x00), 0, 4, walk, ECCH_NEXT_FILTER_NUMBERS), ECCH_TOPIC_NOT_UTF8, 0, 0, 0, 0, 0, 0, 0);
+#define TOPIC(stream, len, at) ecch_next_topic(stream, len, at, len, walk, ECCH_NEXT_TOPIC_NUMBERS)
     walked(TOPIC(topics, sizeof topics, 1), 0, 5, 3, 2, 0, 0, 0, 0);
     walked(TOPIC(topics, sizeof topics, 5), 0, 7, 7, 0, 0, 0, 0, 0);
     walked(TOPIC(topics, sizeof topics, 7), ECCH_MALFORMED_PACKET, 0, 0, 0, 0, 0, 0, 0);
@@ -457,13 +460,28 @@ static void walks(void) {
     walked(TOPIC((const uint8_t *)ECCH_NOTHING, 0, 0), ECCH_MALFORMED_PACKET, 0, 0, 0, 0, 0, 0, 0);
     walked(TOPIC(topics, 2, 1), ECCH_MALFORMED_PACKET, 0, 0, 0, 0, 0, 0, 0);
     walked(TOPIC(topics, 4, 1), ECCH_BOUNDARY_CROSSED, 2, 0, 0, 0, 0, 0, 0);
-    walked(ecch_next_topic(BYTES(0x00, 0x01, 0xFF), 0, walk, ECCH_NEXT_TOPIC_NUMBERS), ECCH_TOPIC_NOT_UTF8, 0, 0, 0, 0, 0, 0, 0);
-    walked(ecch_next_topic(BYTES(0x00, 0x01, 0x00), 0, walk, ECCH_NEXT_TOPIC_NUMBERS), ECCH_TOPIC_NOT_UTF8, 0, 0, 0, 0, 0, 0, 0);
+    walked(ecch_next_topic(BYTES(0x00, 0x01, 0xFF), 0, 3, walk, ECCH_NEXT_TOPIC_NUMBERS), ECCH_TOPIC_NOT_UTF8, 0, 0, 0, 0, 0, 0, 0);
+    walked(ecch_next_topic(BYTES(0x00, 0x01, 0x00), 0, 3, walk, ECCH_NEXT_TOPIC_NUMBERS), ECCH_TOPIC_NOT_UTF8, 0, 0, 0, 0, 0, 0, 0);
+    /* The whole stream is handed over, and the end of the block: what stands behind it is no property (D2); an end beyond the stream is 21. */
+    walked(ecch_property(crossing, sizeof crossing, 3, 6, 11, walk, ECCH_PROPERTY_NUMBERS), 0, 11, 38, 0, 9, 0, 11, 0);
+    walked(ecch_property(crossing, sizeof crossing, 3, 11, 11, walk, ECCH_PROPERTY_NUMBERS), ECCH_MALFORMED_PACKET, 0, 0, 0, 0, 0, 0, 0);
+    walked(ecch_property(crossing, sizeof crossing, 3, 12, 11, walk, ECCH_PROPERTY_NUMBERS), ECCH_MALFORMED_PACKET, 0, 0, 0, 0, 0, 0, 0);
+    walked(ecch_property(crossing, sizeof crossing, 3, 6, 10, walk, ECCH_PROPERTY_NUMBERS), ECCH_MALFORMED_PACKET, 0, 0, 0, 0, 0, 0, 0);
+    walked(ecch_property(crossing, sizeof crossing, 3, 6, 14, walk, ECCH_PROPERTY_NUMBERS), ECCH_NO_ITEM, 0, 0, 0, 0, 0, 0, 0);
+    walked(ecch_property(crossing, sizeof crossing, 3, 6, SIZE_MAX, walk, ECCH_PROPERTY_NUMBERS), ECCH_NO_ITEM, 0, 0, 0, 0, 0, 0, 0);
+    walked(ecch_next_filter(filters, sizeof filters, 1, 5, walk, ECCH_NEXT_FILTER_NUMBERS), 0, 5, 3, 1, 1, 0, 0, 0);
+    walked(ecch_next_filter(filters, sizeof filters, 5, 5, walk, ECCH_NEXT_FILTER_NUMBERS), ECCH_MALFORMED_PACKET, 0, 0, 0, 0, 0, 0, 0);
+    walked(ecch_next_filter(filters, sizeof filters, 1, 3, walk, ECCH_NEXT_FILTER_NUMBERS), ECCH_BOUNDARY_CROSSED, 1, 0, 0, 0, 0, 0, 0);
+    walked(ecch_next_filter(filters, sizeof filters, 1, sizeof filters + 1, walk, ECCH_NEXT_FILTER_NUMBERS), ECCH_NO_ITEM, 0, 0, 0, 0, 0, 0, 0);
+    walked(ecch_next_topic(topics, sizeof topics, 1, 5, walk, ECCH_NEXT_TOPIC_NUMBERS), 0, 5, 3, 2, 0, 0, 0, 0);
+    walked(ecch_next_topic(topics, sizeof topics, 5, 5, walk, ECCH_NEXT_TOPIC_NUMBERS), ECCH_MALFORMED_PACKET, 0, 0, 0, 0, 0, 0, 0);
+    walked(ecch_next_topic(topics, sizeof topics, 1, 4, walk, ECCH_NEXT_TOPIC_NUMBERS), ECCH_BOUNDARY_CROSSED, 2, 0, 0, 0, 0, 0, 0);
+    walked(ecch_next_topic(topics, sizeof topics, 1, sizeof topics + 1, walk, ECCH_NEXT_TOPIC_NUMBERS), ECCH_NO_ITEM, 0, 0, 0, 0, 0, 0, 0);
     /* A shorter array takes what fits. */
-    CHECK(ecch_next_topic(topics, sizeof topics, 1, walk, 3) == 0 && walk[0] == 5 && walk[1] == 3 && walk[2] == 2 && walk[3] == 0xEEEEEEEEEEEEEEEEu);
+    CHECK(ecch_next_topic(topics, sizeof topics, 1, sizeof topics, walk, 3) == 0 && walk[0] == 5 && walk[1] == 3 && walk[2] == 2 && walk[3] == 0xEEEEEEEEEEEEEEEEu);
     memset(walk, 0xEE, sizeof walk);
-    CHECK(ecch_property(block, sizeof block, 3, 2, walk, 1) == 0 && walk[0] == 7 && walk[1] == 0xEEEEEEEEEEEEEEEEu);
-    CHECK(ecch_next_filter(filters, sizeof filters, 1, walk, 2) == 0 && walk[0] == 5 && walk[1] == 3 && walk[2] == 0xEEEEEEEEEEEEEEEEu);
+    CHECK(ecch_property(block, sizeof block, 3, 2, sizeof block, walk, 1) == 0 && walk[0] == 7 && walk[1] == 0xEEEEEEEEEEEEEEEEu);
+    CHECK(ecch_next_filter(filters, sizeof filters, 1, sizeof filters, walk, 2) == 0 && walk[0] == 5 && walk[1] == 3 && walk[2] == 0xEEEEEEEEEEEEEEEEu);
 }
 
 static void names(void) {
@@ -498,6 +516,8 @@ static uint8_t out[64], before[64];
 /* A string that is too long by one. */
 static const uint8_t huge[65536];
 static const size_t huge_length[] = {sizeof huge}, huge_pair[] = {sizeof huge, 0};
+static const size_t two_ones[] = {1, 1};
+#define TWO_ONES two_ones, 2
 #define FRESH memcpy(out, before, sizeof out)
 #define WROTE(b) wrote(b, sizeof(b))
 #define KEPT CHECK(memcmp(out, before, sizeof out) == 0)
@@ -539,6 +559,33 @@ static void writes(void) {
 #define ABSENT 0, 0, 0, 0, BYTES('t'), 0, 0, 0, 0, 0, 0, 0, 0, BYTES('r'), 0, NONE, NONE, NO_LENGTHS, NO_NUMBERS, 0, NONE, NONE
     answered(ecch_publish_size(ABSENT, ans, ECCH_ANSWER_LEN), ECCH_LIST_MISMATCH, 0, 0, 0);
     answered(ecch_publish_write(ABSENT, FREE, out, sizeof out, ans, ECCH_ANSWER_LEN), ECCH_LIST_MISMATCH, 0, 0, 0);
+    KEPT;
+
+    /* A QoS that is none comes after 20, whatever is not as it should be, and before all else; so for size. */
+#define QOS_3(block, format_on, format, user, lengths) 0, 3, 0, 0, BYTES('t'), block, format_on, format, 0, 0, 0, 0, 0, NONE, 0, NONE, user, lengths, NO_NUMBERS, 0, NONE, NONE
+    answered(ecch_publish_size(QOS_3(1, 0, 0, BYTES('k', 'v', 'w'), TWO_ONES), ans, ECCH_ANSWER_LEN), ECCH_LIST_MISMATCH, 0, 0, 0);
+    answered(ecch_publish_write(QOS_3(1, 0, 0, BYTES('k', 'v', 'w'), TWO_ONES), 1, 0, out, 0, ans, ECCH_ANSWER_LEN), ECCH_LIST_MISMATCH, 0, 0, 0);
+    answered(ecch_publish_size(QOS_3(0, 0, 7, NONE, NO_LENGTHS), ans, ECCH_ANSWER_LEN), ECCH_LIST_MISMATCH, 0, 0, 0);
+    answered(ecch_publish_write(QOS_3(0, 1, 0, NONE, NO_LENGTHS), 1, 0, out, 0, ans, ECCH_ANSWER_LEN), ECCH_LIST_MISMATCH, 0, 0, 0);
+    answered(ecch_publish_size(QOS_3(1, 0, 0, BYTES('k', 'v'), TWO_ONES), ans, ECCH_ANSWER_LEN), ECCH_INVALID_QOS, 0, 3, 0);
+    answered(ecch_publish_write(QOS_3(1, 1, 7, BYTES('k', 0xFF), TWO_ONES), 1, 0, out, 0, ans, ECCH_ANSWER_LEN), ECCH_INVALID_QOS, 0, 3, 0);
+
+    /* A number other than 0 for a value that is off is 20, with a block and without. */
+#define NUMBERS(block, format_on, format, expiry_on, expiry, alias_on, alias) \
+    0, 0, 0, 0, BYTES('t'), block, format_on, format, expiry_on, expiry, alias_on, alias, 0, NONE, 0, NONE, NONE, NO_LENGTHS, NO_NUMBERS, 0, NONE, NONE
+#define OFF_NUMBER(...) \
+    answered(ecch_publish_size(NUMBERS(__VA_ARGS__), ans, ECCH_ANSWER_LEN), ECCH_LIST_MISMATCH, 0, 0, 0); \
+    answered(ecch_publish_write(NUMBERS(__VA_ARGS__), FREE, out, sizeof out, ans, ECCH_ANSWER_LEN), ECCH_LIST_MISMATCH, 0, 0, 0)
+    OFF_NUMBER(1, 0, 7, 0, 0, 0, 0);
+    OFF_NUMBER(1, 0, 0, 0, 0x80000000u, 0, 0);
+    OFF_NUMBER(1, 0, 0, 0, 0, 0, 0x8000);
+    OFF_NUMBER(0, 0, 1, 0, 0, 0, 0);
+    OFF_NUMBER(0, 0, 0, 0, 1, 0, 0);
+    OFF_NUMBER(0, 0, 0, 0, 0, 0, 1);
+    OFF_NUMBER(0, 1, 0, 0, 0, 0, 0);
+    answered(ecch_publish_size(NUMBERS(1, 1, 0, 1, 0, 1, 0), ans, ECCH_ANSWER_LEN), 0, 16, 0, 0);
+    answered(ecch_subscribe_size(7, 1, 0, 5, NONE, NO_LENGTHS, BYTES('a', 'b'), two, 1, BYTES(0), ans, ECCH_ANSWER_LEN), ECCH_LIST_MISMATCH, 0, 0, 0);
+    answered(ecch_subscribe_write(7, 0, 0, 0x80000000u, NONE, NO_LENGTHS, BYTES('a', 'b'), two, 1, BYTES(0), FREE, out, sizeof out, ans, ECCH_ANSWER_LEN), ECCH_LIST_MISMATCH, 0, 0, 0);
     KEPT;
 
 #define FILTERS 7, 1, 1, 5, BYTES('k', 'v'), pair, 2, BYTES('a', 'b'), two, 1, BYTES(0xEE)
@@ -799,9 +846,9 @@ static void widths(void) {
     WIDTH(ECCH_FILTER_LEN, ecch_filter(NONE, 0, 0, 0, a, 64));
     WIDTH(ECCH_REASON_NUMBERS, ecch_reason(NONE, 9, 0, 0, 0, a, 64));
     WIDTH(ECCH_TOPIC_NUMBERS, ecch_topic(NONE, 0, 0, 0, a, 64));
-    WIDTH(ECCH_PROPERTY_NUMBERS, ecch_property(NONE, 3, 0, a, 64));
-    WIDTH(ECCH_NEXT_FILTER_NUMBERS, ecch_next_filter(NONE, 0, a, 64));
-    WIDTH(ECCH_NEXT_TOPIC_NUMBERS, ecch_next_topic(NONE, 0, a, 64));
+    WIDTH(ECCH_PROPERTY_NUMBERS, ecch_property(NONE, 3, 0, 0, a, 64));
+    WIDTH(ECCH_NEXT_FILTER_NUMBERS, ecch_next_filter(NONE, 0, 0, a, 64));
+    WIDTH(ECCH_NEXT_TOPIC_NUMBERS, ecch_next_topic(NONE, 0, 0, a, 64));
     WIDTH(ECCH_ANSWER_LEN, ecch_pingreq_write(1, 0, out, sizeof out, a, 64));
 }
 

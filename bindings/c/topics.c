@@ -7,14 +7,14 @@
 
 static uint8_t stream[1 << 24];
 
-/* The topics of an Unsubscribe, walked: the frame is handed over up to their end. */
+/* The topics of an Unsubscribe, walked: the frame and their end are handed over. */
 static void left(size_t at, const uint64_t *r) {
     const size_t end = r[ECCH_TOPICS_START] + r[ECCH_TOPICS_LEN];
     uint64_t t[ECCH_NEXT_TOPIC_NUMBERS];
     size_t i;
     for (i = r[ECCH_TOPICS_START]; i < end; i = t[ECCH_NEXT_TOPIC_NEXT]) {
         /* never so: ecch_read takes topics only if they fill their place */
-        if (ecch_next_topic(stream + at, end, i, t, ECCH_NEXT_TOPIC_NUMBERS)) return;
+        if (ecch_next_topic(stream + at, r[ECCH_TAKEN], i, end, t, ECCH_NEXT_TOPIC_NUMBERS)) return;
         printf("%zu: leaves ", at);
         fwrite(stream + at + t[ECCH_NEXT_TOPIC_START], 1, t[ECCH_NEXT_TOPIC_LEN], stdout);
         printf("\n");

@@ -251,7 +251,7 @@ impl<'a> Iterator for Properties<'a> {
         }
         let mut n = [0u64; ECCH_PROPERTY_NUMBERS];
         // Sound: both pointers stand for whole Rust slices, which do not overlap since one is lent for writing.
-        let refused = unsafe { ecch_property(self.block.as_ptr(), self.block.len(), self.kind, self.at, n.as_mut_ptr(), n.len()) };
+        let refused = unsafe { ecch_property(self.block.as_ptr(), self.block.len(), self.kind, self.at, self.block.len(), n.as_mut_ptr(), n.len()) };
         self.at = next("a property of a block that was read", refused, self.at, n[ECCH_PROPERTY_NEXT], self.block.len());
         let part = |i: usize| &self.block[n[i] as usize..n[i] as usize + n[i + 1] as usize];
         Some(match n[ECCH_PROPERTY_IDENTIFIER] {
@@ -277,7 +277,7 @@ impl<'a> Iterator for Filters<'a> {
         }
         let mut n = [0u64; ECCH_NEXT_FILTER_NUMBERS];
         // Sound: both pointers stand for whole Rust slices, which do not overlap since one is lent for writing.
-        let refused = unsafe { ecch_next_filter(self.run.as_ptr(), self.run.len(), self.at, n.as_mut_ptr(), n.len()) };
+        let refused = unsafe { ecch_next_filter(self.run.as_ptr(), self.run.len(), self.at, self.run.len(), n.as_mut_ptr(), n.len()) };
         self.at = next("a filter of a run that was read", refused, self.at, n[ECCH_NEXT_FILTER_NEXT], self.run.len());
         let start = n[ECCH_NEXT_FILTER_START] as usize;
         Some(Filter {
@@ -296,7 +296,7 @@ pub fn filters(run: &[u8]) -> Result<Filters<'_>, Error> {
     while at < run.len() {
         let mut n = [0u64; ECCH_NEXT_FILTER_NUMBERS];
         // Sound: both pointers stand for whole Rust slices, which do not overlap since one is lent for writing.
-        let refused = unsafe { ecch_next_filter(run.as_ptr(), run.len(), at, n.as_mut_ptr(), n.len()) };
+        let refused = unsafe { ecch_next_filter(run.as_ptr(), run.len(), at, run.len(), n.as_mut_ptr(), n.len()) };
         if let Some(e) = Error::of(refused, n[ECCH_NEXT_FILTER_NEXT], 0) {
             return Err(e);
         }
@@ -320,7 +320,7 @@ impl<'a> Iterator for Topics<'a> {
         }
         let mut n = [0u64; ECCH_NEXT_TOPIC_NUMBERS];
         // Sound: both pointers stand for whole Rust slices, which do not overlap since one is lent for writing.
-        let refused = unsafe { ecch_next_topic(self.run.as_ptr(), self.run.len(), self.at, n.as_mut_ptr(), n.len()) };
+        let refused = unsafe { ecch_next_topic(self.run.as_ptr(), self.run.len(), self.at, self.run.len(), n.as_mut_ptr(), n.len()) };
         self.at = next("a topic of a run that was read", refused, self.at, n[ECCH_NEXT_TOPIC_NEXT], self.run.len());
         let start = n[ECCH_NEXT_TOPIC_START] as usize;
         Some(&self.run[start..start + n[ECCH_NEXT_TOPIC_LEN] as usize])

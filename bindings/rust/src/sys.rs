@@ -40,9 +40,9 @@ layout! {
 
 extern "C" {
     pub fn ecch_read(stream: *const u8, stream_len: usize, limited: u8, limit: usize, record: *mut u64, record_len: usize) -> u32;
-    pub fn ecch_property(stream: *const u8, stream_len: usize, kind: u8, at: usize, item: *mut u64, item_len: usize) -> u32;
-    pub fn ecch_next_filter(stream: *const u8, stream_len: usize, at: usize, item: *mut u64, item_len: usize) -> u32;
-    pub fn ecch_next_topic(stream: *const u8, stream_len: usize, at: usize, item: *mut u64, item_len: usize) -> u32;
+    pub fn ecch_property(stream: *const u8, stream_len: usize, kind: u8, at: usize, end: usize, item: *mut u64, item_len: usize) -> u32;
+    pub fn ecch_next_filter(stream: *const u8, stream_len: usize, at: usize, end: usize, item: *mut u64, item_len: usize) -> u32;
+    pub fn ecch_next_topic(stream: *const u8, stream_len: usize, at: usize, end: usize, item: *mut u64, item_len: usize) -> u32;
     pub fn ecch_publish_size(
         dup: u8, qos: u8, retain: u8, pkid: u16,
         topic: *const u8, topic_len: usize,

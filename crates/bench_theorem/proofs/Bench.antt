@@ -175,7 +175,11 @@ two = 0x82 ∷ 0x0D ∷ 0x00 ∷ 0x01 ∷ 0x00 ∷ 0x00 ∷ 0x01 ∷ 0x61 ∷ 0x
 abbrev acks : List ℕ
 acks = 0x40 ∷ 0x0F ∷ 0x00 ∷ 0x0A ∷ 0x99 ∷ 0x0B ∷ 0x1F ∷ 0x00 ∷ 0x01 ∷ 0x61 ∷ 0x26 ∷ 0x00 ∷ 0x01 ∷ 0x6B ∷ 0x00 ∷ 0x01 ∷ 0x76 ∷ 0xFF ∷ []
 
--- where the strings, blocks and entries of five frames stand
+-- a Publish whose topic, texts and payload are all empty
+abbrev hollow : List ℕ
+hollow = 0x30 ∷ 0x11 ∷ 0x00 ∷ 0x00 ∷ 0x0E ∷ 0x08 ∷ 0x00 ∷ 0x00 ∷ 0x09 ∷ 0x00 ∷ 0x00 ∷ 0x26 ∷ 0x00 ∷ 0x00 ∷ 0x00 ∷ 0x00 ∷ 0x03 ∷ 0x00 ∷ 0x00 ∷ []
+
+-- where the strings, blocks and entries of ten frames stand
 abbrev placed : List (List ℕ × Answer Placed)
 placed = (
   three,
@@ -202,6 +206,32 @@ placed = (
     ∷ (0x90 ∷ 0x05 ∷ 0x00 ∷ 0x01 ∷ 0x00 ∷ 0x02 ∷ 0xA2 ∷ [], accepted (reply 9 (record { ident = 1; props = none; reasons = span 5 2 })) 7)
     ∷ (0xA2 ∷ 0x06 ∷ 0x00 ∷ 0x01 ∷ 0x00 ∷ 0x00 ∷ 0x01 ∷ 0x61 ∷ [], accepted (unsubscribe (record { ident = 1; props = none; topics = span 5 3 })) 8)
     ∷ (acks, accepted (ack 4 (record { ident = 10; reason = 0x99; props = some (record { reason = some (str (span 9 1)); ident = none; user = span 6 11 }) })) 17)
+    -- what is empty stands somewhere too: topic and payload; the texts of a block; the one text of a run
+    ∷ (0x30 ∷ 0x03 ∷ 0x00 ∷ 0x00 ∷ 0x00 ∷ [], accepted (publish (record { dup = 0; qos = 0; retain = 0; topic = span 4 0; ident = 0; props = none; payload = span 5 0 })) 5)
+    ∷ (
+      hollow,
+      accepted (publish (record {
+        dup = 0;
+        qos = 0;
+        retain = 0;
+        topic = span 4 0;
+        ident = 0;
+        props = some (record {
+          format = none;
+          expiry = none;
+          alias = none;
+          response = some (str (span 8 0));
+          correlation = some (str (span 11 0));
+          user = span 5 14;
+          subscriptions = span 5 14;
+          content = some (str (span 19 0));
+        });
+        payload = span 19 0;
+      })) 19,
+    )
+    ∷ (0x40 ∷ 0x07 ∷ 0x00 ∷ 0x0A ∷ 0x00 ∷ 0x03 ∷ 0x1F ∷ 0x00 ∷ 0x00 ∷ [], accepted (ack 4 (record { ident = 10; reason = 0; props = some (record { reason = some (str (span 9 0)); ident = none; user = span 6 3 }) })) 9)
+    ∷ (0x82 ∷ 0x06 ∷ 0x00 ∷ 0x01 ∷ 0x00 ∷ 0x00 ∷ 0x00 ∷ 0x00 ∷ [], accepted (subscribe (record { ident = 1; props = none; filters = span 5 3 })) 8)
+    ∷ (0xA2 ∷ 0x05 ∷ 0x00 ∷ 0x01 ∷ 0x00 ∷ 0x00 ∷ 0x00 ∷ [], accepted (unsubscribe (record { ident = 1; props = none; topics = span 5 2 })) 7)
     ∷ []
 
 -- a user property behind a property that stands twice
@@ -230,6 +260,8 @@ Right =
     (map (λ (c : Case). readOf (c .limit) (c .sent)) (bench ++ more ++ six) ≡ map (λ (c : Case). c .answer) (bench ++ more ++ six))
     × (map (λ (c : List ℕ × Answer Placed). readPlacedOf none (c .0)) placed ≡ map (λ (c : List ℕ × Answer Placed). c .1) placed)
     × (items ≡ got (num 3) ∷ bad (nr 21 []) ∷ bad (nr 21 []) ∷ bad (nr 21 []) ∷ bad (nr 21 []) ∷ got (duo (span 13 1) (span 16 1)) ∷ bad (nr 21 []) ∷ bad (nr 21 []) ∷ got (duo (span 7 0) (span 9 0)) ∷ [])
+    × (filterAt asPlaces (0x00 ∷ 0x00 ∷ 0x00 ∷ []) (span 0 3) 0 ≡ got (record { path = span 2 0; qos = 0; noLocal = 0; preserve = 0; rule = 0 }))
+    × (topicAt asPlaces (0x00 ∷ 0x00 ∷ []) (span 0 2) 0 ≡ got (span 2 0))
     × (filterAt asPlaces two (span 5 10) 1 ≡ got (record { path = span 11 3; qos = 2; noLocal = 0; preserve = 0; rule = 0 }))
     × (reasonAt (0x02 ∷ 0xA2 ∷ []) (span 0 2) subAckReasons 1 ≡ got 0xA2)
     × (reasonAt (0x02 ∷ 0xA2 ∷ []) (span 0 2) unsubAckReasons 0 ≡ bad (nr 21 []))
@@ -237,4 +269,4 @@ Right =
 
 pub right : Right
 unfolding rows publishPlace subscribePlace ackPlace unsubscribePlace reasons releaseReasons subAckReasons unsubAckReasons kinds lastOf allOf publishProps propsOf noneOf neverOf mapOf onlyOf onlyByOf headOf thenOf sizedOf isFit mapFit handFit onlyFit thenFit exactFit runFit chainFit byteOf followOf restOf charOf isText bigOf groupOf groupsOf numOf stringFit bytesOf textOf valueOf valueAt propertyOf onceOf propertiesFit blockOf ackBlockFit ackRestFit identOf reasonsFit filterOf filtersFit topicsFit messageFit fieldsFit layoutFit bodyFit within over frameOf bodyAnswer wholeAnswer frameAnswer readAs again valuesAt userAt subscriptionAt filterAt reasonAt topicAt
-right = (refl, refl, refl, refl, refl, refl, refl)
+right = (refl, refl, refl, refl, refl, refl, refl, refl, refl)

@@ -1,45 +1,49 @@
-// The property, filter or topic at an index of the stream, and the index after it: a list walked item by item costs each byte once.
-use given::kind::property_at;
+// The property, filter or topic at an index of a block or run of the stream, and the index after it: a list walked item by item costs each
+// byte once.
+use given_next::filter_up_to;
+use given_next::property_up_to;
+use given_next::topic_up_to;
 use layout_next::store_next_filter;
 use layout_next::store_next_topic;
 use layout_next::store_property;
-use wire::string::read_mqtt_string;
 ghost use mathlib.Core.Path.{_≡_};
-ghost use lib.ListN.{length};
 ghost use lib.Seq.{sets};
-ghost use Rattle.reading.specs.Read.{textOf, filterOf};
-ghost use Rattle.reading.specs.Place.{asPlaces};
-ghost use Rattle.positions.specs.Position.{fromAt};
 ghost use Rattle.layout.specs.Value.{fitNumber};
 ghost use Rattle.layout_next.specs.Next.{propertyNumbers, nextFilterNumbers, nextTopicNumbers};
-ghost use Rattle.given.specs.Kind.{propertyAt};
+ghost use Rattle.given_next.specs.UpTo.{propertyUpTo, filterUpTo, topicUpTo};
 
 // Identifier and value.
 #[no_mangle]
-pub extern "C" fn ecch_property(stream: &[u8], kind: u8, at: usize, into: &mut [u64]) -> u32
-    ensures number { λ r. ⌜ r ≡ fitNumber (propertyAt kind (now (stream .entry)) at) ⌝ }
-    ensures stored { λ r. ⌜ now (into .exit) ≡ sets (now (into .entry)) 0 (propertyNumbers (propertyAt kind (now (stream .entry)) at)) ⌝ }
+pub extern "C" fn ecch_property(
+    stream: &[u8],
+    kind: u8,
+    at: usize,
+    end: usize,
+    into: &mut [u64],
+) -> u32
+    ensures number { λ r. ⌜ r ≡ fitNumber (propertyUpTo kind (now (stream .entry)) at end) ⌝ }
+    ensures stored { λ r. ⌜ now (into .exit) ≡ sets (now (into .entry)) 0 (propertyNumbers (propertyUpTo kind (now (stream .entry)) at end)) ⌝ }
 {
-    let found = property_at(stream, kind, at);
+    let found = property_up_to(stream, kind, at, end);
     store_property(found, &mut *into)
 }
 
 // Text and options.
 #[no_mangle]
-pub extern "C" fn ecch_next_filter(stream: &[u8], at: usize, into: &mut [u64]) -> u32
-    ensures number { λ r. ⌜ r ≡ fitNumber (fromAt (filterOf asPlaces (length (now (stream .entry)))) (now (stream .entry)) at) ⌝ }
-    ensures stored { λ r. ⌜ now (into .exit) ≡ sets (now (into .entry)) 0 (nextFilterNumbers (fromAt (filterOf asPlaces (length (now (stream .entry)))) (now (stream .entry)) at)) ⌝ }
+pub extern "C" fn ecch_next_filter(stream: &[u8], at: usize, end: usize, into: &mut [u64]) -> u32
+    ensures number { λ r. ⌜ r ≡ fitNumber (filterUpTo (now (stream .entry)) at end) ⌝ }
+    ensures stored { λ r. ⌜ now (into .exit) ≡ sets (now (into .entry)) 0 (nextFilterNumbers (filterUpTo (now (stream .entry)) at end)) ⌝ }
 {
-    let found = filters::read_filter(stream, at);
+    let found = filter_up_to(stream, at, end);
     store_next_filter(found, &mut *into)
 }
 
 // Where it stands.
 #[no_mangle]
-pub extern "C" fn ecch_next_topic(stream: &[u8], at: usize, into: &mut [u64]) -> u32
-    ensures number { λ r. ⌜ r ≡ fitNumber (fromAt (textOf asPlaces (length (now (stream .entry)))) (now (stream .entry)) at) ⌝ }
-    ensures stored { λ r. ⌜ now (into .exit) ≡ sets (now (into .entry)) 0 (nextTopicNumbers (fromAt (textOf asPlaces (length (now (stream .entry)))) (now (stream .entry)) at)) ⌝ }
+pub extern "C" fn ecch_next_topic(stream: &[u8], at: usize, end: usize, into: &mut [u64]) -> u32
+    ensures number { λ r. ⌜ r ≡ fitNumber (topicUpTo (now (stream .entry)) at end) ⌝ }
+    ensures stored { λ r. ⌜ now (into .exit) ≡ sets (now (into .entry)) 0 (nextTopicNumbers (topicUpTo (now (stream .entry)) at end)) ⌝ }
 {
-    let found = read_mqtt_string(stream, at);
+    let found = topic_up_to(stream, at, end);
     store_next_topic(found, &mut *into)
 }

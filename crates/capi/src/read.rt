@@ -4,10 +4,11 @@ use layout_read::store_read;
 use records::span::Span;
 use wire::string;
 ghost use mathlib.Core.Path.{_≡_};
-ghost use lib.ListN.{length};
 ghost use lib.Seq.{sets};
-ghost use Rattle.reading.specs.Place.{readPlacedOf, heldOf};
+ghost use Rattle.reading.specs.Reader.{guard};
+ghost use Rattle.reading.specs.Place.{readPlacedOf, liesIn, noItem};
 ghost use Rattle.reading.specs.Bounds.{boundsOf};
+ghost use Rattle.layout.specs.Value.{fitNumber};
 ghost use Rattle.layout_read.specs.Record.{readNumber, encoded};
 ghost use Rattle.given.specs.Given.{limitGiven};
 
@@ -21,10 +22,13 @@ pub extern "C" fn ecch_read(stream: &[u8], limited: u8, limit: usize, into: &mut
     store_read(read, &mut *into)
 }
 
-// How many bytes of the place lie within the stream: all or none.
+// 0 if all of the place lies within the stream, an empty one too; else 21.
 #[no_mangle]
-pub extern "C" fn ecch_part(stream: &[u8], start: usize, len: usize) -> usize
-    ensures { λ r. ⌜ r ≡ length (heldOf (now (stream .entry)) (record { start = start; len = len })) ⌝ }
+pub extern "C" fn ecch_part(stream: &[u8], start: usize, len: usize) -> u32
+    ensures { λ r. ⌜ r ≡ fitNumber (guard (liesIn (now (stream .entry)) (record { start = start; len = len })) noItem) ⌝ }
 {
-    string::part(stream, Span { start, len }).len()
+    if string::within(stream, Span { start, len }) {
+        return 0;
+    }
+    21
 }

@@ -9,7 +9,7 @@ ghost use lib.Seq.{sets};
 ghost use Rattle.layout.specs.Value.{fitNumber};
 ghost use Rattle.layout_answer.specs.Answer.{answerNumbers};
 ghost use Rattle.given.specs.Given.{limitGiven};
-ghost use Rattle.given_heads.specs.By.{publishBy};
+ghost use Rattle.given_heads.specs.By.{handedBy, publishBy};
 ghost use Rattle.writing.specs.Write.{sizedBehind, answeredBehind, outBehind};
 
 #[no_mangle]
@@ -38,10 +38,10 @@ pub extern "C" fn ecch_publish_size(
     payload: &[u8],
     answer: &mut [u64],
 ) -> u32
-    ensures number { λ r. ⌜ r ≡ fitNumber (sizedBehind (publishBy dup qos retain pkid (now (topic .entry)) block «format_on» format «expiry_on» expiry «alias_on» alias «response_on» (now (response .entry)) «correlation_on» (now (correlation .entry)) (now (user .entry)) (now («user_lengths» .entry)) (now (identifiers .entry)) «content_on» (now (content .entry)) (now (payload .entry)))) ⌝ }
-    ensures stored { λ r. ⌜ now (answer .exit) ≡ sets (now (answer .entry)) 0 (answerNumbers (sizedBehind (publishBy dup qos retain pkid (now (topic .entry)) block «format_on» format «expiry_on» expiry «alias_on» alias «response_on» (now (response .entry)) «correlation_on» (now (correlation .entry)) (now (user .entry)) (now («user_lengths» .entry)) (now (identifiers .entry)) «content_on» (now (content .entry)) (now (payload .entry))))) ⌝ }
+    ensures number { λ r. ⌜ r ≡ fitNumber (sizedBehind (handedBy (publishBy dup qos retain pkid (now (topic .entry)) block «format_on» format «expiry_on» expiry «alias_on» alias «response_on» (now (response .entry)) «correlation_on» (now (correlation .entry)) (now (user .entry)) (now («user_lengths» .entry)) (now (identifiers .entry)) «content_on» (now (content .entry)) (now (payload .entry))))) ⌝ }
+    ensures stored { λ r. ⌜ now (answer .exit) ≡ sets (now (answer .entry)) 0 (answerNumbers (sizedBehind (handedBy (publishBy dup qos retain pkid (now (topic .entry)) block «format_on» format «expiry_on» expiry «alias_on» alias «response_on» (now (response .entry)) «correlation_on» (now (correlation .entry)) (now (user .entry)) (now («user_lengths» .entry)) (now (identifiers .entry)) «content_on» (now (content .entry)) (now (payload .entry)))))) ⌝ }
 {
-    let head = publish_head(
+    let by = publish_head(
         dup,
         qos,
         retain,
@@ -58,7 +58,7 @@ pub extern "C" fn ecch_publish_size(
         content_on,
     );
     let size = size_publish(
-        head,
+        by,
         topic,
         response,
         correlation,
@@ -100,11 +100,11 @@ pub extern "C" fn ecch_publish_write(
     out: &mut [u8],
     answer: &mut [u64],
 ) -> u32
-    ensures number { λ r. ⌜ r ≡ fitNumber (answeredBehind (publishBy dup qos retain pkid (now (topic .entry)) block «format_on» format «expiry_on» expiry «alias_on» alias «response_on» (now (response .entry)) «correlation_on» (now (correlation .entry)) (now (user .entry)) (now («user_lengths» .entry)) (now (identifiers .entry)) «content_on» (now (content .entry)) (now (payload .entry))) (limitGiven limited limit) (now (out .entry))) ⌝ }
-    ensures output { λ r. ⌜ now (out .exit) ≡ outBehind (publishBy dup qos retain pkid (now (topic .entry)) block «format_on» format «expiry_on» expiry «alias_on» alias «response_on» (now (response .entry)) «correlation_on» (now (correlation .entry)) (now (user .entry)) (now («user_lengths» .entry)) (now (identifiers .entry)) «content_on» (now (content .entry)) (now (payload .entry))) (limitGiven limited limit) (now (out .entry)) ⌝ }
-    ensures stored { λ r. ⌜ now (answer .exit) ≡ sets (now (answer .entry)) 0 (answerNumbers (answeredBehind (publishBy dup qos retain pkid (now (topic .entry)) block «format_on» format «expiry_on» expiry «alias_on» alias «response_on» (now (response .entry)) «correlation_on» (now (correlation .entry)) (now (user .entry)) (now («user_lengths» .entry)) (now (identifiers .entry)) «content_on» (now (content .entry)) (now (payload .entry))) (limitGiven limited limit) (now (out .entry)))) ⌝ }
+    ensures number { λ r. ⌜ r ≡ fitNumber (answeredBehind (handedBy (publishBy dup qos retain pkid (now (topic .entry)) block «format_on» format «expiry_on» expiry «alias_on» alias «response_on» (now (response .entry)) «correlation_on» (now (correlation .entry)) (now (user .entry)) (now («user_lengths» .entry)) (now (identifiers .entry)) «content_on» (now (content .entry)) (now (payload .entry)))) (limitGiven limited limit) (now (out .entry))) ⌝ }
+    ensures output { λ r. ⌜ now (out .exit) ≡ outBehind (handedBy (publishBy dup qos retain pkid (now (topic .entry)) block «format_on» format «expiry_on» expiry «alias_on» alias «response_on» (now (response .entry)) «correlation_on» (now (correlation .entry)) (now (user .entry)) (now («user_lengths» .entry)) (now (identifiers .entry)) «content_on» (now (content .entry)) (now (payload .entry)))) (limitGiven limited limit) (now (out .entry)) ⌝ }
+    ensures stored { λ r. ⌜ now (answer .exit) ≡ sets (now (answer .entry)) 0 (answerNumbers (answeredBehind (handedBy (publishBy dup qos retain pkid (now (topic .entry)) block «format_on» format «expiry_on» expiry «alias_on» alias «response_on» (now (response .entry)) «correlation_on» (now (correlation .entry)) (now (user .entry)) (now («user_lengths» .entry)) (now (identifiers .entry)) «content_on» (now (content .entry)) (now (payload .entry)))) (limitGiven limited limit) (now (out .entry)))) ⌝ }
 {
-    let head = publish_head(
+    let by = publish_head(
         dup,
         qos,
         retain,
@@ -121,7 +121,7 @@ pub extern "C" fn ecch_publish_write(
         content_on,
     );
     let written = write_publish(
-        head,
+        by,
         topic,
         response,
         correlation,

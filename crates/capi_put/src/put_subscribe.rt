@@ -1,16 +1,16 @@
 // A Subscribe: its size, and written.
 use given::number::bound;
 use given_heads::subscribe_by::subscribe_head;
+use given_write::size::size_subscribe;
+use given_write::write::write_subscribe;
 use layout_answer;
 ghost use mathlib.Core.Path.{_≡_};
-ghost use lib.ListN.{length};
 ghost use lib.Seq.{sets};
-ghost use Rattle.writing.specs.Handed.{subscribe};
-ghost use Rattle.writing.specs.Write.{sizeOf, answerOf, outOf};
+ghost use Rattle.writing.specs.Write.{sizedBehind, answeredBehind, outBehind};
 ghost use Rattle.layout.specs.Value.{fitNumber};
 ghost use Rattle.layout_answer.specs.Answer.{answerNumbers};
 ghost use Rattle.given.specs.Given.{limitGiven};
-ghost use Rattle.given_heads.specs.By.{subscribeBy};
+ghost use Rattle.given_heads.specs.By.{handedBy, subscribeBy};
 
 #[no_mangle]
 pub extern "C" fn ecch_subscribe_size(
@@ -25,12 +25,12 @@ pub extern "C" fn ecch_subscribe_size(
     options: &[u8],
     answer: &mut [u64],
 ) -> u32
-    ensures number { λ r. ⌜ r ≡ fitNumber (sizeOf (subscribe (subscribeBy pkid block «identifier_on» identifier (now (user .entry)) (now («user_lengths» .entry)) (now (filters .entry)) (now («filter_lengths» .entry)) (now (options .entry))))) ⌝ }
-    ensures stored { λ r. ⌜ now (answer .exit) ≡ sets (now (answer .entry)) 0 (answerNumbers (sizeOf (subscribe (subscribeBy pkid block «identifier_on» identifier (now (user .entry)) (now («user_lengths» .entry)) (now (filters .entry)) (now («filter_lengths» .entry)) (now (options .entry)))))) ⌝ }
+    ensures number { λ r. ⌜ r ≡ fitNumber (sizedBehind (handedBy (subscribeBy pkid block «identifier_on» identifier (now (user .entry)) (now («user_lengths» .entry)) (now (filters .entry)) (now («filter_lengths» .entry)) (now (options .entry))))) ⌝ }
+    ensures stored { λ r. ⌜ now (answer .exit) ≡ sets (now (answer .entry)) 0 (answerNumbers (sizedBehind (handedBy (subscribeBy pkid block «identifier_on» identifier (now (user .entry)) (now («user_lengths» .entry)) (now (filters .entry)) (now («filter_lengths» .entry)) (now (options .entry)))))) ⌝ }
 {
-    let head = subscribe_head(pkid, block, identifier_on, identifier);
-    let size = subscribe_write::size(head, user, user_lengths, filters, filter_lengths, options);
-    layout_answer::store_written(layout_answer::as_written(size), &mut *answer)
+    let by = subscribe_head(pkid, block, identifier_on, identifier);
+    let size = size_subscribe(by, user, user_lengths, filters, filter_lengths, options);
+    layout_answer::store_written(size, &mut *answer)
 }
 
 #[no_mangle]
@@ -49,13 +49,13 @@ pub extern "C" fn ecch_subscribe_write(
     out: &mut [u8],
     answer: &mut [u64],
 ) -> u32
-    ensures number { λ r. ⌜ r ≡ fitNumber (answerOf (limitGiven limited limit) (length (now (out .entry))) (subscribe (subscribeBy pkid block «identifier_on» identifier (now (user .entry)) (now («user_lengths» .entry)) (now (filters .entry)) (now («filter_lengths» .entry)) (now (options .entry))))) ⌝ }
-    ensures output { λ r. ⌜ now (out .exit) ≡ outOf (limitGiven limited limit) (now (out .entry)) (subscribe (subscribeBy pkid block «identifier_on» identifier (now (user .entry)) (now («user_lengths» .entry)) (now (filters .entry)) (now («filter_lengths» .entry)) (now (options .entry)))) ⌝ }
-    ensures stored { λ r. ⌜ now (answer .exit) ≡ sets (now (answer .entry)) 0 (answerNumbers (answerOf (limitGiven limited limit) (length (now (out .entry))) (subscribe (subscribeBy pkid block «identifier_on» identifier (now (user .entry)) (now («user_lengths» .entry)) (now (filters .entry)) (now («filter_lengths» .entry)) (now (options .entry)))))) ⌝ }
+    ensures number { λ r. ⌜ r ≡ fitNumber (answeredBehind (handedBy (subscribeBy pkid block «identifier_on» identifier (now (user .entry)) (now («user_lengths» .entry)) (now (filters .entry)) (now («filter_lengths» .entry)) (now (options .entry)))) (limitGiven limited limit) (now (out .entry))) ⌝ }
+    ensures output { λ r. ⌜ now (out .exit) ≡ outBehind (handedBy (subscribeBy pkid block «identifier_on» identifier (now (user .entry)) (now («user_lengths» .entry)) (now (filters .entry)) (now («filter_lengths» .entry)) (now (options .entry)))) (limitGiven limited limit) (now (out .entry)) ⌝ }
+    ensures stored { λ r. ⌜ now (answer .exit) ≡ sets (now (answer .entry)) 0 (answerNumbers (answeredBehind (handedBy (subscribeBy pkid block «identifier_on» identifier (now (user .entry)) (now («user_lengths» .entry)) (now (filters .entry)) (now («filter_lengths» .entry)) (now (options .entry)))) (limitGiven limited limit) (now (out .entry)))) ⌝ }
 {
-    let head = subscribe_head(pkid, block, identifier_on, identifier);
-    let written = subscribe_write::write(
-        head,
+    let by = subscribe_head(pkid, block, identifier_on, identifier);
+    let written = write_subscribe(
+        by,
         user,
         user_lengths,
         filters,

@@ -1,2 +1,3 @@
 pub mod By
 pub mod Head
+pub mod Refuse

@@ -1,14 +1,19 @@
-// The size of what a head and the lists beside it hand over; the head's own refusal comes before all else.
-use given_heads::publish_by::GotPublishHead;
+// The size of what a head and the lists beside it hand over.
+use crate::first::mismatch_or;
+use given_heads::publish_by::PublishBy;
+use given_heads::subscribe_by::SubscribeBy;
 use layout_answer::as_written;
 use records::answer::Written;
+use records::error::Error;
+use row_tests::Tested;
 ghost use mathlib.Core.Path.{_≡_};
 ghost use Rattle.records.specs.Answered.{toldWritten};
-ghost use Rattle.given_heads.specs.Head.{publishHanded};
+ghost use Rattle.given_heads.specs.By.{behind};
+ghost use Rattle.given_heads.specs.Head.{publishHanded, subscribeHanded};
 ghost use Rattle.writing.specs.Write.{sizedBehind};
 
 pub fn size_publish(
-    head: GotPublishHead,
+    by: PublishBy,
     topic: &[u8],
     response: &[u8],
     correlation: &[u8],
@@ -18,12 +23,26 @@ pub fn size_publish(
     content: &[u8],
     payload: &[u8],
 ) -> Written
-    ensures { λ r. ⌜ toldWritten r ≡ sizedBehind (publishHanded head (now (topic .entry)) (now (response .entry)) (now (correlation .entry)) (now (user .entry)) (now («user_lengths» .entry)) (now (identifiers .entry)) (now (content .entry)) (now (payload .entry))) ⌝ }
+    ensures { λ r. ⌜ toldWritten r ≡ sizedBehind (behind (publishHanded by (now (topic .entry)) (now (response .entry)) (now (correlation .entry)) (now (user .entry)) (now («user_lengths» .entry)) (now (identifiers .entry)) (now (content .entry)) (now (payload .entry)))) ⌝ }
 {
-    match head {
-        GotPublishHead::Refused(e) => Written::Refused(e),
-        GotPublishHead::Value(h) => as_written(publish_write::size(
-            h,
+    let head = by.head;
+    let quality = by.quality;
+    if !by.zeros {
+        return Written::Refused(Error::ListMismatch);
+    }
+    match quality {
+        Tested::Refused(e) => Written::Refused(mismatch_or(
+            e,
+            head,
+            response,
+            correlation,
+            user,
+            user_lengths,
+            identifiers,
+            content,
+        )),
+        Tested::Fine => as_written(publish_write::size(
+            head,
             topic,
             response,
             correlation,
@@ -34,4 +53,21 @@ pub fn size_publish(
             payload,
         )),
     }
+}
+
+pub fn size_subscribe(
+    by: SubscribeBy,
+    user: &[u8],
+    user_lengths: &[usize],
+    filters: &[u8],
+    filter_lengths: &[usize],
+    options: &[u8],
+) -> Written
+    ensures { λ r. ⌜ toldWritten r ≡ sizedBehind (behind (subscribeHanded by (now (user .entry)) (now («user_lengths» .entry)) (now (filters .entry)) (now («filter_lengths» .entry)) (now (options .entry)))) ⌝ }
+{
+    let head = by.head;
+    if !by.zeros {
+        return Written::Refused(Error::ListMismatch);
+    }
+    as_written(subscribe_write::size(head, user, user_lengths, filters, filter_lengths, options))
 }

@@ -1,10 +1,12 @@
 -- The heads of a packet to write, as `given_heads` makes them: what one hands over with empty lists leaves no choice of it. Assumes nothing.
 use mathlib.Core.Path.{_≡_, refl, ap}
+use mathlib.Core.Bool.{Bool, false}
+use mathlib.Core.Option.{none}
 use Prim.Native.Nat.{ℕ}
 use mathlib.Core.List.{[]}
+use Rattle.reading.specs.Reader.{Fit, got, bad}
 use Rattle.writing.specs.Handed.{Handed, PublishHanded, SubscribeHanded, AckHanded, ReplyHanded, UnsubscribeHanded, publish, ack, subscribe, reply, unsubscribe, ping}
-use Rattle.records.proofs.Told.{backBool, back-bool, backFit, backQoS, back-qos, backAckKind, back-ack-kind, backReplyKind, back-reply-kind, back-error}
-use Rattle.records.specs.declared.error.Error.{Error}
+use Rattle.records.proofs.Told.{backBool, back-bool, backQoS, back-qos, backAckKind, back-ack-kind, backReplyKind, back-reply-kind, backError, back-error}
 use Rattle.records.specs.declared.span.MaybeU8.{MaybeU8}
 use Rattle.records.specs.declared.span.MaybeU16.{MaybeU16}
 use Rattle.records.specs.declared.span.MaybeU32.{MaybeU32}
@@ -21,8 +23,11 @@ use Rattle.records.specs.declared.ack_record.AckKind.{AckKind}
 use Rattle.records.specs.declared.reply_record.ReplyKind.{ReplyKind}
 use Rattle.subscribe_write.specs.declared.SubscribeHead.{SubscribeHead}
 use Rattle.subscribe_write.specs.Handed as subscribing
-use Rattle.given_heads.specs.declared.publish_by.GotPublishHead.{GotPublishHead}
-use Rattle.given_heads.specs.Head.{publishHanded}
+use Rattle.row_tests.specs.Tested.{toldTested}
+use Rattle.row_tests.specs.declared.Tested.{Tested}
+use Rattle.given_heads.specs.declared.publish_by.PublishBy.{PublishBy}
+use Rattle.given_heads.specs.declared.subscribe_by.SubscribeBy.{SubscribeBy}
+use Rattle.given_heads.specs.Head.{publishHanded, subscribeHanded}
 use Rattle.one_result.specs.OneResult.{OneResult}
 use Rattle.one_result.proofs.Laws.{one-by}
 use Rattle.one_result.proofs.Writers.{backNumber, back-number-u8, back-number-u16, back-number-u32}
@@ -44,23 +49,38 @@ backPublish h = record {
   «content_type» = h .content .on;
 }
 
+-- for what is none
+abbrev noPublish : PublishHanded
+noPublish = record { dup = 0; qos = 0; retain = 0; topic = []; ident = 0; block = false; format = none; expiry = none; alias = none; response = record { on = false; bytes = [] }; correlation = record { on = false; bytes = [] }; user = record { bytes = []; lengths = [] }; subscriptions = []; content = record { on = false; bytes = [] }; payload = [] }
+
 back-publish : (m : PublishHead) → backPublish (publishing.handed m [] [] [] [] [] [] [] []) ≡ m
 back-publish m = simp (back-bool, back-qos, back-number-u8, back-number-u16, back-number-u32)
 
-abbrev backPublishHead : Handed → GotPublishHead
-backPublishHead (publish h) = GotPublishHead.Value (backPublish h)
-backPublishHead (ack k h) = GotPublishHead.Refused Error.NoItem
-backPublishHead (subscribe h) = GotPublishHead.Refused Error.NoItem
-backPublishHead (reply k h) = GotPublishHead.Refused Error.NoItem
-backPublishHead (unsubscribe h) = GotPublishHead.Refused Error.NoItem
-backPublishHead (ping k) = GotPublishHead.Refused Error.NoItem
+-- what C hands over of it: whether its numbers are 0 where their flags are off, the test of its QoS, and the head
+abbrev backTested : Fit (Unit {0}) → Tested
+backTested (got u) = Tested.Fine
+backTested (bad k) = Tested.Refused (backError k)
 
-back-publish-head : (r : GotPublishHead) → backFit backPublishHead GotPublishHead.Refused (publishHanded r [] [] [] [] [] [] [] []) ≡ r
-back-publish-head (GotPublishHead.Value m) = ap GotPublishHead.Value (back-publish m)
-back-publish-head (GotPublishHead.Refused e) = ap GotPublishHead.Refused (back-error e)
+back-tested : (t : Tested) → backTested (toldTested t) ≡ t
+back-tested Tested.Fine = refl
+back-tested (Tested.Refused e) = ap Tested.Refused (back-error e)
 
-pub publish-head-same : OneResult (λ (r : GotPublishHead). publishHanded r [] [] [] [] [] [] [] [])
-publish-head-same = one-by (λ (r : GotPublishHead). publishHanded r [] [] [] [] [] [] [] []) (backFit backPublishHead GotPublishHead.Refused) back-publish-head
+abbrev backHanded : Handed → PublishHead
+backHanded (publish h) = backPublish h
+backHanded (ack k h) = backPublish noPublish
+backHanded (subscribe h) = backPublish noPublish
+backHanded (reply k h) = backPublish noPublish
+backHanded (unsubscribe h) = backPublish noPublish
+backHanded (ping k) = backPublish noPublish
+
+abbrev backPublishBy : Bool × Fit (Unit {0}) × Handed → PublishBy
+backPublishBy t = record { zeros = t .0; quality = backTested (t .1); head = backHanded (t .2) }
+
+back-publish-by : (r : PublishBy) → backPublishBy (publishHanded r [] [] [] [] [] [] [] []) ≡ r
+back-publish-by r = rw (back-tested (r .quality), back-publish (r .head))
+
+pub publish-head-same : OneResult (λ (r : PublishBy). publishHanded r [] [] [] [] [] [] [] [])
+publish-head-same = one-by (λ (r : PublishBy). publishHanded r [] [] [] [] [] [] [] []) backPublishBy back-publish-by
 
 -- ---- a publish acknowledgement: what it hands over, and the number of its kind
 
@@ -106,8 +126,26 @@ unsubscribe-head-same = one-by (λ (m : UnsubscribeHead). unsubscribing.handed m
 abbrev backSubscribe : SubscribeHanded → SubscribeHead
 backSubscribe h = record { pkid = h .ident; block = h .block; id = backNumber MaybeU32.Absent MaybeU32.Present (h .subscription) }
 
+-- for what is none
+abbrev noSubscribe : SubscribeHanded
+noSubscribe = record { ident = 0; block = false; subscription = none; user = record { bytes = []; lengths = [] }; filters = record { bytes = []; lengths = [] }; options = [] }
+
 back-subscribe : (m : SubscribeHead) → backSubscribe (subscribing.handed m [] [] [] [] []) ≡ m
 back-subscribe m = simp back-number-u32
 
-pub subscribe-head-same : OneResult (λ (m : SubscribeHead). subscribing.handed m [] [] [] [] [])
-subscribe-head-same = one-by (λ (m : SubscribeHead). subscribing.handed m [] [] [] [] []) backSubscribe back-subscribe
+abbrev backSubscribed : Handed → SubscribeHead
+backSubscribed (publish h) = backSubscribe noSubscribe
+backSubscribed (ack k h) = backSubscribe noSubscribe
+backSubscribed (subscribe h) = backSubscribe h
+backSubscribed (reply k h) = backSubscribe noSubscribe
+backSubscribed (unsubscribe h) = backSubscribe noSubscribe
+backSubscribed (ping k) = backSubscribe noSubscribe
+
+abbrev backSubscribeBy : Bool × Fit (Unit {0}) × Handed → SubscribeBy
+backSubscribeBy t = record { zeros = t .0; head = backSubscribed (t .2) }
+
+back-subscribe-by : (r : SubscribeBy) → backSubscribeBy (subscribeHanded r [] [] [] [] []) ≡ r
+back-subscribe-by r = rw (back-subscribe (r .head))
+
+pub subscribe-head-same : OneResult (λ (r : SubscribeBy). subscribeHanded r [] [] [] [] [])
+subscribe-head-same = one-by (λ (r : SubscribeBy). subscribeHanded r [] [] [] [] []) backSubscribeBy back-subscribe-by

@@ -1,5 +1,6 @@
 pub mod Reading
 pub mod Parts
+pub mod Places
 pub mod Items
 pub mod Item
 pub mod Walk

@@ -23,6 +23,8 @@ use Rattle.reading.proofs.Reading.{bad-got, got-inj, from-got, from-bind, from-
 use Rattle.reading.proofs.Forget.{Like, gots, bads, Reading}
 use Rattle.reading.proofs.Places.{properties-says, filters-says, topics-says}
 use Rattle.reading.proofs.Items.{again-like, all-says, if-some}
+use Rattle.given_next.specs.UpTo.{upTo}
+use Rattle.given_next.proofs.Laws.{up-within}
 use Rattle.positions.specs.Position.{fromAt}
 use Rattle.positions.proofs.At.{part-slice}
 use Rattle.positions.proofs.Less.{text-less, property-less, once-many, filter-less}
@@ -102,6 +104,11 @@ again-got {A = A} q s p v = go (liesIn s p) refl (q (p .start + p .len) (partOf 
     go true h (bad k) e = absurd (bad-got e)
     go false h m e = absurd (bad-got e)
 
+-- what is walked before the end is walked up to it
+up-to-walked : {A : Type 0} (item : List ℕ → ℕ → Fit (A × ℕ)) (s : List ℕ) (end : ℕ) → end ≤ length s → {at : ℕ} {vs : List A} → Walked (item (take end s)) end at vs → Walked (λ at. upTo (λ t. item t at) s end) end at vs
+up-to-walked item s end h arrived = arrived
+up-to-walked item s end h (onward {at = at} l e w) = onward l (up-within (λ t. item t at) s end h ∙ e) (up-to-walked item s end h w)
+
 module _ {A : Type 0} (p : ℕ → Reader A) (L : (end : ℕ) → Less end (p end)) (T : (end : ℕ) → Trails (p end)) (s : List ℕ) (b : Span) (vs : List A) where
   -- so from the start of a place, over the stream up to its end
   walks : b .start + b .len ≤ length s → manyFit (p (b .start + b .len)) (partOf s b) ≡ got vs → Walks (λ t. fromAt (p (length t)) t) s b vs
@@ -111,7 +118,7 @@ module _ {A : Type 0} (p : ℕ → Reader A) (L : (end : ℕ) → Less end (p en
       let i : manyFit (p (length t)) (drop (b .start) t) ≡ got vs = rw (n, sym (part-slice s (b .len) (b .start) h)) e in
       record {
         within = h;
-        walked = subst (λ (end : ℕ). Walked (fromAt (p (length t)) t) end (b .start) vs) n (walks-from (p (length t)) t (L (length t)) (T (length t)) (length t) (b .start) (omega arith) (omega arith) vs i);
+        walked = up-to-walked (λ u. fromAt (p (length u)) u) s (b .start + b .len) h (subst (λ (end : ℕ). Walked (fromAt (p (length t)) t) end (b .start) vs) n (walks-from (p (length t)) t (L (length t)) (T (length t)) (length t) (b .start) (omega arith) (omega arith) vs i));
       }
 
 module _ (s : List ℕ) (p : Span) where

@@ -2,7 +2,7 @@
 use mathlib.Core.Path.{_≡_}
 use mathlib.Core.List.{List, [], _∷_, map}
 use Prim.Native.Nat.{ℕ, _+_, _≤_, _<_}
-use lib.ListN.{length, take}
+use lib.ListN.{length}
 use Rattle.grammar.specs.Record.{PropOf, allOf, Filter}
 use Rattle.grammar.specs.Sentence.{Value}
 use Rattle.reading.specs.Reader.{Fit, got}
@@ -10,22 +10,23 @@ use Rattle.reading.specs.Read.{textOf, filterOf}
 use Rattle.reading.specs.Place.{Span, asPlaces, heldOf, sayVal, sayFilter}
 use Rattle.positions.specs.Position.{fromAt}
 use Rattle.given.specs.Kind.{propertyAt}
+use Rattle.given_next.specs.UpTo.{upTo}
 
 -- header: "the item begins where the last one ended, and the last one ends at that end"; no item begins there or behind it
 pub data Walked {A : Type 0} (item : ℕ → Fit (A × ℕ)) (end : ℕ) : ℕ → List A → Type 0 where
   arrived : Walked item end end []
   onward : {at next : ℕ} {a : A} {vs : List A} → at < end → item at ≡ got (a, next) → Walked item end next vs → Walked item end at (a ∷ vs)
 
--- header: "hand over the stream up to the end of the block (of the filters) and begin at its start": the stream s has as many bytes
+-- header: "hand over the end of the block (of the run) and begin at its start": `item` is asked in what lies before that end, which the stream s has
 pub record Walks {A : Type 0} (item : List ℕ → ℕ → Fit (A × ℕ)) (s : List ℕ) (p : Span) (vs : List A) : Type 0 where
   pub within : p .start + p .len ≤ length s
-  pub walked : Walked (item (take (p .start + p .len) s)) (p .start + p .len) (p .start) vs
+  pub walked : Walked (λ at. upTo (λ t. item t at) s (p .start + p .len)) (p .start + p .len) (p .start) vs
 
--- header, `ecch_next_filter`: "the filter, at index `at` of the stream, whose end is the end of its room"
+-- header, `ecch_next_filter`: the filter, at index `at` of what lies before the end of its run
 abbrev pub nextFilter : List ℕ → ℕ → Fit (Filter Span × ℕ)
 nextFilter s at = fromAt (filterOf asPlaces (length s)) s at
 
--- 02, P1: header, `ecch_next_topic`: the topic, at index `at` of the stream
+-- 02, P1: header, `ecch_next_topic`: the topic, at index `at` of what lies before the end of its run
 abbrev pub nextTopic : List ℕ → ℕ → Fit (Span × ℕ)
 nextTopic s at = fromAt (textOf asPlaces (length s)) s at
 

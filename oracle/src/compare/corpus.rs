@@ -207,11 +207,11 @@ impl Corpus {
                 u16s(&mut row, g.id as usize);
                 run(&mut row, &g.topic);
                 row.push(g.block as u8);
-                row.extend([g.format.is_some() as u8, g.format.unwrap_or(0)]);
+                row.extend([g.format.is_some() as u8, g.numbers().0]);
                 row.push(g.expiry.is_some() as u8);
-                u32s(&mut row, g.expiry.unwrap_or(0) as u64);
+                u32s(&mut row, g.numbers().1 as u64);
                 row.push(g.alias.is_some() as u8);
-                u16s(&mut row, g.alias.unwrap_or(0) as usize);
+                u16s(&mut row, g.numbers().2 as usize);
                 lent(&mut row, &g.response);
                 lent(&mut row, &g.correlation);
                 run(&mut row, &g.users);
@@ -231,7 +231,7 @@ impl Corpus {
             8 => {
                 u16s(&mut row, g.id as usize);
                 row.extend([g.block as u8, g.sid.is_some() as u8]);
-                u32s(&mut row, g.sid.unwrap_or(0) as u64);
+                u32s(&mut row, g.numbers().3 as u64);
                 run(&mut row, &g.users);
                 lengths(&mut row, &g.user_lengths);
                 run(&mut row, &g.filters);

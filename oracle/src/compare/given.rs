@@ -74,6 +74,7 @@ pub fn record(d: &mut Dice, long: bool) -> Given {
     }
     g.id = if one_in(d, 8) { 0 } else { d.below(65_536) as u16 };
     g.block = !one_in(d, 4);
+    g.off = if one_in(d, 50) { d.below(16) as u8 } else { 0 };
     let filled = g.block || one_in(d, 40);
     if filled && !one_in(d, 10) {
         let pairs = d.below(4);

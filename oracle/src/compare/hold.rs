@@ -245,7 +245,7 @@ impl Hold {
             self.item(("reason", kind), port::reason(kind, s, p, n), found.reason(kind, n), &at);
         }
         self.item(("topic", 10), port::topic(s, p, n), found.topic(n), &at);
-        let expected = p.of(s).len();
+        let expected = if s.get(p.start..).is_some_and(|t| p.len <= t.len()) { 0 } else { 21 };
         let answered = port::part(s, p);
         if answered != expected {
             self.fail("(a): part", format!("  {p:?} of {}\n  port {answered}\n  rules {expected}", hex(s)));
@@ -414,7 +414,7 @@ fn record(r: &Record, lists: &Lists, s: &[u8]) -> String {
 fn weight(g: &Given) -> usize {
     let runs = g.topic.len() + g.payload.len() + g.users.len() + g.filters.len() + g.response.bytes.len() + g.correlation.bytes.len();
     let lists = g.user_lengths.len() + g.ids.len() + g.filter_lengths.len() + g.options.len() + g.topic_lengths.len();
-    let numbers = g.block as usize + g.format.is_some() as usize + g.expiry.is_some() as usize + g.alias.is_some() as usize;
+    let numbers = g.block as usize + g.format.is_some() as usize + g.expiry.is_some() as usize + g.alias.is_some() as usize + g.off.count_ones() as usize;
     runs + g.topics.len() + g.reasons.len() + g.content.bytes.len() + g.reason_string.bytes.len() + 2 * lists + numbers
 }
 
@@ -437,8 +437,8 @@ fn short(g: &Given) -> String {
     match g.kind {
         3 => {
             format!(
-            "Publish dup {} qos {} retain {} id {} topic {} block {} 1 {:?} 2 {:?} 35 {:?} 8 {} 9 {} 38 {} {:?} 11 {:?} 3 {} payload {}",
-            g.dup as u8, g.qos, g.retain as u8, g.id, run(&g.topic), g.block, g.format, g.expiry, g.alias, lent(&g.response),
+            "Publish dup {} qos {} retain {} id {} topic {} block {} off {} 1 {:?} 2 {:?} 35 {:?} 8 {} 9 {} 38 {} {:?} 11 {:?} 3 {} payload {}",
+            g.dup as u8, g.qos, g.retain as u8, g.id, run(&g.topic), g.block, g.off, g.format, g.expiry, g.alias, lent(&g.response),
             lent(&g.correlation), run(&g.users), g.user_lengths, g.ids, lent(&g.content), run(&g.payload)
         )
         }

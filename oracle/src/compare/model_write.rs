@@ -32,7 +32,7 @@ fn adds_up(bytes: &[u8], lengths: &[usize]) -> bool {
     sum == Some(bytes.len())
 }
 
-/// A QoS that cannot be handed over as an enum is refused before all else (bindings/c/ecchjulmina.h).
+/// A QoS that cannot be handed over as an enum is refused after 20 and before all else (bindings/c/ecchjulmina.h).
 fn enums(g: &Given) -> Result<(), No> {
     match g.kind {
         3 if g.qos > 2 => Err(no1(11, g.qos as u64)),
@@ -49,7 +49,7 @@ pub fn belongs(g: &Given) -> bool {
     let numbers = g.format.is_some() || g.expiry.is_some() || g.alias.is_some() || g.sid.is_some();
     let lists = !g.users.is_empty() || !g.user_lengths.is_empty() || !g.ids.is_empty();
     let anything = numbers || lists || lents.iter().any(|l| l.present || !l.bytes.is_empty());
-    pairs && filters && topics && lents.iter().all(|l| lent_fits(l)) && (g.block || !anything)
+    !g.off_number() && pairs && filters && topics && lents.iter().all(|l| lent_fits(l)) && (g.block || !anything)
 }
 
 /// Bytes and the parts that the lengths cut them into.
@@ -161,12 +161,12 @@ fn frame(r: u64) -> u64 {
     1 + width(r) + r
 }
 
-/// The size asked alone: 20, then 17 for R.
+/// The size asked alone: 20, then the QoS, then 17 for R.
 pub fn size(g: &Given, by: &Switches) -> Result<u64, No> {
-    enums(g)?;
     if !belongs(g) {
         return Err(no(20));
     }
+    enums(g)?;
     let r = rest(g);
     if r > MOST && !by.has(D7) {
         return Err(no(17));
@@ -324,10 +324,10 @@ fn put(g: &Given, limit: Option<u64>, by: &Switches, out: &mut Vec<u8>) -> Resul
 /// What a write answers, and in `out` what it puts; a refused write puts nothing, but for D4.
 pub fn write(g: &Given, limit: Option<u64>, room: usize, by: &Switches, out: &mut Vec<u8>) -> Result<u64, No> {
     out.clear();
-    enums(g)?;
     if !belongs(g) {
         return Err(no(20));
     }
+    enums(g)?;
     fields(g, by)?;
     let answer = match put(g, limit, by, out) {
         Ok(size) if (room as u64) < size && !by.has(ROOM) => Err(no1(19, size)),

@@ -112,7 +112,7 @@ mod side {
     }
     externs! {
         ecch_read(stream: Bytes, n: usize, limited: u8, limit: usize, record: *mut u64, record_len: usize) -> u32;
-        ecch_part(stream: Bytes, n: usize, start: usize, len: usize) -> usize;
+        ecch_part(stream: Bytes, n: usize, start: usize, len: usize) -> u32;
         ecch_user_property(stream: Bytes, n: usize, kind: u8, start: usize, len: usize, nth: usize, item: *mut u64, item_len: usize) -> u32;
         ecch_subscription_identifier(stream: Bytes, n: usize, start: usize, len: usize, nth: usize, item: *mut u64, item_len: usize) -> u32;
         ecch_filter(stream: Bytes, n: usize, start: usize, len: usize, nth: usize, item: *mut u64, item_len: usize) -> u32;
@@ -203,7 +203,8 @@ mod side {
         (Err(no2(number, n[1], n[2])), n[0] as usize)
     }
 
-    pub fn part(s: &[u8], p: Span) -> usize {
+    /// 0 if the place lies in the bytes, else 21.
+    pub fn part(s: &[u8], p: Span) -> u32 {
         unsafe { ecch_part(s.as_ptr(), s.len(), p.start, p.len) }
     }
 
@@ -265,11 +266,6 @@ mod side {
         })
     }
 
-    /// A value that is off is handed over all the same: it is not to be looked at.
-    fn off<T: From<u8>>(v: Option<T>) -> T {
-        v.unwrap_or(T::from(171))
-    }
-
     fn answer(got: u32, n: [u64; 3]) -> Result<u64, No> {
         match got {
             0 if n[1..] == [0, 0] => Ok(n[0]),
@@ -282,7 +278,7 @@ mod side {
     macro_rules! publish {
         ($f:ident, $g:ident, $($rest:expr),*) => {
             $f($g.dup as u8, $g.qos, $g.retain as u8, $g.id, $g.topic.as_ptr(), $g.topic.len(), $g.block as u8, $g.format.is_some() as u8,
-                off($g.format), $g.expiry.is_some() as u8, off($g.expiry), $g.alias.is_some() as u8, off($g.alias),
+                $g.numbers().0, $g.expiry.is_some() as u8, $g.numbers().1, $g.alias.is_some() as u8, $g.numbers().2,
                 $g.response.present as u8, $g.response.bytes.as_ptr(), $g.response.bytes.len(), $g.correlation.present as u8,
                 $g.correlation.bytes.as_ptr(), $g.correlation.bytes.len(), $g.users.as_ptr(), $g.users.len(), $g.user_lengths.as_ptr(),
                 $g.user_lengths.len(), $g.ids.as_ptr(), $g.ids.len(), $g.content.present as u8, $g.content.bytes.as_ptr(),
@@ -291,7 +287,7 @@ mod side {
     }
     macro_rules! subscribe {
         ($f:ident, $g:ident, $($rest:expr),*) => {
-            $f($g.id, $g.block as u8, $g.sid.is_some() as u8, off($g.sid), $g.users.as_ptr(), $g.users.len(), $g.user_lengths.as_ptr(),
+            $f($g.id, $g.block as u8, $g.sid.is_some() as u8, $g.numbers().3, $g.users.as_ptr(), $g.users.len(), $g.user_lengths.as_ptr(),
                 $g.user_lengths.len(), $g.filters.as_ptr(), $g.filters.len(), $g.filter_lengths.as_ptr(), $g.filter_lengths.len(),
                 $g.options.as_ptr(), $g.options.len(), $($rest),*)
         };
@@ -440,8 +436,8 @@ mod side {
         (Ok(record), taken)
     }
 
-    pub fn part(s: &[u8], p: Span) -> usize {
-        s.get(p.start..).and_then(|s| s.get(..p.len)).map_or(0, |s| s.len())
+    pub fn part(s: &[u8], p: Span) -> u32 {
+        s.get(p.start..).and_then(|s| s.get(..p.len)).map_or(21, |_| 0)
     }
 
     pub fn user(kind: u8, s: &[u8], p: Span, nth: usize) -> Result<(Span, Span), No> {

@@ -180,6 +180,8 @@ pub struct Given {
     pub format: Option<u8>,
     pub expiry: Option<u32>,
     pub alias: Option<u16>,
+    /// bit by bit, whether a number that is not 0 is handed over for format, expiry, alias or `sid` if it is absent (20)
+    pub off: u8,
     pub response: Lent,
     pub correlation: Lent,
     pub content: Lent,
@@ -199,6 +201,32 @@ pub struct Given {
     /// of an Unsubscribe
     pub topics: Vec<u8>,
     pub topic_lengths: Vec<usize>,
+}
+
+impl Given {
+    fn off(&self, bit: u8) -> u8 {
+        if self.off >> bit & 1 == 1 { 171 } else { 0 }
+    }
+
+    /// What is handed over for format, expiry, alias and subscription identifier, present or not.
+    pub fn numbers(&self) -> (u8, u32, u16, u32) {
+        (
+            self.format.unwrap_or(self.off(0)),
+            self.expiry.unwrap_or(self.off(1).into()),
+            self.alias.unwrap_or(self.off(2).into()),
+            self.sid.unwrap_or(self.off(3).into()),
+        )
+    }
+
+    /// Whether a number is handed over for an absent value of the kind.
+    pub fn off_number(&self) -> bool {
+        let (format, expiry, alias, sid) = self.numbers();
+        match self.kind {
+            3 => self.format.is_none() && format != 0 || self.expiry.is_none() && expiry != 0 || self.alias.is_none() && alias != 0,
+            8 => self.sid.is_none() && sid != 0,
+            _ => false,
+        }
+    }
 }
 
 /// A string that may be absent; an absent one with bytes is refused (20).

@@ -1,11 +1,11 @@
--- `capi::next::ecch_next_topic` is right since what is returned and stored is of the answer that `read_mqtt_string` gives. Assumes nothing.
+-- `capi::next::ecch_next_topic` is right since what is returned and stored is of the answer that `topic_up_to` gives. Assumes nothing.
 use borrow.Author.Needs.{needs}
 use mathlib.Core.Path.{_∙_}
 use Rattle.capi.proofs.next.ecch_next_topic.Statement.{statement}
 use Rattle.capi.proofs.next.ecch_next_topic.Tie as tie
 
-read-mqtt-string-requires : tie.Need-read-mqtt-string-requires
-read-mqtt-string-requires c κs = search needs
+topic-up-to-requires : tie.Need-topic-up-to-requires
+topic-up-to-requires c κs = search needs
 
 store-next-topic-requires : tie.Need-store-next-topic-requires
 store-next-topic-requires c κs = search needs
@@ -14,8 +14,8 @@ same-length : tie.Need-same-length
 same-length c = search needs
 
 returns : tie.Need-returns
-returns c = (c .before .before .store-next-topic .ensures .0 ∙ rw (c .before .before .before .before .read-mqtt-string .ensures), c .before .before .store-next-topic .ensures .1 ∙ rw (c .before .before .before .before .read-mqtt-string .ensures))
+returns c = (c .before .before .store-next-topic .ensures .0 ∙ rw (c .before .before .before .before .topic-up-to .ensures), c .before .before .store-next-topic .ensures .1 ∙ rw (c .before .before .before .before .topic-up-to .ensures))
 
 pub ecch-next-topic-spec : {M : Type 1} → statement M
 ecch-next-topic-spec =
-    tie.close (tie.spec read-mqtt-string-requires store-next-topic-requires same-length returns)
+    tie.close (tie.spec topic-up-to-requires store-next-topic-requires same-length returns)

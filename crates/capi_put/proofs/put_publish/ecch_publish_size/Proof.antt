@@ -3,6 +3,7 @@ use mathlib.Core.Path.{ap, _∙_}
 use borrow.Author.Needs.{needs}
 use denote.Ref.{now}
 use Rattle.writing.specs.Write.{sizedBehind}
+use Rattle.given_heads.specs.By.{behind}
 use Rattle.capi_put.proofs.Laws.{answered-by}
 use Rattle.capi_put.proofs.put_publish.ecch_publish_size.Statement.{statement}
 use Rattle.capi_put.proofs.put_publish.ecch_publish_size.Tie as tie
@@ -21,7 +22,7 @@ same-length c = search needs
 
 returns : tie.Need-returns
 returns c = let a = c .before .before .before .before .before .before .before .before .before .before .before .before .before .before .before .args in
-    answered-by _ (c .before .before .store-written .ensures) (c .before .before .before .before .size-publish .ensures ∙ ap sizedBehind (c .before .before .before .before .before .publish-head .ensures (now (a .topic)) (now (a .response)) (now (a .correlation)) (now (a .user)) (now (a .user-lengths)) (now (a .identifiers)) (now (a .content)) (now (a .payload))))
+    answered-by _ (c .before .before .store-written .ensures) (c .before .before .before .before .size-publish .ensures ∙ ap (λ t. sizedBehind (behind t)) (c .before .before .before .before .before .publish-head .ensures (now (a .topic)) (now (a .response)) (now (a .correlation)) (now (a .user)) (now (a .user-lengths)) (now (a .identifiers)) (now (a .content)) (now (a .payload))))
 
 pub ecch-publish-size-spec : {M : Type 1} → statement M
 ecch-publish-size-spec =

@@ -1,6 +1,8 @@
 -- `capi_put::put_publish::ecch_publish_write` is right since what is returned and stored is of the answer that `write_publish` gives. Assumes nothing.
+use mathlib.Core.Path.{ap}
 use borrow.Author.Needs.{needs}
 use denote.Ref.{now}
+use Rattle.given_heads.specs.By.{behind}
 use Rattle.capi_put.proofs.Laws.{behind-by}
 use Rattle.capi_put.proofs.put_publish.ecch_publish_write.Statement.{statement}
 use Rattle.capi_put.proofs.put_publish.ecch_publish_write.Tie as tie
@@ -25,7 +27,7 @@ same-length-2 c = search needs
 
 returns : tie.Need-returns
 returns c = let a = c .before .before .before .before .before .before .before .before .before .before .before .before .before .before .before .before .before .before .before .before .args in
-    behind-by _ (now (a .out)) (c .before .before .store-written .ensures) (c .before .before .before .before .before .before .before .before .bound .ensures) (c .before .before .before .before .before .before .before .before .before .publish-head .ensures (now (a .topic)) (now (a .response)) (now (a .correlation)) (now (a .user)) (now (a .user-lengths)) (now (a .identifiers)) (now (a .content)) (now (a .payload))) (c .before .before .before .before .before .before .write-publish .ensures)
+    behind-by _ (now (a .out)) (c .before .before .store-written .ensures) (c .before .before .before .before .before .before .before .before .bound .ensures) (ap behind (c .before .before .before .before .before .before .before .before .before .publish-head .ensures (now (a .topic)) (now (a .response)) (now (a .correlation)) (now (a .user)) (now (a .user-lengths)) (now (a .identifiers)) (now (a .content)) (now (a .payload)))) (c .before .before .before .before .before .before .write-publish .ensures)
 
 pub ecch-publish-write-spec : {M : Type 1} → statement M
 ecch-publish-write-spec =

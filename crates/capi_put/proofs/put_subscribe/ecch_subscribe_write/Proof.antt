@@ -1,9 +1,9 @@
--- `capi_put::put_subscribe::ecch_subscribe_write` is right since the head is what is handed over, and what is returned and stored is of the answer that the writer gives. Assumes nothing.
+-- `capi_put::put_subscribe::ecch_subscribe_write` is right since what is returned and stored is of the answer that `write_subscribe` gives. Assumes nothing.
 use mathlib.Core.Path.{ap}
 use borrow.Author.Needs.{needs}
 use denote.Ref.{now}
-use Rattle.writing.specs.Handed.{subscribe}
-use Rattle.capi_put.proofs.Laws.{written-by}
+use Rattle.given_heads.specs.By.{behind}
+use Rattle.capi_put.proofs.Laws.{behind-by}
 use Rattle.capi_put.proofs.put_subscribe.ecch_subscribe_write.Statement.{statement}
 use Rattle.capi_put.proofs.put_subscribe.ecch_subscribe_write.Tie as tie
 
@@ -13,8 +13,8 @@ subscribe-head-requires c κs = search needs
 bound-requires : tie.Need-bound-requires
 bound-requires c κs = search needs
 
-write-requires : tie.Need-write-requires
-write-requires c κs = search needs
+write-subscribe-requires : tie.Need-write-subscribe-requires
+write-subscribe-requires c κs = search needs
 
 store-written-requires : tie.Need-store-written-requires
 store-written-requires c κs = search needs
@@ -26,8 +26,7 @@ same-length-2 : tie.Need-same-length-2
 same-length-2 c = search needs
 
 returns : tie.Need-returns
-returns c = let a = c .before .before .before .before .before .before .before .before .before .before .before .before .before .before .before .before .before .args in
-    written-by _ _ (c .before .before .store-written .ensures) (c .before .before .before .before .before .before .before .before .bound .ensures) (ap subscribe (c .before .before .before .before .before .before .before .before .before .subscribe-head .ensures (now (a .user)) (now (a .user-lengths)) (now (a .filters)) (now (a .filter-lengths)) (now (a .options)))) (c .before .before .before .before .before .before .write .ensures)
+returns c = behind-by _ (now (c .before .before .before .before .before .before .before .before .before .before .before .before .before .before .before .before .before .args .out)) (c .before .before .store-written .ensures) (c .before .before .before .before .before .before .before .before .bound .ensures) (ap behind (c .before .before .before .before .before .before .before .before .before .subscribe-head .ensures (now (c .before .before .before .before .before .before .before .before .before .before .before .before .before .before .before .before .before .args .user)) (now (c .before .before .before .before .before .before .before .before .before .before .before .before .before .before .before .before .before .args .user-lengths)) (now (c .before .before .before .before .before .before .before .before .before .before .before .before .before .before .before .before .before .args .filters)) (now (c .before .before .before .before .before .before .before .before .before .before .before .before .before .before .before .before .before .args .filter-lengths)) (now (c .before .before .before .before .before .before .before .before .before .before .before .before .before .before .before .before .before .args .options)))) (c .before .before .before .before .before .before .write-subscribe .ensures)
 
 pub ecch-subscribe-write-spec : {M : Type 1} → statement M
 ecch-subscribe-write-spec =
@@ -35,7 +34,7 @@ ecch-subscribe-write-spec =
     (tie.spec
     subscribe-head-requires
     bound-requires
-    write-requires
+    write-subscribe-requires
     store-written-requires
     same-length
     same-length-2

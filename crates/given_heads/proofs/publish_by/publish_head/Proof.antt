@@ -1,68 +1,20 @@
--- `given_heads::publish_by::publish_head` is right since each name has what the definition has, and a number that is refused is refused before all else. Assumes nothing.
-use mathlib.Core.Path.{sym}
+-- `given_heads::publish_by::publish_head` is right since each part has what the definition has. Assumes nothing.
 use borrow.Author.Needs.{needs}
 use Rattle.given_heads.proofs.publish_by.publish_head.Statement.{statement}
 use Rattle.given_heads.proofs.publish_by.publish_head.Tie as tie
 
-qos-requires : tie.Need-qos-requires
-qos-requires c κs = search needs
+zeros-if-off-requires : tie.Need-zeros-if-off-requires
+zeros-if-off-requires c κs = search needs
 
-enum-known-e : tie.Need-enum-known-e
-enum-known-e c = search needs
+test-qos-requires : tie.Need-test-qos-requires
+test-qos-requires c κs = search needs
 
-enum-known-qos : tie.Need-enum-known-qos
-enum-known-qos c = search needs
-
-maybe-u8-requires : tie.Need-maybe-u8-requires
-maybe-u8-requires c κs = search needs
-
-maybe-u32-requires : tie.Need-maybe-u32-requires
-maybe-u32-requires c κs = search needs
-
-maybe-u16-requires : tie.Need-maybe-u16-requires
-maybe-u16-requires c κs = search needs
-
-is-on-requires : tie.Need-is-on-requires
-is-on-requires c κs = search needs
-
-is-on-requires-2 : tie.Need-is-on-requires-2
-is-on-requires-2 c κs = search needs
-
-is-on-requires-3 : tie.Need-is-on-requires-3
-is-on-requires-3 c κs = search needs
-
-is-on-requires-4 : tie.Need-is-on-requires-4
-is-on-requires-4 c κs = search needs
-
-is-on-requires-5 : tie.Need-is-on-requires-5
-is-on-requires-5 c κs = search needs
-
-is-on-requires-6 : tie.Need-is-on-requires-6
-is-on-requires-6 c κs = search needs
+numbers-requires : tie.Need-numbers-requires
+numbers-requires c κs = search needs
 
 returns : tie.Need-returns
-returns c = λ topic response correlation user lengths ids content payload. rw (sym (rw (c .before .e .given .1) at (c .before .before .before .qos .ensures)))
-
-returns-2 : tie.Need-returns-2
-returns-2 c = λ topic response correlation user lengths ids content payload.
-    let e = rw (c .before .before .before .before .before .before .before .before .before .before .qos2 .given .1) at (c .before .before .before .before .before .before .before .before .before .before .before .before .qos .ensures) in
-    rw (sym e, c .before .before .before .before .before .before .before .before .maybe-u8 .ensures, c .before .before .before .before .before .before .before .maybe-u32 .ensures, c .before .before .before .before .before .before .maybe-u16 .ensures, c .before .before .before .before .before .is-on .ensures, c .before .before .before .before .is-on2 .ensures, c .before .before .before .is-on3 .ensures, c .before .before .is-on4 .ensures, c .before .is-on5 .ensures, c .is-on6 .ensures)
+returns c = λ topic response correlation user lengths ids content payload. rw (c .before .before .zeros-if-off .ensures, c .before .test-qos .ensures, c .numbers .ensures topic response correlation user lengths ids content payload)
 
 pub publish-head-spec : {M : Type 1} → statement M
 publish-head-spec =
-    tie.close
-    (tie.spec
-    qos-requires
-    enum-known-e
-    enum-known-qos
-    maybe-u8-requires
-    maybe-u32-requires
-    maybe-u16-requires
-    is-on-requires
-    is-on-requires-2
-    is-on-requires-3
-    is-on-requires-4
-    is-on-requires-5
-    is-on-requires-6
-    returns
-    returns-2)
+    tie.close (tie.spec zeros-if-off-requires test-qos-requires numbers-requires returns)

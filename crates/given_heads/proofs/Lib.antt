@@ -1,0 +1,3 @@
+pub mod One
+pub mod Order
+pub mod Qos

@@ -1,0 +1,13 @@
+// Numbers that C hands over beside a flag: one whose flag is off has to be 0 (01, row 20).
+use given::number::is_on;
+ghost use mathlib.Core.Path.{_≡_};
+ghost use Rattle.given_heads.specs.By.{zeroIfOff};
+
+pub fn zero_if_off(on: u8, n: u32) -> bool
+    ensures { λ r. ⌜ r ≡ zeroIfOff (on, n) ⌝ }
+{
+    if is_on(on) {
+        return true;
+    }
+    n == 0
+}
