@@ -1,5 +1,6 @@
 // The line of a packet whose frame starts at `offset` of the stream and takes `taken` bytes of it, put into the output from place `at` on.
 use crate::field;
+use crate::force;
 use crate::list;
 use crate::output;
 use codes;
@@ -32,12 +33,13 @@ fn flags(out: &mut [u8], at: usize, dup: bool, q: u8, retain: bool) -> usize {
     output::word(&mut *out, at, &text)
 }
 
-fn publish_head(out: &mut [u8], at: usize, s: &[u8], m: Publish) -> usize {
+fn publish_head(out: &mut [u8], at: usize, s: &[u8], table: &[u8], m: Publish) -> usize {
     let qos = m.qos;
     let q = codes::qos_number(qos);
     let a = flags(&mut *out, at, m.dup, q, m.retain);
     let b = field::part(&mut *out, a, b" topic=\"", s, m.topic);
-    identifier(&mut *out, b, q, m.pkid)
+    let c = force::topic(&mut *out, b, s, table, m);
+    identifier(&mut *out, c, q, m.pkid)
 }
 
 fn publish_singles(out: &mut [u8], at: usize, s: &[u8], p: PublishProperties) -> usize {
@@ -69,9 +71,9 @@ fn publish_block(out: &mut [u8], at: usize, s: &[u8], properties: MaybePublishPr
     }
 }
 
-fn publish_of(out: &mut [u8], at: usize, s: &[u8], m: Publish) -> usize {
+fn publish_of(out: &mut [u8], at: usize, s: &[u8], table: &[u8], m: Publish) -> usize {
     let properties = m.properties;
-    let a = publish_head(&mut *out, at, s, m);
+    let a = publish_head(&mut *out, at, s, table, m);
     let b = publish_block(&mut *out, a, s, properties);
     field::part(&mut *out, b, b" payload=\"", s, m.payload)
 }
@@ -131,9 +133,9 @@ fn unsubscribe_of(out: &mut [u8], at: usize, s: &[u8], m: Unsubscribe) -> usize 
 }
 
 // The fields of the kind; a ping has none.
-fn fields(out: &mut [u8], at: usize, s: &[u8], p: Packet) -> usize {
+fn fields(out: &mut [u8], at: usize, s: &[u8], table: &[u8], p: Packet) -> usize {
     match p {
-        Packet::Publish(m) => publish_of(&mut *out, at, s, m),
+        Packet::Publish(m) => publish_of(&mut *out, at, s, table, m),
         Packet::Ack(_, m) => ack_of(&mut *out, at, s, m),
         Packet::Subscribe(m) => subscribe_of(&mut *out, at, s, m),
         Packet::Reply(_, m) => reply_of(&mut *out, at, s, m),
@@ -154,12 +156,20 @@ fn kind_word(out: &mut [u8], at: usize, num: u8) -> usize {
     output::word(&mut *out, at, string::part(&bytes, text))
 }
 
-// Of the packet p that was read from s.
-pub fn packet(out: &mut [u8], at: usize, offset: u64, s: &[u8], p: Packet, taken: usize) -> usize {
+// Of the packet p that was read from s; the table has the topics by alias.
+pub fn packet(
+    out: &mut [u8],
+    at: usize,
+    offset: u64,
+    s: &[u8],
+    table: &[u8],
+    p: Packet,
+    taken: usize,
+) -> usize {
     let a = output::decimal(&mut *out, at, offset);
     let b = output::word(&mut *out, a, b" ");
     let c = kind_word(&mut *out, b, counts::number_in(p));
     let d = field::number(&mut *out, c, b" taken=", taken as u64);
-    let e = fields(&mut *out, d, s, p);
+    let e = fields(&mut *out, d, s, table, p);
     output::word(&mut *out, e, b"\n")
 }

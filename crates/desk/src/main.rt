@@ -2,6 +2,7 @@
 // on standard error.
 mod args;
 mod field;
+mod force;
 mod line;
 mod list;
 mod output;
@@ -9,8 +10,8 @@ mod stream;
 
 use words::Asked;
 
-// The file that is named by word i.
-fn read_file(a: Asked) -> u8 {
+// The file that is named by a word.
+fn read_file(a: Asked, filter: &[u8]) -> u8 {
     let limit = a.limit;
     let mut path = io::buffer();
     let n = os::arg(a.file, &mut path);
@@ -20,21 +21,41 @@ fn read_file(a: Asked) -> u8 {
         output::fail(name);
         return 1;
     }
-    let status = stream::read(fd, name, limit);
+    let status = stream::read(fd, name, limit, filter);
     libc::close(fd);
     status
 }
 
-fn run(a: Asked) -> u8 {
-    if a.bad {
-        io::write_all(libc::STDERR_FILENO, b"usage: desk [--limit N] [FILE]\n");
-        return 2;
-    }
+// The frames that the filter lets pass, all if it is empty.
+fn read(a: Asked, filter: &[u8]) -> u8 {
     if a.file == 0 {
         let limit = a.limit;
-        return stream::read(libc::STDIN_FILENO, b"standard input", limit);
+        return stream::read(libc::STDIN_FILENO, b"standard input", limit, filter);
     }
-    read_file(a)
+    read_file(a, filter)
+}
+
+// With the filter that is named by a word.
+fn read_by_topic(a: Asked) -> u8 {
+    let mut text = io::buffer();
+    let n = os::arg(a.topic, &mut text);
+    let filter = &text[..n];
+    if topics::valid_filter(filter) {
+        return read(a, filter);
+    }
+    output::bad_filter(filter);
+    2
+}
+
+fn run(a: Asked) -> u8 {
+    if a.bad {
+        output::usage();
+        return 2;
+    }
+    if a.topic == 0 {
+        return read(a, b"");
+    }
+    read_by_topic(a)
 }
 
 // The status as a digit, on descriptor 3.

@@ -124,3 +124,18 @@ pub fn fail(name: &[u8]) {
     io::write_all(libc::STDERR_FILENO, b"desk: ");
     os::fail(name);
 }
+
+pub fn usage() {
+    io::write_all(
+        libc::STDERR_FILENO,
+        b"usage: desk [--limit N] [--topic FILTER] [FILE]\n",
+    );
+}
+
+// A filter that MQTT does not allow, on standard error.
+pub fn bad_filter(filter: &[u8]) {
+    io::write_all(libc::STDERR_FILENO, b"desk: ");
+    io::write_all(libc::STDERR_FILENO, filter);
+    io::write_all(libc::STDERR_FILENO, b": not a valid topic filter\n");
+    usage();
+}

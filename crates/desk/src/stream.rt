@@ -33,11 +33,18 @@ struct Desk {
     // where the next frame starts in the stream
     offset: u64,
     state: u8,
+    // no filter is given: refusals have their lines too
+    all: bool,
 }
 
 // 1 MiB
 fn buffer() -> [u8; 1048576] {
     [0; 1048576]
+}
+
+// The topics by alias, none set.
+fn fresh() -> [u8; 2064] {
+    [0; 2064]
 }
 
 // How many bytes refusal 1 says are lacking, while there is more to read; else 0.
@@ -71,6 +78,14 @@ fn passed(mut d: Desk, put: usize, taken: usize) -> Desk {
     d
 }
 
+// Where the output goes on after the line of a refusal, which is put if no filter is given.
+fn refused_line(out: &mut [u8], d: Desk, e: Error, taken: usize) -> usize {
+    if d.all {
+        return output::refused(&mut *out, d.put, d.offset, e, taken);
+    }
+    d.put
+}
+
 // A refusal; that of no byte at all is the end of the stream.
 fn refused(out: &mut [u8], tally: &mut [u64], mut d: Desk, e: Error, taken: usize) -> Desk {
     let held = d.held;
@@ -78,7 +93,7 @@ fn refused(out: &mut [u8], tally: &mut [u64], mut d: Desk, e: Error, taken: usiz
         d.state = DONE;
         return d;
     }
-    let put = output::refused(&mut *out, d.put, d.offset, e, taken);
+    let put = refused_line(&mut *out, d, e, taken);
     counts::add_refused(&mut *tally, e);
     passed(d, put, taken)
 }
@@ -182,17 +197,61 @@ fn unread(
     refused(&mut *out, &mut *tally, d, e, taken)
 }
 
-fn accepted(s: &[u8], out: &mut [u8], tally: &mut [u64], d: Desk, p: Packet, taken: usize) -> Desk {
-    let put = line::packet(&mut *out, d.put, d.offset, s, p, taken);
+// The same after the line of a packet, which is put if the filter lets it pass.
+fn packet_line(
+    s: &[u8],
+    filter: &[u8],
+    table: &[u8],
+    out: &mut [u8],
+    d: Desk,
+    p: Packet,
+    taken: usize,
+) -> usize {
+    if desk_topic::is_shown(filter, s, table, p) {
+        return line::packet(&mut *out, d.put, d.offset, s, table, p, taken);
+    }
+    d.put
+}
+
+fn accepted(
+    s: &[u8],
+    filter: &[u8],
+    table: &mut [u8],
+    out: &mut [u8],
+    tally: &mut [u64],
+    d: Desk,
+    p: Packet,
+    taken: usize,
+) -> Desk {
+    desk_topic::learn(&mut *table, s, p);
+    let put = packet_line(s, filter, &*table, &mut *out, d, p, taken);
     counts::add_packet(&mut *tally, p);
     passed(d, put, taken)
 }
 
 // One frame, or one read.
-fn turn(fd: i32, limit: Limit, buf: &mut [u8], out: &mut [u8], tally: &mut [u64], d: Desk) -> Desk {
+fn turn(
+    fd: i32,
+    limit: Limit,
+    filter: &[u8],
+    buf: &mut [u8],
+    table: &mut [u8],
+    out: &mut [u8],
+    tally: &mut [u64],
+    d: Desk,
+) -> Desk {
     let s = string::part(&*buf, d.held);
     match packet::read(s, limit) {
-        Read::Packet(p, _, taken) => accepted(s, &mut *out, &mut *tally, d, p, taken),
+        Read::Packet(p, _, taken) => accepted(
+            s,
+            filter,
+            &mut *table,
+            &mut *out,
+            &mut *tally,
+            d,
+            p,
+            taken,
+        ),
         Read::Refused(e, taken) => unread(fd, &mut *buf, &mut *out, &mut *tally, d, e, taken),
     }
 }
@@ -205,16 +264,34 @@ fn is_going(out: &[u8], d: Desk) -> bool {
 }
 
 // A proved loop has to end, and nothing says that a stream does. So the loop counts its turns down, from a number that no run uses up.
-fn read_all(fd: i32, limit: Limit, buf: &mut [u8], out: &mut [u8], tally: &mut [u64]) -> Desk {
+fn read_all(
+    fd: i32,
+    limit: Limit,
+    filter: &[u8],
+    buf: &mut [u8],
+    table: &mut [u8],
+    out: &mut [u8],
+    tally: &mut [u64],
+) -> Desk {
     let mut d = Desk {
         held: Span { start: 0, len: 0 },
         put: 0,
         offset: 0,
         state: GOING,
+        all: filter.len() == 0,
     };
     let mut turns: u64 = 18446744073709551615;
     while 0 < turns {
-        d = turn(fd, limit, &mut *buf, &mut *out, &mut *tally, d);
+        d = turn(
+            fd,
+            limit,
+            filter,
+            &mut *buf,
+            &mut *table,
+            &mut *out,
+            &mut *tally,
+            d,
+        );
         if !is_going(&*out, d) {
             return d;
         }
@@ -238,11 +315,20 @@ fn finish(out: &mut [u8], tally: &[u64], d: Desk) -> u8 {
 }
 
 // Reads the stream to its end, or to where it stops; gives the exit status.
-pub fn read(fd: i32, name: &[u8], limit: Limit) -> u8 {
+pub fn read(fd: i32, name: &[u8], limit: Limit, filter: &[u8]) -> u8 {
     let mut buf = buffer();
+    let mut table = fresh();
     let mut out = io::large_buffer();
     let mut tally = counts::none();
-    let d = read_all(fd, limit, &mut buf, &mut out, &mut tally);
+    let d = read_all(
+        fd,
+        limit,
+        filter,
+        &mut buf,
+        &mut table,
+        &mut out,
+        &mut tally,
+    );
     if d.state == UNREADABLE {
         output::fail(name);
     }

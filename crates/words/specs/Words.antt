@@ -1,4 +1,4 @@
--- What the words say that `desk` is started with: docs/DESK.md, "desk [--limit N] [FILE]". Assumes nothing.
+-- What the words say that `desk` is started with: docs/DESK.md, "desk [--limit N] [--topic FILTER] [FILE]". Assumes nothing.
 use mathlib.Core.Bool.{Bool, true, false, cond}
 use mathlib.Core.Option.{Option, some, none}
 use mathlib.Core.List.{List, [], _∷_}
@@ -44,35 +44,42 @@ isOption (x ∷ y ∷ w) = eqb x 45
 
 -- before the first word
 abbrev pub unasked : Asked
-unasked = record { file = 0; limit = Limit.Unlimited; status = false; bad = false; named = false; awaits = false }
+unasked = record { file = 0; limit = Limit.Unlimited; status = false; bad = false; named = false; awaits = false; topic = 0; seeks = false }
 
 -- no words of desk's
 abbrev pub asBad : Asked → Asked
-asBad a = record { file = a .file; limit = a .limit; status = a .status; bad = true; named = a .named; awaits = a .awaits }
+asBad a = record { file = a .file; limit = a .limit; status = a .status; bad = true; named = a .named; awaits = a .awaits; topic = a .topic; seeks = a .seeks }
 
 -- N behind `--limit`
 abbrev pub withLimit : Asked → Option ℕ → Asked
-withLimit a (some n) = record { file = a .file; limit = Limit.AtMost n; status = a .status; bad = a .bad; named = a .named; awaits = false }
-withLimit a none = record { file = a .file; limit = a .limit; status = a .status; bad = true; named = a .named; awaits = false }
+withLimit a (some n) = record { file = a .file; limit = Limit.AtMost n; status = a .status; bad = a .bad; named = a .named; awaits = false; topic = a .topic; seeks = a .seeks }
+withLimit a none = record { file = a .file; limit = a .limit; status = a .status; bad = true; named = a .named; awaits = false; topic = a .topic; seeks = a .seeks }
 
 -- FILE, the i-th word, which is named once; `-` is standard input
 abbrev pub withName : Asked → List ℕ → ℕ → Asked
 withName a w i =
     cond (a .named) (asBad a)
     (cond (same w (codesOf "-"))
-    (record { file = a .file; limit = a .limit; status = a .status; bad = a .bad; named = true; awaits = a .awaits })
-    (record { file = i; limit = a .limit; status = a .status; bad = a .bad; named = true; awaits = a .awaits }))
+    (record { file = a .file; limit = a .limit; status = a .status; bad = a .bad; named = true; awaits = a .awaits; topic = a .topic; seeks = a .seeks })
+    (record { file = i; limit = a .limit; status = a .status; bad = a .bad; named = true; awaits = a .awaits; topic = a .topic; seeks = a .seeks }))
+
+-- FILTER behind `--topic`, the i-th word
+abbrev pub withTopic : Asked → ℕ → Asked
+withTopic a i = record { file = a .file; limit = a .limit; status = a .status; bad = a .bad; named = a .named; awaits = a .awaits; topic = i; seeks = false }
 
 -- with the i-th word
 abbrev pub withWord : Asked → List ℕ → ℕ → Asked
 withWord a w i =
     cond (a .awaits) (withLimit a (numberOf w))
+    (cond (a .seeks) (withTopic a i)
     (cond (same w (codesOf "--limit"))
-    (record { file = a .file; limit = a .limit; status = a .status; bad = a .bad; named = a .named; awaits = true })
+    (record { file = a .file; limit = a .limit; status = a .status; bad = a .bad; named = a .named; awaits = true; topic = a .topic; seeks = a .seeks })
+    (cond (same w (codesOf "--topic"))
+    (record { file = a .file; limit = a .limit; status = a .status; bad = a .bad; named = a .named; awaits = a .awaits; topic = a .topic; seeks = true })
     (cond (same w (codesOf "--status"))
-    (record { file = a .file; limit = a .limit; status = true; bad = a .bad; named = a .named; awaits = a .awaits })
-    (cond (isOption w) (asBad a) (withName a w i))))
+    (record { file = a .file; limit = a .limit; status = true; bad = a .bad; named = a .named; awaits = a .awaits; topic = a .topic; seeks = a .seeks })
+    (cond (isOption w) (asBad a) (withName a w i))))))
 
--- after the last word: N is awaited behind `--limit`
+-- after the last word: N is awaited behind `--limit`, FILTER behind `--topic`
 abbrev pub withEnd : Asked → Asked
-withEnd a = cond (a .awaits) (asBad a) a
+withEnd a = cond (a .awaits) (asBad a) (cond (a .seeks) (asBad a) a)

@@ -1,4 +1,4 @@
-// The words that `desk` is started with: `desk [--limit N] [FILE]`, and `--status`, which the script at the top hands over.
+// The words that `desk` is started with: `desk [--limit N] [--topic FILTER] [FILE]`, and `--status`, which the script at the top hands over.
 use records::answer::Limit;
 ghost use mathlib.Core.Path.{_≡_};
 ghost use mathlib.Core.Option.{some};
@@ -16,6 +16,10 @@ pub struct Asked {
     pub named: bool,
     // the next word is the limit
     pub awaits: bool,
+    // which word is the filter of topics; 0 for none
+    pub topic: usize,
+    // the next word is the filter
+    pub seeks: bool,
 }
 
 enum Parsed {
@@ -137,6 +141,8 @@ pub fn none() -> Asked
         bad: false,
         named: false,
         awaits: false,
+        topic: 0,
+        seeks: false,
     }
 }
 
@@ -147,8 +153,18 @@ pub fn with_word(a: Asked, w: &[u8], i: usize) -> Asked
     if a.awaits {
         return with_limit(a, w);
     }
+    if a.seeks {
+        return Asked {
+            topic: i,
+            seeks: false,
+            ..a
+        };
+    }
     if is_same(w, b"--limit") {
         return Asked { awaits: true, ..a };
+    }
+    if is_same(w, b"--topic") {
+        return Asked { seeks: true, ..a };
     }
     if is_same(w, b"--status") {
         return Asked { status: true, ..a };
@@ -159,12 +175,16 @@ pub fn with_word(a: Asked, w: &[u8], i: usize) -> Asked
     with_name(a, w, i)
 }
 
-// After the last word: a limit that is awaited still is bad.
+// After the last word: a limit or a filter that is awaited still is bad.
 pub fn ended(a: Asked) -> Asked
     ensures { λ r. ⌜ r ≡ withEnd a ⌝ }
 {
     let awaited = a.awaits;
+    let sought = a.seeks;
     if awaited {
+        return Asked { bad: true, ..a };
+    }
+    if sought {
         return Asked { bad: true, ..a };
     }
     a
