@@ -6,8 +6,9 @@ use Prim.Native.Nat.{ℕ}
 use lib.ListN.{length, drop}
 use Rattle.grammar.specs.Record.{Val, PropOf, allOf}
 use Rattle.grammar.specs.Tables as tables
-use Rattle.reading.specs.Reader.{Fit, got, _>>=_, manyFit}
-use Rattle.reading.specs.Read.{propertyOf}
+use Rattle.grammar.specs.Sentence.{met}
+use Rattle.reading.specs.Reader.{Fit, got, _>>=_, chainFit}
+use Rattle.reading.specs.Read.{onceOf}
 use Rattle.reading.specs.Place.{asPlaces, orNoItem, nthOf, valuesAt, userAt, subscriptionAt}
 use Rattle.reading.specs.Place as place
 use Rattle.records.specs.Told.{toldSpan}
@@ -35,15 +36,16 @@ pub record SeekOn (q : Seek) (i k : ℕ) (v : Value) (r : Seek) : Type 0 where
   pub says : (ps : List (PropOf place.Span)) → sought r (allOf i ps) ≡ sought q (allOf i ((k, toldValue v) ∷ ps))
   pub formed : (f : ℕ → Option tables.Form) → f k ≡ some (formOf v) → Formed (f i) q → Formed (f i) r
 
--- 01, row 21: what the search q comes to in the properties that fill the bytes b, which end at index `end`, doubled or not; or that none do
-unfoldable pub soughtIn : tables.Place → ℕ → ℕ → Seek → List ℕ → Fit (Val place.Span)
-soughtIn row i end q b = do
-  ps ← orNoItem (manyFit (propertyOf asPlaces row end) b)
+-- 01, row 21: what the search q comes to in the properties that fill the bytes b, which end at index `end`; or that none do. Of σ, and of those
+-- single-valued among them, none comes again (02, P9)
+unfoldable pub soughtIn : tables.Place → ℕ → ℕ → Seek → List ℕ → List ℕ → Fit (Val place.Span)
+soughtIn row i end q σ b = do
+  ps ← orNoItem (chainFit (met row) (onceOf asPlaces row end) σ b)
   sought q (allOf i ps)
 
 -- the n-th value of property i in the block that fills s from `start` on
 pub record SeekIn (row : tables.Place) (i : ℕ) (s : List ℕ) (start n : ℕ) (r : Seek) : Type 0 where
-  pub says : sought r [] ≡ soughtIn row i (length s) (Left n) (drop start s)
+  pub says : sought r [] ≡ soughtIn row i (length s) (Left n) [] (drop start s)
   pub formed : Formed (tables.formAt row i) r
 
 -- the n-th value of property i in the block at a place of s

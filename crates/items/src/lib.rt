@@ -1,24 +1,17 @@
 // The n-th user property and the n-th subscription identifier of a block: what stands in place of the lists of publish.rs, subscribe.rs and
 // puback.rs. The whole block is read, so that a fault behind the item is seen.
-use properties::place_block;
-use properties::place_block::GotBlock;
 use property_value::GotProperty;
 use property_value::Value;
-use publish_properties;
-use publish_properties::GotPublishBlock;
 use records::answer::IdentifierItem;
 use records::answer::UserItem;
 use records::span::Span;
-use tables::property::OtherPlace;
 use tables::property::PropertyPlace;
 use wire::string;
 ghost use mathlib.Core.Path.{_≡_};
-ghost use lib.ListN.{length, drop};
-ghost use Rattle.reading.specs.Reader.{isGot};
-ghost use Rattle.reading.specs.Read.{propertiesFit};
-ghost use Rattle.reading.specs.Place.{asPlaces};
+ghost use mathlib.Core.Bool.{not};
+ghost use Rattle.grammar.specs.Tables.{isList};
 ghost use Rattle.records.specs.Told.{toldSpan};
-ghost use Rattle.tables.specs.Property.{placeOf, otherOf};
+ghost use Rattle.tables.specs.Property.{placeOf};
 ghost use Rattle.items.specs.Nth.{SeekOn, SeekIn, NthRead, NthUser, NthIdentifier};
 
 // The search for a value: how many are to be passed before it, or the value.
@@ -45,43 +38,43 @@ fn seek_on(seek: Seek, id: u8, k: u8, v: Value) -> Seek
     }
 }
 
-// Do properties of a place beside Publish's fill the block that begins where p does and ends where s does, none of them doubled?
-fn stands_other(place: OtherPlace, s: &[u8], p: Span) -> bool
-    ensures { λ r. ⌜ r ≡ isGot (propertiesFit asPlaces (placeOf (otherOf place)) (length (now (s .entry))) (drop (p .start) (now (s .entry)))) ⌝ }
+// Whether property k is single-valued at a place (02, P9).
+fn is_single(place: PropertyPlace, k: u8) -> bool
+    ensures { λ r. ⌜ r ≡ not (isList (placeOf place) k) ⌝ }
 {
-    match place_block::fill(place, s, p) {
-        GotBlock::Value(_, _) => true,
-        GotBlock::Refused(_) => false,
+    if k == 38 {
+        return false;
     }
+    if k == 11 {
+        return match place {
+            PropertyPlace::Publish => false,
+            PropertyPlace::Subscribe => true,
+            PropertyPlace::Ack => true,
+            PropertyPlace::Unsubscribe => true,
+        };
+    }
+    true
 }
 
-// The same of any place.
-fn stands(place: PropertyPlace, s: &[u8], p: Span) -> bool
-    ensures { λ r. ⌜ r ≡ isGot (propertiesFit asPlaces (placeOf place) (length (now (s .entry))) (drop (p .start) (now (s .entry)))) ⌝ }
-{
-    match place {
-        PropertyPlace::Publish => match publish_properties::fill(s, p) {
-            GotPublishBlock::Value(_, _) => true,
-            GotPublishBlock::Refused(_) => false,
-        },
-        PropertyPlace::Subscribe => stands_other(OtherPlace::Subscribe, s, p),
-        PropertyPlace::Ack => stands_other(OtherPlace::Ack, s, p),
-        PropertyPlace::Unsubscribe => stands_other(OtherPlace::Unsubscribe, s, p),
-    }
-}
-
-// The n-th value of property id among the properties that fill s from start on, doubled or not.
+// The n-th value of property id among the properties that fill s from start on, none of them doubled. What was met is kept by the identifier,
+// so that one pass sees the item, a fault behind it, and a property that comes again.
 fn seek_in(place: PropertyPlace, id: u8, s: &[u8], start: usize, n: usize) -> Seek
     ensures { λ r. ⌜ SeekIn (placeOf place) id (now (s .entry)) start n r ⌝ }
 {
     let mut seek = Seek::Left(n);
+    let mut met = [false; 256];
     let mut at = start;
     while at < s.len() {
+        let first = s[at] as usize;
+        if met[first] {
+            return Seek::Left(n);
+        }
         match property_value::read_property(place, s, at) {
             GotProperty::Refused(_) => {
                 return Seek::Left(n);
             }
             GotProperty::Found(k, v, next) => {
+                met[first] = is_single(place, k);
                 seek = seek_on(seek, id, k, v);
                 at = next;
             }
@@ -98,9 +91,7 @@ fn nth_value(place: PropertyPlace, id: u8, s: &[u8], p: Span, n: usize) -> Seek
         let start = p.start;
         let len = p.len;
         let end = start + len;
-        if stands(place, &s[..end], p) {
-            return seek_in(place, id, &s[..end], start, n);
-        }
+        return seek_in(place, id, &s[..end], start, n);
     }
     Seek::Left(n)
 }

@@ -49,7 +49,10 @@ pub fn read_u8(s: &[u8], at: usize) -> GotU8
 pub fn read_u16(s: &[u8], at: usize) -> GotU16
     ensures { λ r. ⌜ toldGotU16 r ≡ fromAt (bigOf cut 2) (now (s .entry)) at ⌝ }
 {
-    if left(s, at) < 2 {
+    if s.len() < 2 {
+        return GotU16::Refused(Error::MalformedPacket);
+    }
+    if s.len() - 2 < at {
         return GotU16::Refused(Error::MalformedPacket);
     }
     let high = s[at];

@@ -26,7 +26,7 @@ ghost use Rattle.records.specs.Told.{toldSpan, toldU8, toldU16, toldU32, toldSt
 ghost use Rattle.records.specs.Said.{toldPublishProperties};
 ghost use Rattle.property_value.specs.Told.{toldValue, formOf};
 ghost use Rattle.properties.specs.Block.{publishRow, applied, filledAt};
-ghost use Rattle.publish_properties.specs.Singles.{given, toldSingles, toldPublishBlockAt};
+ghost use Rattle.publish_properties.specs.Singles.{given, toldSingles, ListsPassed, toldPublishBlockAt};
 
 // The properties, if there are any, and the index after the block; or the refusal.
 pub enum GotPublishBlock {
@@ -192,29 +192,43 @@ fn made(p: Singles) -> PublishProperties
     }
 }
 
+// The index after the properties that a Publish keeps in lists, from index `from` on: a loop of its own, which needs few registers.
+fn pass_lists(s: &[u8], from: usize) -> usize
+    ensures { λ r. ⌜ ListsPassed (now (s .entry)) from r ⌝ }
+{
+    let mut at = from;
+    while at < s.len() {
+        let past = property_value::pass_listed(s, at);
+        if past == at {
+            return at;
+        }
+        at = past;
+    }
+    at
+}
+
 // The block that stands at `block`, which ends where the slice does: no read goes past it (D2).
 pub fn fill(s: &[u8], block: Span) -> GotPublishBlock
     ensures { λ r. ⌜ toldPublishBlockAt r ≡ filledAt publishRow (now (s .entry)) (toldSpan block) ⌝ }
 {
     let mut p = none(block);
     let mut at = block.start;
-    while at < s.len() {
-        let past = property_value::pass_listed(s, at);
-        if past != at {
-            at = past;
-        } else {
-            let first = s[at];
-            if has(p, first) {
-                return GotPublishBlock::Refused(Error::DuplicateProperty(first));
+    loop {
+        at = pass_lists(s, at);
+        if s.len() <= at {
+            break;
+        }
+        let first = s[at];
+        if has(p, first) {
+            return GotPublishBlock::Refused(Error::DuplicateProperty(first));
+        }
+        match property_value::read_property(PropertyPlace::Publish, s, at) {
+            GotProperty::Found(k, v, next) => {
+                p = apply(p, k, v);
+                at = next;
             }
-            match property_value::read_property(PropertyPlace::Publish, s, at) {
-                GotProperty::Found(k, v, next) => {
-                    p = apply(p, k, v);
-                    at = next;
-                }
-                GotProperty::Refused(e) => {
-                    return GotPublishBlock::Refused(e);
-                }
+            GotProperty::Refused(e) => {
+                return GotPublishBlock::Refused(e);
             }
         }
     }

@@ -301,10 +301,14 @@ module _ (s : List ℕ) (at i : ℕ) (h : at ≤ i) (l : i < length s) where
       let f : at + (i - at) ≡ i = omega arith in
       rw (e, take-add (i - at) 1 (drop at s), ascii-append (take (i - at) (drop at s)) (take 1 (drop (i - at) (drop at s))), drop-drop (i - at) at s, f, drop-cons s i 0 l, and-true (plain (getD s i 0)))
 
+-- an ASCII byte that is not 0, wherever it stands
+pub plain-at : (s : List ℕ) (i : ℕ) → i < length s → plain (getD s i 0) ≡ true → isText (drop i s) ≡ isText (drop (i + 1) s)
+plain-at s i h e =
+    let (z, b) = and-both (ltb 0 (getD s i 0)) (ltb (getD s i 0) 128) e in
+    ascii s i h (leb-true 1 (getD s i 0) z) (leb-true (suc (getD s i 0)) 128 b)
+
 plain-first : (x : ℕ) (s : List ℕ) → plain x ≡ true → isText (x ∷ s) ≡ isText s
-plain-first x s e =
-    let (z, b) = and-both (ltb 0 x) (ltb x 128) e in
-    ascii (x ∷ s) 0 (omega arith) (leb-true 1 x z) (leb-true (suc x) 128 b)
+plain-first x s e = plain-at (x ∷ s) 0 (omega arith) e
 
 -- text, whatever part of it
 pub ascii-text : (s : List ℕ) → allAscii s ≡ true → isText s ≡ true
@@ -332,8 +336,27 @@ module _ (s : List ℕ) (i n : ℕ) (d : allAscii s ≡ allAscii (drop i s)) whe
   pub chunk-passed : allAscii (take n (drop i s)) ≡ true → allAscii s ≡ allAscii (drop (i + n) s)
   chunk-passed e = chunk-split ∙ rw e
 
-  pub chunk-last : length s ≤ i + n → allAscii (take n (drop i s)) ≡ allAscii s
-  chunk-last h = ap allAscii (take-all n (drop i s) (omega (arith, length-drop i s))) ∙ sym d
+-- the last n, where some of them may be among the first i
+module _ (s : List ℕ) (i j n : ℕ) (h : j ≤ i) (l : length s ≤ j + n) where
+  last-all : allAscii (take n (drop j s)) ≡ allAscii (drop j s)
+  last-all = ap allAscii (take-all n (drop j s) (omega (arith, length-drop j s)))
+
+  last-rest : allAscii (take n (drop j s)) ≡ true → allAscii (drop i s) ≡ true
+  last-rest e =
+      let k : j + (i - j) ≡ i = omega arith in
+      rw (drop-drop (i - j) j s, k) at (and-both (allAscii (take (i - j) (drop j s))) (allAscii (drop (i - j) (drop j s))) (sym (ascii-split (i - j) (drop j s)) ∙ sym last-all ∙ e) .1)
+
+  -- what stands from the i-th on is text
+  pub last-text : allAscii (take n (drop j s)) ≡ true → isText (drop i s) ≡ true
+  last-text e = ascii-text (drop i s) (last-rest e)
+
+  -- where those from the i-th on decide, the last n do
+  pub last-decide : allAscii s ≡ allAscii (drop i s) → allAscii (take n (drop j s)) ≡ allAscii s
+  last-decide d = go (allAscii (take n (drop j s))) refl
+    where
+      go : (t : Bool) → allAscii (take n (drop j s)) ≡ t → t ≡ allAscii s
+      go true e = sym (d ∙ last-rest e)
+      go false e = sym (ascii-split j s ∙ rw (sym last-all ∙ e) (and-false (allAscii (take j s))))
 
 -- what a loop over the bytes from `at` on has found when it comes to the end
 pub ascii-all : (s : List ℕ) (at end all : ℕ) {i : ℕ} → ltb all 128 ≡ allAscii (take (i - at) (drop at s)) → i ≡ end → at ≤ end → end ≤ length s

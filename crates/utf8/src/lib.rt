@@ -119,8 +119,46 @@ fn is_ascii(s: &[u8], at: usize, end: usize) -> bool
     all < 128
 }
 
+// Two chunks, of 16 bytes or of 8, that cover `s` and may overlap: is each byte of them ASCII, and none of them 0? No, if `s` is shorter or
+// longer than two such chunks cover.
+fn is_two_chunks(s: &[u8]) -> bool
+    ensures { λ r. ⌜ (r ≡ true → isText (now (s .entry)) ≡ true) ⌝ }
+{
+    let end = s.len();
+    if end < 8 {
+        return false;
+    }
+    if end < 16 {
+        if is_ascii(s, 0, 8) {
+            return is_ascii(s, end - 8, end);
+        }
+        return false;
+    }
+    if end <= 32 {
+        if is_ascii(s, 0, 16) {
+            return is_ascii(s, end - 16, end);
+        }
+    }
+    false
+}
+
+// The index after the chunks of 64 bytes, from the first on, that are ASCII.
+fn pass_ascii(s: &[u8]) -> usize
+    ensures { λ r. ⌜ (r ≤ length (now (s .entry))) × (isText (now (s .entry)) ≡ isText (drop r (now (s .entry)))) ⌝ }
+{
+    let mut i: usize = 0;
+    while 64 <= s.len() - i {
+        if !is_ascii(s, i, i + 64) {
+            return i;
+        }
+        i = i + 64;
+    }
+    i
+}
+
 // The index after the next chunk, and after the character that crosses its end; `at` if it is no text. A chunk has 64 bytes if they are
-// ASCII, else 16, else what is left: where the count is a constant, the compiler makes one straight line of it.
+// ASCII, else 16, else what is left: where the count is a constant, the compiler makes one straight line of it. The last 16 bytes may overlap
+// the chunk before them.
 fn pass_chunk(s: &[u8], at: usize) -> usize
     requires { ⌜ at < length (now s) ⌝ }
     ensures { λ r. ⌜ Passed (now (s .entry)) at r ⌝ }
@@ -138,8 +176,10 @@ fn pass_chunk(s: &[u8], at: usize) -> usize
         return pass_chars(s, at, at + 16);
     }
     let end = s.len();
-    if is_ascii(s, at, end) {
-        return end;
+    if 16 <= end {
+        if is_ascii(s, end - 16, end) {
+            return end;
+        }
     }
     pass_chars(s, at, end)
 }
@@ -148,7 +188,10 @@ fn pass_chunk(s: &[u8], at: usize) -> usize
 fn by_chunks(s: &[u8]) -> bool
     ensures { λ r. ⌜ r ≡ isText (now (s .entry)) ⌝ }
 {
-    let mut i: usize = 0;
+    if is_two_chunks(s) {
+        return true;
+    }
+    let mut i = pass_ascii(s);
     while i < s.len() {
         let next = pass_chunk(s, i);
         if next == i {
@@ -159,11 +202,25 @@ fn by_chunks(s: &[u8]) -> bool
     true
 }
 
+// Is each byte of a few ASCII, and none of them 0? Byte by byte, with a way out: so few are not folded faster.
+fn is_few_ascii(s: &[u8]) -> bool
+    ensures { λ r. ⌜ (r ≡ true → isText (now (s .entry)) ≡ true) ⌝ }
+{
+    let mut i: usize = 0;
+    while i < s.len() {
+        if 128 <= flaw(s[i]) {
+            return false;
+        }
+        i = i + 1;
+    }
+    true
+}
+
 // The same of a few bytes, which are mostly ASCII.
 fn is_short_utf8(s: &[u8]) -> bool
     ensures { λ r. ⌜ r ≡ isText (now (s .entry)) ⌝ }
 {
-    if is_ascii(s, 0, s.len()) {
+    if is_few_ascii(s) {
         return true;
     }
     by_chunks(s)
@@ -179,16 +236,20 @@ pub fn is_utf8(s: &[u8]) -> bool
     by_chunks(s)
 }
 
-// Is every byte of `s` ASCII, and none of them 0? Then any part of it is text.
+// Is every byte of `s` ASCII, and none of them 0? Then any part of it is text. The last 16 bytes may overlap the chunk before them.
 pub fn is_all_ascii(s: &[u8]) -> bool
     ensures { λ r. ⌜ r ≡ allAscii (now (s .entry)) ⌝ }
 {
+    let end = s.len();
+    if end < 16 {
+        return is_ascii(s, 0, end);
+    }
     let mut i: usize = 0;
-    while 16 <= s.len() - i {
+    while 16 <= end - i {
         if !is_ascii(s, i, i + 16) {
             return false;
         }
         i = i + 16;
     }
-    is_ascii(s, i, s.len())
+    is_ascii(s, end - 16, end)
 }

@@ -7,7 +7,7 @@ use borrow.Author.Tests.{leb-true, leb-false}
 use lib.ListN.{length}
 use lib.Seq.{length-take-le}
 use denote.Ref.{now}
-use Rattle.items.proofs.Laws.{nth-outside, nth-broken, nth-within}
+use Rattle.items.proofs.Laws.{nth-outside, nth-within}
 use Rattle.items.proofs.nth_value.Statement.{statement}
 use Rattle.items.proofs.nth_value.Tie as tie
 
@@ -19,37 +19,19 @@ add-end c =
     let a = c .before .before .before .args in
     omega (arith, leb-true (a .p .start + a .p .len) (length (now (a .s))) (sym (c .before .within .ensures) ∙ c .if1 .taken))
 
-slice-aggregate-stands : tie.Need-slice-aggregate-stands
-slice-aggregate-stands c =
-    let a = c .before .before .before .before .args in
-    sym (length-take-le (a .p .start + a .p .len) (now (a .s)) (leb-true _ _ (sym (c .before .before .within .ensures) ∙ c .before .if1 .taken)))
-
-stands-requires : tie.Need-stands-requires
-stands-requires c κs = search needs
-
 slice-aggregate-seek-in : tie.Need-slice-aggregate-seek-in
 slice-aggregate-seek-in c =
-    let b = c .before .before .before .before in
-    let a = b .before .before .before .args in
-    sym (length-take-le (a .p .start + a .p .len) (now (a .s)) (leb-true _ _ (sym (b .before .within .ensures) ∙ b .if1 .taken)))
+    let a = c .before .before .before .before .args in
+    sym (length-take-le (a .p .start + a .p .len) (now (a .s)) (leb-true _ _ (sym (c .before .before .within .ensures) ∙ c .before .if1 .taken)))
 
 seek-in-requires : tie.Need-seek-in-requires
 seek-in-requires c κs = search needs
 
 returns : tie.Need-returns
-returns c =
-    let b = c .before .before .before .before .before in
-    nth-within _ _ _ _ _ (leb-true _ _ (sym (b .before .within .ensures) ∙ b .if1 .taken)) _ (sym (c .before .before .before .stands .ensures) ∙ c .before .before .if2 .taken) (c .seek-in .ensures)
+returns c = nth-within _ _ _ _ _ (leb-true _ _ (sym (c .before .before .before .within .ensures) ∙ c .before .before .if1 .taken)) _ (c .seek-in .ensures)
 
 returns-2 : tie.Need-returns-2
-returns-2 c =
-    let b = c .before .before .before in
-    nth-broken _ _ _ _ _ (leb-true _ _ (sym (b .before .within .ensures) ∙ b .if1 .taken)) (sym (c .before .stands .ensures) ∙ c .if2 .left)
-
-returns-3 : tie.Need-returns-3
-returns-3 c = nth-outside _ _ _ _ _ (leb-false _ _ (sym (c .before .within .ensures) ∙ c .if1 .left))
+returns-2 c = nth-outside _ _ _ _ _ (leb-false _ _ (sym (c .before .within .ensures) ∙ c .if1 .left))
 
 pub nth-value-spec : {M : Type 1} → statement M
-nth-value-spec =
-    tie.close
-    (tie.spec within-requires add-end slice-aggregate-stands stands-requires slice-aggregate-seek-in seek-in-requires returns returns-2 returns-3)
+nth-value-spec = tie.close (tie.spec within-requires add-end slice-aggregate-seek-in seek-in-requires returns returns-2)

@@ -325,19 +325,12 @@ module _ {s : List ℕ} {at r : ℕ} (P : PropertyPassed publishLists s at r) (n
   pub over-ahead : at < r
   over-ahead = property-ahead publishLists s at (over .0) r (over .1)
 
-  pub filling-over : {whole : Fit (publishRow .Props)} {o : publishRow .Props} → Filling publishRow s whole o at → at < length s → Filling publishRow s whole o r
+  pub loop-over : at < length s → (o : publishRow .Props) (σ : List ℕ) → isIn (getD s at 0) σ ≡ publishRow .has o (getD s at 0) → loopFrom publishRow o σ s at ≡ loopFrom publishRow o σ s r
   unfolding fromAt
-  filling-over {o = o} f h =
+  loop-over h o σ t =
       let l = rw (drop-cons s at 0 h) at (property-left publishLists s at (over .0) r (over .1)) in
       let (e, still, not, again) = same (length s) (getD s at 0) (drop (suc at) s) (over .0, drop r s) l in
-      record {
-        σ = f .σ;
-        there = f .there;
-        rest =
-            f .rest
-            ∙ loop-next publishRow s at h (f .σ) (f .there (getD s at 0) ∙ not o) (over .0) r (over .1 ∙ rw (drop-cons s at 0 h, e)) o
-            ∙ rw (still o, again (f .σ));
-      }
+      loop-next publishRow s at h σ (t ∙ not o) (over .0) r (over .1 ∙ rw (drop-cons s at 0 h, e)) o ∙ rw (still o, again σ)
 
 module _ {w : Row} {s : List ℕ} {o₀ o : w .Props} {at : ℕ} (p : Span) (i : o₀ ≡ w .made p []) (f : Filling w s (loopFrom w o₀ [] s (p .start)) o at) where
   pub filled-twice : at < length s → w .has o (getD s at 0) ≡ true → bad (nr 22 (getD s at 0 ∷ [])) ≡ filledAt w s p

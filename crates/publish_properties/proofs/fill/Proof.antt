@@ -9,7 +9,8 @@ use Rattle.reading.specs.Reader.{got}
 use Rattle.records.specs.Told.{toldSpan}
 use Rattle.properties.specs.Block.{publishRow}
 use Rattle.publish_properties.specs.Singles.{toldSingles}
-use Rattle.properties.proofs.Laws.Fold.{FillingBy, leftFrom, filling-start, filling-next, read-ahead, over-ahead, filling-over, publish-lawful, filled-twice, filled-bad, filled-end}
+use Rattle.properties.proofs.Laws.Fold.{FillingBy, leftFrom, filling-start, filling-next, read-ahead, publish-lawful, filled-twice, filled-bad, filled-end}
+use Rattle.publish_properties.proofs.Laws.{filling-lists}
 use Rattle.publish_properties.proofs.fill.Statement.{statement}
 use Rattle.publish_properties.proofs.fill.Tie as tie
 
@@ -25,14 +26,8 @@ none-requires c κs = search needs
 loop-holds : tie.Need-loop-holds Inv-loop μ-loop
 loop-holds c = filling-start publish-lawful _ _ _ _ (c .none .ensures)
 
-pass-listed-requires : tie.Need-pass-listed-requires Inv-loop μ-loop
-pass-listed-requires c κs = search needs
-
-loop-less : tie.Need-loop-less Inv-loop μ-loop
-loop-less c = omega (arith, over-ahead (c .before .pass-listed .ensures) (c .if1 .taken))
-
-loop-again : tie.Need-loop-again Inv-loop μ-loop
-loop-again c = filling-over (c .before .pass-listed .ensures) (c .if1 .taken) (c .before .before .before .loop .inv) (c .before .before .loop-test .taken)
+pass-lists-requires : tie.Need-pass-lists-requires Inv-loop μ-loop
+pass-lists-requires c κs = search needs
 
 shared-slice-read-first : tie.Need-shared-slice-read-first Inv-loop μ-loop
 shared-slice-read-first c = search needs
@@ -41,9 +36,7 @@ has-requires : tie.Need-has-requires Inv-loop μ-loop
 has-requires c κs = search needs
 
 returns : tie.Need-returns Inv-loop μ-loop
-returns c =
-    let b = c .before .before .before .before .before in
-    filled-twice _ (b .before .before .none .ensures) (b .before .loop .inv) (b .loop-test .taken) (sym (c .before .has .ensures) ∙ c .if2 .taken)
+returns c = filled-twice _ (c .before .before .before .before .before .before .none .ensures) (filling-lists (c .before .before .before .before .before .loop .inv) (c .before .before .before .before .pass-lists .ensures)) (c .before .before .before .if1 .left) (sym (c .before .has .ensures) ∙ c .if2 .taken)
 
 read-property-requires : tie.Need-read-property-requires Inv-loop μ-loop
 read-property-requires c κs = search needs
@@ -54,33 +47,30 @@ enum-known-k c = search needs
 apply-requires : tie.Need-apply-requires Inv-loop μ-loop
 apply-requires c κs = rw (c .before .k .given .1) at (c .before .before .before .read-property .ensures .typed)
 
-loop-less-2 : tie.Need-loop-less-2 Inv-loop μ-loop
-loop-less-2 c =
-    let b = c .before .before .before .before in
-    omega (arith, b .before .before .before .before .before .before .loop-test .taken, read-ahead (b .read-property .ensures) (c .before .before .k .given .1))
+loop-less : tie.Need-loop-less Inv-loop μ-loop
+loop-less c = omega (arith, c .before .before .before .before .before .before .before .before .before .pass-lists .ensures .ahead, c .before .before .before .before .before .before .before .before .if1 .left, read-ahead (c .before .before .before .before .read-property .ensures) (c .before .before .k .given .1))
 
-loop-again-2 : tie.Need-loop-again-2 Inv-loop μ-loop
-loop-again-2 c =
-    let b = c .before .before .before .before in
-    filling-next (b .before .before .before .before .before .before .before .loop .inv) (b .before .before .before .before .before .before .loop-test .taken) (sym (b .before .before .has .ensures) ∙ b .before .if2 .left)
-    publish-lawful (b .read-property .ensures) (c .before .before .k .given .1) (c .apply .ensures)
+loop-again : tie.Need-loop-again Inv-loop μ-loop
+loop-again c =
+    filling-next (filling-lists (c .before .before .before .before .before .before .before .before .before .before .loop .inv) (c .before .before .before .before .before .before .before .before .before .pass-lists .ensures)) (c .before .before .before .before .before .before .before .before .if1 .left) (sym (c .before .before .before .before .before .before .has .ensures) ∙ c .before .before .before .before .before .if2 .left)
+    publish-lawful (c .before .before .before .before .read-property .ensures) (c .before .before .k .given .1) (c .apply .ensures)
 
 enum-known-e : tie.Need-enum-known-e Inv-loop μ-loop
 enum-known-e c = search needs
 
 returns-2 : tie.Need-returns-2 Inv-loop μ-loop
 returns-2 c =
-    let b = c .before .before .before in
-    filled-bad _ (b .before .before .before .before .before .before .before .before .none .ensures) (b .before .before .before .before .before .before .before .loop .inv) (b .before .before .before .before .before .before .loop-test .taken) (sym (b .before .before .has .ensures) ∙ b .before .if2 .left) (b .read-property .ensures) (c .before .e .given .1)
+    filled-bad _ (c .before .before .before .before .before .before .before .before .before .before .none .ensures) (filling-lists (c .before .before .before .before .before .before .before .before .before .loop .inv) (c .before .before .before .before .before .before .before .before .pass-lists .ensures)) (c .before .before .before .before .before .before .before .if1 .left) (sym (c .before .before .before .before .before .has .ensures) ∙ c .before .before .before .before .if2 .left)
+    (c .before .before .before .read-property .ensures) (c .before .e .given .1)
 
 made-requires : tie.Need-made-requires Inv-loop μ-loop
 made-requires c κs = search needs
 
 returns-3 : tie.Need-returns-3 Inv-loop μ-loop
 returns-3 c =
-    let a = c .before .before .before .before .before .args in
+    let a = c .before .before .before .before .before .before .args in
     ap (λ (o : publishRow .Props). got (some o, length (a .s .now))) (c .made .ensures)
-    ∙ filled-end (toldSpan (a .block)) (c .before .before .before .none .ensures) (c .before .before .loop .inv) (c .before .loop-test .left)
+    ∙ filled-end (toldSpan (a .block)) (c .before .before .before .before .none .ensures) (filling-lists (c .before .before .before .loop .inv) (c .before .before .pass-lists .ensures)) (c .before .if1 .taken)
 
 pub fill-spec : {M : Type 1} → statement M
 fill-spec =
@@ -90,17 +80,15 @@ fill-spec =
     μ-loop
     none-requires
     loop-holds
-    pass-listed-requires
-    loop-less
-    loop-again
+    pass-lists-requires
     shared-slice-read-first
     has-requires
     returns
     read-property-requires
     enum-known-k
     apply-requires
-    loop-less-2
-    loop-again-2
+    loop-less
+    loop-again
     enum-known-e
     returns-2
     made-requires

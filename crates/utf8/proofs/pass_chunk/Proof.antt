@@ -1,7 +1,12 @@
--- `utf8::pass_chunk` meets its contract: a chunk is passed at once if `is_ascii` says so, else by `pass_chars`. Assumes nothing.
+-- `utf8::pass_chunk` meets its contract: a chunk is passed at once if `is_ascii` says so, else by `pass_chars`; what is left at the
+-- end lies in the last sixteen bytes. Assumes nothing.
+use mathlib.Core.Path.{sym, _∙_}
+use Prim.Native.Nat.{_-_}
 use native.Mathlib.Omega.{arith}
+use lib.ListN.{length}
 use borrow.Author.Needs.{needs}
-use Rattle.utf8.proofs.Laws.{went}
+use denote.Ref.{now}
+use Rattle.utf8.proofs.Laws.{went, last-text, text-over}
 use Rattle.utf8.proofs.pass_chunk.Statement.{statement}
 use Rattle.utf8.proofs.pass_chunk.Tie as tie
 
@@ -45,7 +50,10 @@ is-ascii-requires-3 : tie.Need-is-ascii-requires-3
 is-ascii-requires-3 c κs = search needs
 
 returns-4 : tie.Need-returns-4
-returns-4 c = went _ _ _ (omega arith) (omega arith) (c .before .is-ascii3 .ensures .0 (c .if5 .taken))
+returns-4 c =
+    let a = c .before .before .before .before .before .before .args in
+    let s = now (a .s) in
+    went _ _ _ (omega arith) (omega arith) (last-text s (a .at) (length s - 16) (length s - (length s - 16)) (omega arith) (omega arith) (sym (c .before .is-ascii3 .ensures .1) ∙ c .if6 .taken) ∙ sym (text-over s (length s) (omega arith)))
 
 pass-chars-requires-2 : tie.Need-pass-chars-requires-2
 pass-chars-requires-2 c κs = search needs

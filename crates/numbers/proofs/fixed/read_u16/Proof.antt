@@ -6,11 +6,14 @@ use Rattle.numbers.proofs.Laws.{fixed-at, fixed-cut}
 use Rattle.numbers.proofs.fixed.read_u16.Statement.{statement}
 use Rattle.numbers.proofs.fixed.read_u16.Tie as tie
 
-left-requires : tie.Need-left-requires
-left-requires c κs = search needs
-
 returns : tie.Need-returns
 returns c = fixed-cut cut 2 _ _ (omega arith)
+
+sub-if2 : tie.Need-sub-if2
+sub-if2 c = search needs
+
+returns-2 : tie.Need-returns-2
+returns-2 c = fixed-cut cut 2 _ _ (omega arith)
 
 shared-slice-read-high : tie.Need-shared-slice-read-high
 shared-slice-read-high c = search needs
@@ -27,26 +30,27 @@ digit-requires c κs = search needs
 digit-requires-2 : tie.Need-digit-requires-2
 digit-requires-2 c κs = search needs
 
-cast-t13 : tie.Need-cast-t13
-cast-t13 c = search needs
+cast-t15 : tie.Need-cast-t15
+cast-t15 c = search needs
 
-add-t5 : tie.Need-add-t5
-add-t5 c = search needs
+add-t8 : tie.Need-add-t8
+add-t8 c = search needs
 
-returns-2 : tie.Need-returns-2
-returns-2 c = fixed-at cut 2 _ _ _ (omega arith) (omega arith)
+returns-3 : tie.Need-returns-3
+returns-3 c = fixed-at cut 2 _ _ _ (omega arith) (omega arith)
 
 pub read-u16-spec : {M : Type 1} → statement M
 read-u16-spec =
     tie.close
     (tie.spec
-    left-requires
     returns
+    sub-if2
+    returns-2
     shared-slice-read-high
     add-low
     shared-slice-read-low
     digit-requires
     digit-requires-2
-    cast-t13
-    add-t5
-    returns-2)
+    cast-t15
+    add-t8
+    returns-3)

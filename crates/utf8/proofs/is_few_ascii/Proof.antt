@@ -1,0 +1,59 @@
+-- `utf8::is_few_ascii` meets its contract. The loop's invariant: the text goes on at `i`; nothing is left at the end. Assumes nothing.
+use mathlib.Core.Path.{_≡_, refl, sym, _∙_}
+use mathlib.Core.Bool.{false≢true}
+use Prim.Native.Nat.{_≤_, _-_, suc}
+use native.Mathlib.Omega.{arith}
+use lib.ListN.{length, drop}
+use borrow.Author.Needs.{needs}
+use borrow.Author.Tests.{le-leb}
+use denote.Ref.{now}
+use Rattle.reading.specs.Read.{isText}
+use Rattle.utf8.proofs.Laws.{plain-at, text-over}
+use Rattle.utf8.proofs.is_few_ascii.Statement.{statement}
+use Rattle.utf8.proofs.is_few_ascii.Tie as tie
+
+abbrev Inv-loop : tie.InvT-loop
+Inv-loop s i₀ i = (i ≤ length s) × (isText s ≡ isText (drop i s))
+
+abbrev μ-loop : tie.MeasureT-loop
+μ-loop s i₀ i = length s - i
+
+loop-holds : tie.Need-loop-holds Inv-loop μ-loop
+loop-holds c = (omega arith, refl)
+
+shared-slice-read-flaw : tie.Need-shared-slice-read-flaw Inv-loop μ-loop
+shared-slice-read-flaw c = search needs
+
+flaw-requires : tie.Need-flaw-requires Inv-loop μ-loop
+flaw-requires c κs = search needs
+
+returns : tie.Need-returns Inv-loop μ-loop
+returns c = λ e. absurd (false≢true e)
+
+add-i : tie.Need-add-i Inv-loop μ-loop
+add-i c = omega arith
+
+loop-less : tie.Need-loop-less Inv-loop μ-loop
+loop-less c = omega arith
+
+loop-again : tie.Need-loop-again Inv-loop μ-loop
+loop-again c =
+    (omega arith, c .before .before .before .before .loop .inv .1 ∙ plain-at (now (c .before .before .before .before .before .before .args .s)) (c .before .before .before .before .loop .i) (omega arith) (sym (c .before .flaw .ensures) ∙ le-leb (suc (c .before .flaw .result)) 128 (omega arith)))
+
+returns-2 : tie.Need-returns-2 Inv-loop μ-loop
+returns-2 c = λ _. c .before .loop .inv .1 ∙ text-over (now (c .before .before .before .args .s)) (c .before .loop .i) (omega arith)
+
+pub is-few-ascii-spec : {M : Type 1} → statement M
+is-few-ascii-spec =
+    tie.close
+    (tie.spec
+    Inv-loop
+    μ-loop
+    loop-holds
+    shared-slice-read-flaw
+    flaw-requires
+    returns
+    add-i
+    loop-less
+    loop-again
+    returns-2)
