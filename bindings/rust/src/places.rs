@@ -353,6 +353,45 @@ mod tests {
     const SUBSCRIBE: &[u8] = &[0x82, 0x07, 0, 1, 0, 0, 1, 0x61, 0];
     const UNSUBSCRIBE: &[u8] = &[0xA2, 0x06, 0, 1, 0, 0, 1, 0x61];
 
+    /// The whole stream is handed over: nothing from the end of the block on is read, and an end beyond the stream is 21.
+    #[test]
+    fn ends_where_it_is_told() {
+        let stream = [0x30, 0x0B, 0, 1, b'a', 5, 38, 0, 0, 0, 0, 11, 7];
+        let at = |at: usize, end: usize| {
+            let mut n = [0u64; ECCH_PROPERTY_NUMBERS];
+            // Sound: both pointers stand for whole Rust slices, which do not overlap.
+            let refused = unsafe { ecch_property(stream.as_ptr(), stream.len(), 3, at, end, n.as_mut_ptr(), n.len()) };
+            (refused, n[ECCH_PROPERTY_IDENTIFIER], n[ECCH_PROPERTY_NEXT])
+        };
+        assert_eq!(at(6, 11), (0, 38, 11));
+        assert_eq!(at(11, 11), (7, 0, 0));
+        assert_eq!(at(11, 13), (0, 11, 13));
+        assert_eq!(at(6, 14), (21, 0, 0));
+    }
+
+    /// 20 for a number whose flag is off, before 11 for a QoS that is none, by size too.
+    #[test]
+    fn mismatch_before_quality() {
+        let none: [u8; 0] = [];
+        let (lengths, ids): ([usize; 0], [u32; 0]) = ([], []);
+        let size = |qos: u8, format_on: u8, format: u8| {
+            let mut n = [0u64; ECCH_ANSWER_LEN];
+            let s = none.as_ptr();
+            // Sound: every pointer stands for a whole Rust slice, and the one that is written overlaps no other.
+            let refused = unsafe {
+                ecch_publish_size(
+                    0, qos, 0, 0, s, 0, 1, format_on, format, 0, 0, 0, 0, 0, s, 0, 0, s, 0, s, 0, lengths.as_ptr(), 0, ids.as_ptr(), 0, 0, s, 0, s, 0,
+                    n.as_mut_ptr(), n.len(),
+                )
+            };
+            (refused, n[1])
+        };
+        assert_eq!(size(3, 0, 7), (20, 0));
+        assert_eq!(size(3, 1, 7), (11, 3));
+        assert_eq!(size(0, 0, 7), (20, 0));
+        assert_eq!(size(0, 1, 7), (0, 0));
+    }
+
     #[test]
     #[should_panic(expected = "gave QoS 3, which it cannot")]
     fn unknown_qos() {

@@ -124,7 +124,7 @@ back-got-qos (GotQos.Refused e) = ap GotQos.Refused (back-error e)
 pub qos-same : OneResult toldGotQos
 qos-same = one-by toldGotQos backGotQos back-got-qos
 
-backForm : Option Form → PropertyForm
+pub backForm : Option Form → PropertyForm
 backForm none = PropertyForm.NotHere
 backForm (some u8) = PropertyForm.U8
 backForm (some u16) = PropertyForm.U16
@@ -134,7 +134,7 @@ backForm (some text) = PropertyForm.Text
 backForm (some bytes) = PropertyForm.Bytes
 backForm (some pair) = PropertyForm.Pair
 
-back-form : (f : PropertyForm) → backForm (toldForm f) ≡ f
+pub back-form : (f : PropertyForm) → backForm (toldForm f) ≡ f
 unfolding backForm
 back-form PropertyForm.U8 = refl
 back-form PropertyForm.U16 = refl
@@ -150,7 +150,7 @@ form-same = one-by toldForm backForm back-form
 
 -- ---- kinds, and the places of their blocks
 
-backKind : ℕ × Bool × Option Layout → Kind
+pub backKind : ℕ × Bool × Option Layout → Kind
 backKind (k, true, o) = Kind.Reserved k
 backKind (k, false, none) = Kind.NotCarried k
 backKind (k, false, some aPublish) = Kind.Publish
@@ -160,7 +160,7 @@ backKind (k, false, some (aReply rs)) = Kind.Reply (backReplyKind k)
 backKind (k, false, some anUnsubscribe) = Kind.Unsubscribe
 backKind (k, false, some aPing) = cond (eqb k 12) Kind.PingReq Kind.PingResp
 
-back-kind : (k : Kind) → backKind (toldKind k) ≡ k
+pub back-kind : (k : Kind) → backKind (toldKind k) ≡ k
 unfolding backKind
 back-kind Kind.Publish = refl
 back-kind (Kind.Ack k) = ap Kind.Ack (back-ack-kind k)

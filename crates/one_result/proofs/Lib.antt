@@ -4,3 +4,4 @@ pub mod Leaves
 pub mod Packets
 pub mod Writers
 pub mod Heads
+pub mod Rows
