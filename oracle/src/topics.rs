@@ -24,19 +24,24 @@ mod port {
         fn ecch_valid_filter(filter: *const u8, len: usize) -> u8;
         fn ecch_matches(topic: *const u8, topic_len: usize, filter: *const u8, filter_len: usize) -> u8;
     }
+    #[inline(always)]
     fn flag(n: u8) -> bool {
-        assert!(n < 2, "a flag that is {n}");
-        n == 1
+        debug_assert!(n < 2, "a flag that is {n}");
+        n != 0
     }
+    #[inline(always)]
     pub fn has_wildcards(s: &[u8]) -> bool {
         flag(unsafe { ecch_has_wildcards(s.as_ptr(), s.len()) })
     }
+    #[inline(always)]
     pub fn valid_topic(topic: &[u8]) -> bool {
         flag(unsafe { ecch_valid_topic(topic.as_ptr(), topic.len()) })
     }
+    #[inline(always)]
     pub fn valid_filter(filter: &[u8]) -> bool {
         flag(unsafe { ecch_valid_filter(filter.as_ptr(), filter.len()) })
     }
+    #[inline(always)]
     pub fn matches(topic: &[u8], filter: &[u8]) -> bool {
         flag(unsafe { ecch_matches(topic.as_ptr(), topic.len(), filter.as_ptr(), filter.len()) })
     }

@@ -177,3 +177,16 @@ fn entries() {
         .unwrap();
     assert_eq!(&b[..], &[0x90, 5, 0, 0, 0, 0x80, 0x80]); // 39: two names
 }
+
+/// 40 and 41: the crate's text alone; `oracle/compare topics --listed` has the port beside it.
+#[test]
+fn topics_that_begin_with_a_dollar_or_a_wide_character() {
+    use oracle::v5::mqttbytes::{matches, valid_filter, valid_topic};
+    assert!(!matches("$", "$") && !matches("$a/b", "$a/#") && !matches("$", "#"));
+    assert!(std::panic::catch_unwind(|| matches("é", "#")).is_err());
+    assert!(std::panic::catch_unwind(|| matches("é", "")).is_err());
+    assert!(matches("aé", "#"));
+    // alike, and not as MQTT words it
+    assert!(valid_topic("") && !valid_filter("") && matches("a/b", "a/#/c") && matches("a#", "a#") && !matches("#", "+"));
+    assert!(valid_filter("$share/g/a") && valid_filter("$share/g") && !matches("a", "$share/g/a"));
+}

@@ -621,6 +621,6 @@ module _ {topic filter : List ℕ} {t f : ℕ} (i : Passing topic filter t f) wh
         };
       }
 
-  pub passing-end : length filter - f < f → Decides topic filter (Rest t f) × Halves filter (Rest t f)
+  pub passing-end : length filter - f + 64 < f → Decides topic filter (Rest t f) × Halves filter (Rest t f)
   unfolding Decides Halves
   passing-end h = ((i .topic-within, i .filter-within, omega arith, i .decides), h)

@@ -1,128 +1,164 @@
 -- MQTT's own examples (4.7.1.2, 4.7.1.3, 4.7.2) and P5's rules, by computation. Assumes nothing.
 use mathlib.Core.Path.{_≡_, refl}
 use mathlib.Core.Bool.{Bool, true, false, _&&_, not}
-use mathlib.Core.List.{List, [], _∷_}
+use mathlib.Core.List.{List, [], _∷_, _++_}
 use Prim.Native.Nat.{ℕ}
-use Rattle.topics.specs.Levels.{levels, hasWild, lone, levelsFine, validFilter}
+use Rattle.topics.specs.Levels.{Level, levels, hasWild, lone, levelsFine, validFilter}
 use Rattle.topics.specs.Match.{same, restMatches, matchesOf}
+use Rattle.topics.specs.Standard.{joined, ofHash, ofPlus}
 
 -- does the test hold of each row?
 abbrev every : {A : Type 0} → (A → Bool) → List A → Bool
 every f [] = true
 every f (a ∷ rest) = f a && every f rest
 
+-- ---- the levels of the examples
+
+abbrev sport : Level
+sport = 115 ∷ 112 ∷ 111 ∷ 114 ∷ 116 ∷ []
+
+abbrev tennis : Level
+tennis = 116 ∷ 101 ∷ 110 ∷ 110 ∷ 105 ∷ 115 ∷ []
+
+abbrev player1 : Level
+player1 = 112 ∷ 108 ∷ 97 ∷ 121 ∷ 101 ∷ 114 ∷ 49 ∷ []
+
+abbrev ranking : Level
+ranking = 114 ∷ 97 ∷ 110 ∷ 107 ∷ 105 ∷ 110 ∷ 103 ∷ []
+
+abbrev score : Level
+score = 115 ∷ 99 ∷ 111 ∷ 114 ∷ 101 ∷ []
+
+abbrev wimbledon : Level
+wimbledon = 119 ∷ 105 ∷ 109 ∷ 98 ∷ 108 ∷ 101 ∷ 100 ∷ 111 ∷ 110 ∷ []
+
+abbrev finance : Level
+finance = 102 ∷ 105 ∷ 110 ∷ 97 ∷ 110 ∷ 99 ∷ 101 ∷ []
+
+-- $SYS
+abbrev sys : Level
+sys = 36 ∷ 83 ∷ 89 ∷ 83 ∷ []
+
+abbrev monitor : Level
+monitor = 109 ∷ 111 ∷ 110 ∷ 105 ∷ 116 ∷ 111 ∷ 114 ∷ []
+
+abbrev clients : Level
+clients = 67 ∷ 108 ∷ 105 ∷ 101 ∷ 110 ∷ 116 ∷ 115 ∷ []
+
+abbrev a : Level
+a = 97 ∷ []
+
+abbrev b : Level
+b = 98 ∷ []
+
+abbrev c : Level
+c = 99 ∷ []
+
+abbrev d : Level
+d = 100 ∷ []
+
+-- é
+abbrev wide : Level
+wide = 195 ∷ 169 ∷ []
+
+-- tennis#
+abbrev tennis-hash : Level
+tennis-hash = 116 ∷ 101 ∷ 110 ∷ 110 ∷ 105 ∷ 115 ∷ 35 ∷ []
+
+-- sport+
+abbrev sport-plus : Level
+sport-plus = 115 ∷ 112 ∷ 111 ∷ 114 ∷ 116 ∷ 43 ∷ []
+
+-- ++
+abbrev two-plus : Level
+two-plus = 43 ∷ 43 ∷ []
+
+-- ##
+abbrev two-hash : Level
+two-hash = 35 ∷ 35 ∷ []
+
+-- #b
+abbrev hash-b : Level
+hash-b = 35 ∷ 98 ∷ []
+
+-- #a
+abbrev hash-a : Level
+hash-a = 35 ∷ 97 ∷ []
+
+-- ---- topics and filters
+
 -- topic and filter: these match
-abbrev pub matching : List (List ℕ × List ℕ)
+abbrev matching : List (List ℕ × List ℕ)
 matching =
-    -- sport/tennis/player1, sport/tennis/player1/#
-    (115 ∷ 112 ∷ 111 ∷ 114 ∷ 116 ∷ 47 ∷ 116 ∷ 101 ∷ 110 ∷ 110 ∷ 105 ∷ 115 ∷ 47 ∷ 112 ∷ 108 ∷ 97 ∷ 121 ∷ 101 ∷ 114 ∷ 49 ∷ [], 115 ∷ 112 ∷ 111 ∷ 114 ∷ 116 ∷ 47 ∷ 116 ∷ 101 ∷ 110 ∷ 110 ∷ 105 ∷ 115 ∷ 47 ∷ 112 ∷ 108 ∷ 97 ∷ 121 ∷ 101 ∷ 114 ∷ 49 ∷ 47 ∷ 35 ∷ [])
-    ∷  -- sport/tennis/player1/ranking, sport/tennis/player1/#
-    (115 ∷ 112 ∷ 111 ∷ 114 ∷ 116 ∷ 47 ∷ 116 ∷ 101 ∷ 110 ∷ 110 ∷ 105 ∷ 115 ∷ 47 ∷ 112 ∷ 108 ∷ 97 ∷ 121 ∷ 101 ∷ 114 ∷ 49 ∷ 47 ∷ 114 ∷ 97 ∷ 110 ∷ 107 ∷ 105 ∷ 110 ∷ 103 ∷ [], 115 ∷ 112 ∷ 111 ∷ 114 ∷ 116 ∷ 47 ∷ 116 ∷ 101 ∷ 110 ∷ 110 ∷ 105 ∷ 115 ∷ 47 ∷ 112 ∷ 108 ∷ 97 ∷ 121 ∷ 101 ∷ 114 ∷ 49 ∷ 47 ∷ 35 ∷ [])
-    ∷  -- sport/tennis/player1/score/wimbledon, sport/tennis/player1/#
-    (115 ∷ 112 ∷ 111 ∷ 114 ∷ 116 ∷ 47 ∷ 116 ∷ 101 ∷ 110 ∷ 110 ∷ 105 ∷ 115 ∷ 47 ∷ 112 ∷ 108 ∷ 97 ∷ 121 ∷ 101 ∷ 114 ∷ 49 ∷ 47 ∷ 115 ∷ 99 ∷ 111 ∷ 114 ∷ 101 ∷ 47 ∷ 119 ∷ 105 ∷ 109 ∷ 98 ∷ 108 ∷ 101 ∷ 100 ∷ 111 ∷ 110 ∷ [], 115 ∷ 112 ∷ 111 ∷ 114 ∷ 116 ∷ 47 ∷ 116 ∷ 101 ∷ 110 ∷ 110 ∷ 105 ∷ 115 ∷ 47 ∷ 112 ∷ 108 ∷ 97 ∷ 121 ∷ 101 ∷ 114 ∷ 49 ∷ 47 ∷ 35 ∷ [])
-    ∷  -- sport, sport/#
-    (115 ∷ 112 ∷ 111 ∷ 114 ∷ 116 ∷ [], 115 ∷ 112 ∷ 111 ∷ 114 ∷ 116 ∷ 47 ∷ 35 ∷ [])
-    ∷  -- a/b, #
-    (97 ∷ 47 ∷ 98 ∷ [], 35 ∷ [])
-    ∷  -- sport/tennis/player1, sport/tennis/+
-    (115 ∷ 112 ∷ 111 ∷ 114 ∷ 116 ∷ 47 ∷ 116 ∷ 101 ∷ 110 ∷ 110 ∷ 105 ∷ 115 ∷ 47 ∷ 112 ∷ 108 ∷ 97 ∷ 121 ∷ 101 ∷ 114 ∷ 49 ∷ [], 115 ∷ 112 ∷ 111 ∷ 114 ∷ 116 ∷ 47 ∷ 116 ∷ 101 ∷ 110 ∷ 110 ∷ 105 ∷ 115 ∷ 47 ∷ 43 ∷ [])
-    ∷  -- sport/, sport/+
-    (115 ∷ 112 ∷ 111 ∷ 114 ∷ 116 ∷ 47 ∷ [], 115 ∷ 112 ∷ 111 ∷ 114 ∷ 116 ∷ 47 ∷ 43 ∷ [])
-    ∷  -- /finance, +/+
-    (47 ∷ 102 ∷ 105 ∷ 110 ∷ 97 ∷ 110 ∷ 99 ∷ 101 ∷ [], 43 ∷ 47 ∷ 43 ∷ [])
-    ∷  -- /finance, /+
-    (47 ∷ 102 ∷ 105 ∷ 110 ∷ 97 ∷ 110 ∷ 99 ∷ 101 ∷ [], 47 ∷ 43 ∷ [])
-    ∷  -- $SYS/a, $SYS/#
-    (36 ∷ 83 ∷ 89 ∷ 83 ∷ 47 ∷ 97 ∷ [], 36 ∷ 83 ∷ 89 ∷ 83 ∷ 47 ∷ 35 ∷ [])
-    ∷  -- $SYS/monitor/Clients, $SYS/monitor/+
-    (36 ∷ 83 ∷ 89 ∷ 83 ∷ 47 ∷ 109 ∷ 111 ∷ 110 ∷ 105 ∷ 116 ∷ 111 ∷ 114 ∷ 47 ∷ 67 ∷ 108 ∷ 105 ∷ 101 ∷ 110 ∷ 116 ∷ 115 ∷ [], 36 ∷ 83 ∷ 89 ∷ 83 ∷ 47 ∷ 109 ∷ 111 ∷ 110 ∷ 105 ∷ 116 ∷ 111 ∷ 114 ∷ 47 ∷ 43 ∷ [])
-    ∷  -- a/b/c, a/#/c/d
-    (97 ∷ 47 ∷ 98 ∷ 47 ∷ 99 ∷ [], 97 ∷ 47 ∷ 35 ∷ 47 ∷ 99 ∷ 47 ∷ 100 ∷ [])
-    ∷  -- é, +
-    (195 ∷ 169 ∷ [], 43 ∷ [])
-    ∷  -- the empty topic, +
-    ([], 43 ∷ [])
-    ∷  -- the empty topic, the empty filter
-    ([], [])
+    (joined (sport ∷ tennis ∷ player1 ∷ []), joined (sport ∷ tennis ∷ player1 ∷ ofHash ∷ []))
+    ∷ (joined (sport ∷ tennis ∷ player1 ∷ ranking ∷ []), joined (sport ∷ tennis ∷ player1 ∷ ofHash ∷ []))
+    ∷ (joined (sport ∷ tennis ∷ player1 ∷ score ∷ wimbledon ∷ []), joined (sport ∷ tennis ∷ player1 ∷ ofHash ∷ []))
+    ∷ (joined (sport ∷ []), joined (sport ∷ ofHash ∷ []))
+    ∷ (joined (a ∷ b ∷ []), joined (ofHash ∷ []))
+    ∷ (joined (sport ∷ tennis ∷ player1 ∷ []), joined (sport ∷ tennis ∷ ofPlus ∷ []))
+    ∷ (joined (sport ∷ [] ∷ []), joined (sport ∷ ofPlus ∷ []))
+    ∷ (joined ([] ∷ finance ∷ []), joined (ofPlus ∷ ofPlus ∷ []))
+    ∷ (joined ([] ∷ finance ∷ []), joined ([] ∷ ofPlus ∷ []))
+    ∷ (joined (sys ∷ a ∷ []), joined (sys ∷ ofHash ∷ []))
+    ∷ (joined (sys ∷ monitor ∷ clients ∷ []), joined (sys ∷ monitor ∷ ofPlus ∷ []))
+    ∷ (joined (a ∷ b ∷ c ∷ []), joined (a ∷ ofHash ∷ c ∷ d ∷ []))
+    ∷ (joined (wide ∷ []), joined (ofPlus ∷ []))
+    ∷ ([], joined (ofPlus ∷ []))
+    ∷ ([], [])
     ∷ []
 
 -- these do not
-abbrev pub failing : List (List ℕ × List ℕ)
+abbrev failing : List (List ℕ × List ℕ)
 failing =
-    -- sport/tennis/player1/ranking, sport/tennis/+
-    (115 ∷ 112 ∷ 111 ∷ 114 ∷ 116 ∷ 47 ∷ 116 ∷ 101 ∷ 110 ∷ 110 ∷ 105 ∷ 115 ∷ 47 ∷ 112 ∷ 108 ∷ 97 ∷ 121 ∷ 101 ∷ 114 ∷ 49 ∷ 47 ∷ 114 ∷ 97 ∷ 110 ∷ 107 ∷ 105 ∷ 110 ∷ 103 ∷ [], 115 ∷ 112 ∷ 111 ∷ 114 ∷ 116 ∷ 47 ∷ 116 ∷ 101 ∷ 110 ∷ 110 ∷ 105 ∷ 115 ∷ 47 ∷ 43 ∷ [])
-    ∷  -- sport, sport/+
-    (115 ∷ 112 ∷ 111 ∷ 114 ∷ 116 ∷ [], 115 ∷ 112 ∷ 111 ∷ 114 ∷ 116 ∷ 47 ∷ 43 ∷ [])
-    ∷  -- /finance, +
-    (47 ∷ 102 ∷ 105 ∷ 110 ∷ 97 ∷ 110 ∷ 99 ∷ 101 ∷ [], 43 ∷ [])
-    ∷  -- $SYS/a, #
-    (36 ∷ 83 ∷ 89 ∷ 83 ∷ 47 ∷ 97 ∷ [], 35 ∷ [])
-    ∷  -- $SYS/monitor/Clients, +/monitor/Clients
-    (36 ∷ 83 ∷ 89 ∷ 83 ∷ 47 ∷ 109 ∷ 111 ∷ 110 ∷ 105 ∷ 116 ∷ 111 ∷ 114 ∷ 47 ∷ 67 ∷ 108 ∷ 105 ∷ 101 ∷ 110 ∷ 116 ∷ 115 ∷ [], 43 ∷ 47 ∷ 109 ∷ 111 ∷ 110 ∷ 105 ∷ 116 ∷ 111 ∷ 114 ∷ 47 ∷ 67 ∷ 108 ∷ 105 ∷ 101 ∷ 110 ∷ 116 ∷ 115 ∷ [])
-    ∷  -- a/#, a/+
-    (97 ∷ 47 ∷ 35 ∷ [], 97 ∷ 47 ∷ 43 ∷ [])
-    ∷  -- a/#/b, a/#b/b
-    (97 ∷ 47 ∷ 35 ∷ 47 ∷ 98 ∷ [], 97 ∷ 47 ∷ 35 ∷ 98 ∷ 47 ∷ 98 ∷ [])
-    ∷  -- #, #a
-    (35 ∷ [], 35 ∷ 97 ∷ [])
-    ∷  -- a/b, a/b/c
-    (97 ∷ 47 ∷ 98 ∷ [], 97 ∷ 47 ∷ 98 ∷ 47 ∷ 99 ∷ [])
-    ∷  -- a/b/c, a/b
-    (97 ∷ 47 ∷ 98 ∷ 47 ∷ 99 ∷ [], 97 ∷ 47 ∷ 98 ∷ [])
-    ∷  -- a/, a
-    (97 ∷ 47 ∷ [], 97 ∷ [])
+    (joined (sport ∷ tennis ∷ player1 ∷ ranking ∷ []), joined (sport ∷ tennis ∷ ofPlus ∷ []))
+    ∷ (joined (sport ∷ []), joined (sport ∷ ofPlus ∷ []))
+    ∷ (joined ([] ∷ finance ∷ []), joined (ofPlus ∷ []))
+    ∷ (joined (sys ∷ a ∷ []), joined (ofHash ∷ []))
+    ∷ (joined (sys ∷ monitor ∷ clients ∷ []), joined (ofPlus ∷ monitor ∷ clients ∷ []))
+    ∷ (joined (a ∷ ofHash ∷ []), joined (a ∷ ofPlus ∷ []))
+    ∷ (joined (a ∷ ofHash ∷ b ∷ []), joined (a ∷ hash-b ∷ b ∷ []))
+    ∷ (joined (ofHash ∷ []), joined (hash-a ∷ []))
+    ∷ (joined (a ∷ b ∷ []), joined (a ∷ b ∷ c ∷ []))
+    ∷ (joined (a ∷ b ∷ c ∷ []), joined (a ∷ b ∷ []))
+    ∷ (joined (a ∷ [] ∷ []), joined (a ∷ []))
     ∷ []
 
 -- filters: these are valid
-abbrev pub valid : List (List ℕ)
+abbrev valid : List (List ℕ)
 valid =
-    -- sport/tennis/#
-    (115 ∷ 112 ∷ 111 ∷ 114 ∷ 116 ∷ 47 ∷ 116 ∷ 101 ∷ 110 ∷ 110 ∷ 105 ∷ 115 ∷ 47 ∷ 35 ∷ [])
-    ∷  -- #
-    (35 ∷ [])
-    ∷  -- +
-    (43 ∷ [])
-    ∷  -- +/tennis/#
-    (43 ∷ 47 ∷ 116 ∷ 101 ∷ 110 ∷ 110 ∷ 105 ∷ 115 ∷ 47 ∷ 35 ∷ [])
-    ∷  -- sport/+/player1
-    (115 ∷ 112 ∷ 111 ∷ 114 ∷ 116 ∷ 47 ∷ 43 ∷ 47 ∷ 112 ∷ 108 ∷ 97 ∷ 121 ∷ 101 ∷ 114 ∷ 49 ∷ [])
-    ∷  -- /
-    (47 ∷ [])
-    ∷  -- a
-    (97 ∷ [])
+    (joined (sport ∷ tennis ∷ ofHash ∷ []))
+    ∷ (joined (ofHash ∷ []))
+    ∷ (joined (ofPlus ∷ []))
+    ∷ (joined (ofPlus ∷ tennis ∷ ofHash ∷ []))
+    ∷ (joined (sport ∷ ofPlus ∷ player1 ∷ []))
+    ∷ (joined ([] ∷ [] ∷ []))
+    ∷ (joined (a ∷ []))
     ∷ []
 
 -- these are not
-abbrev pub invalid : List (List ℕ)
+abbrev invalid : List (List ℕ)
 invalid =
-    -- sport/tennis#
-    (115 ∷ 112 ∷ 111 ∷ 114 ∷ 116 ∷ 47 ∷ 116 ∷ 101 ∷ 110 ∷ 110 ∷ 105 ∷ 115 ∷ 35 ∷ [])
-    ∷  -- sport/tennis/#/ranking
-    (115 ∷ 112 ∷ 111 ∷ 114 ∷ 116 ∷ 47 ∷ 116 ∷ 101 ∷ 110 ∷ 110 ∷ 105 ∷ 115 ∷ 47 ∷ 35 ∷ 47 ∷ 114 ∷ 97 ∷ 110 ∷ 107 ∷ 105 ∷ 110 ∷ 103 ∷ [])
-    ∷  -- sport+
-    (115 ∷ 112 ∷ 111 ∷ 114 ∷ 116 ∷ 43 ∷ [])
-    ∷  -- the empty filter
-    ([])
-    ∷  -- a/++
-    (97 ∷ 47 ∷ 43 ∷ 43 ∷ [])
-    ∷  -- ##
-    (35 ∷ 35 ∷ [])
-    ∷  -- a/#b/c
-    (97 ∷ 47 ∷ 35 ∷ 98 ∷ 47 ∷ 99 ∷ [])
+    (joined (sport ∷ tennis-hash ∷ []))
+    ∷ (joined (sport ∷ tennis ∷ ofHash ∷ ranking ∷ []))
+    ∷ (joined (sport-plus ∷ []))
+    ∷ ([])
+    ∷ (joined (a ∷ two-plus ∷ []))
+    ∷ (joined (two-hash ∷ []))
+    ∷ (joined (a ∷ hash-b ∷ c ∷ []))
     ∷ []
 
 pub worked-match : every (λ (p : List ℕ × List ℕ). matchesOf (p .0) (p .1)) matching ≡ true
-unfolding levels lone same restMatches matchesOf
+unfolding levels lone same restMatches matchesOf joined
 worked-match = refl
 
 pub worked-fail : every (λ (p : List ℕ × List ℕ). not (matchesOf (p .0) (p .1))) failing ≡ true
-unfolding levels lone same restMatches matchesOf
+unfolding levels lone same restMatches matchesOf joined
 worked-fail = refl
 
 pub worked-valid : every validFilter valid ≡ true
-unfolding levels lone hasWild levelsFine validFilter
+unfolding levels lone hasWild levelsFine validFilter joined
 worked-valid = refl
 
 pub worked-invalid : every (λ (f : List ℕ). not (validFilter f)) invalid ≡ true
-unfolding levels lone hasWild levelsFine validFilter
+unfolding levels lone hasWild levelsFine validFilter joined
 worked-invalid = refl

@@ -2,7 +2,7 @@
 use mathlib.Core.Path.{_≡_}
 use mathlib.Core.Bool.{Bool, true, false, not, _||_, cond}
 use mathlib.Core.List.{List, [], _∷_}
-use Prim.Native.Nat.{ℕ, suc, _-_, _≤_, _<_}
+use Prim.Native.Nat.{ℕ, suc, _+_, _-_, _≤_, _<_}
 use lib.Dec.{eqb}
 use lib.ListN.{length, take, drop, getD}
 use Rattle.topics.specs.Levels.{slash, hash, isWild, levels, lone}
@@ -76,7 +76,7 @@ Decides topic filter (Decided b) = b ≡ restMatches (levels filter) (levels top
 Decides topic filter (Rest t f) =
     (t ≤ length topic) × (f ≤ length filter) × (0 < f) × (restMatches (levels (drop f filter)) (levels (drop t topic)) ≡ restMatches (levels filter) (levels topic))
 
--- less of the filter is left than was passed
+-- less of the filter is left than was passed, less by 64 bytes
 unfoldable pub Halves : List ℕ → Met → Type 0
 Halves filter (Decided b) = Unit
-Halves filter (Rest t f) = length filter - f < f
+Halves filter (Rest t f) = length filter - f + 64 < f

@@ -1,5 +1,5 @@
 //! Topics and filters. topics compare [--seed N]: every pair of short texts and long ones made of chance through the port, the crate's text and
-//! the model. topics listed: both answers to each input of docs/DIFFERENCES.md. topics bench: ns and bytes a ns. topics count WHAT SIDE N: N calls
+//! the model. topics listed: both answers to each input of docs/DIFFERENCES.md. topics bench: ns a call. topics count WHAT SIDE N: N calls
 //! and nothing else, for callgrind.
 use oracle::streams::Dice;
 use oracle::timing::{load, medians, report, rounds, Contender};
@@ -203,28 +203,48 @@ fn subjects() -> Vec<(String, String, String)> {
     rows
 }
 
+/// The crate's text, one call as on the port's side.
+mod one_call {
+    use super::text;
+    #[inline(never)]
+    pub fn matches(topic: &str, filter: &str) -> bool {
+        text::matches(topic, filter)
+    }
+    #[inline(never)]
+    pub fn valid_filter(filter: &str) -> bool {
+        text::valid_filter(filter)
+    }
+    #[inline(never)]
+    pub fn valid_topic(topic: &str) -> bool {
+        text::valid_topic(topic)
+    }
+}
+
+/// How many calls a pass has.
+const CALLS: u64 = 64;
+
+/// The answers to the calls of a pass, added up.
+fn pass(mut f: impl FnMut() -> bool) -> u64 {
+    (0..CALLS).map(|_| f() as u64).sum()
+}
+
+fn timed(what: String, port: impl Fn() -> bool, text: impl Fn() -> bool) {
+    let mut contenders: [Contender; 2] = [("port", Box::new(|| pass(&port))), ("crate", Box::new(|| pass(&text)))];
+    let ns = medians(rounds(), &mut contenders);
+    report(&what, &contenders, &ns, |t| t / CALLS as f64);
+}
+
 fn bench() {
-    println!("load {}", load());
+    println!("ns a call; load {}", load());
     for (name, topic, filter) in subjects() {
         let (t, f) = (topic.as_str(), filter.as_str());
-        let mut contenders: [Contender; 2] = [
-            ("port", Box::new(|| topics::matches(black_box(t.as_bytes()), black_box(f.as_bytes())) as u64)),
-            ("crate", Box::new(|| text::matches(black_box(t), black_box(f)) as u64)),
-        ];
-        let ns = medians(rounds(), &mut contenders);
-        report(&format!("matches: {name}"), &contenders, &ns, |t| t);
-        let mut contenders: [Contender; 2] = [
-            ("port", Box::new(|| topics::valid_filter(black_box(f.as_bytes())) as u64)),
-            ("crate", Box::new(|| text::valid_filter(black_box(f)) as u64)),
-        ];
-        let ns = medians(rounds(), &mut contenders);
-        report(&format!("valid_filter: {name}"), &contenders, &ns, |t| t);
-        let mut contenders: [Contender; 2] = [
-            ("port", Box::new(|| topics::valid_topic(black_box(t.as_bytes())) as u64)),
-            ("crate", Box::new(|| text::valid_topic(black_box(t)) as u64)),
-        ];
-        let ns = medians(rounds(), &mut contenders);
-        report(&format!("valid_topic: {name}"), &contenders, &ns, |t| t);
+        timed(
+            format!("matches: {name}"),
+            || topics::matches(black_box(t.as_bytes()), black_box(f.as_bytes())),
+            || one_call::matches(black_box(t), black_box(f)),
+        );
+        timed(format!("valid_filter: {name}"), || topics::valid_filter(black_box(f.as_bytes())), || one_call::valid_filter(black_box(f)));
+        timed(format!("valid_topic: {name}"), || topics::valid_topic(black_box(t.as_bytes())), || one_call::valid_topic(black_box(t)));
     }
 }
 
@@ -246,11 +266,11 @@ fn count(args: &[String]) {
     let (t, f) = (rows[row].1.as_str(), rows[row].2.as_str());
     match (args[0].as_str(), args[1].as_str()) {
         ("matches", "port") => calls(n, || topics::matches(black_box(t.as_bytes()), black_box(f.as_bytes()))),
-        ("matches", "crate") => calls(n, || text::matches(black_box(t), black_box(f))),
+        ("matches", "crate") => calls(n, || one_call::matches(black_box(t), black_box(f))),
         ("valid_filter", "port") => calls(n, || topics::valid_filter(black_box(f.as_bytes()))),
-        ("valid_filter", "crate") => calls(n, || text::valid_filter(black_box(f))),
+        ("valid_filter", "crate") => calls(n, || one_call::valid_filter(black_box(f))),
         ("valid_topic", "port") => calls(n, || topics::valid_topic(black_box(t.as_bytes()))),
-        ("valid_topic", "crate") => calls(n, || text::valid_topic(black_box(t))),
+        ("valid_topic", "crate") => calls(n, || one_call::valid_topic(black_box(t))),
         _ => panic!("what to count?"),
     }
 }

@@ -20,6 +20,9 @@ loop-holds c = passing-start (now (c .before .before .args .topic)) (now (c .bef
 sub-loop : tie.Need-sub-loop Inv-loop μ-loop
 sub-loop c = c .loop .inv .filter-within
 
+add-loop : tie.Need-add-loop Inv-loop μ-loop
+add-loop c = omega arith
+
 sub-first-levels : tie.Need-sub-first-levels Inv-loop μ-loop
 sub-first-levels c = c .before .loop .inv .topic-within
 
@@ -73,6 +76,7 @@ half-levels-spec =
     μ-loop
     loop-holds
     sub-loop
+    add-loop
     sub-first-levels
     part-first-levels-start
     part-first-levels-end
