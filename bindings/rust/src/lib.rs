@@ -11,6 +11,7 @@ mod frame;
 pub mod places;
 #[allow(clippy::too_many_arguments)]
 pub mod sys;
+pub mod walk;
 mod write;
 
 use bytes::{Buf, Bytes, BytesMut};

@@ -29,6 +29,8 @@ layout! {
     ECCH_PROPERTY_SECOND_START = 5, ECCH_PROPERTY_SECOND_LEN = 6, ECCH_PROPERTY_NUMBERS = 7,
     ECCH_NEXT_FILTER_NEXT = 0, ECCH_NEXT_FILTER_START = 1, ECCH_NEXT_FILTER_LEN = 2, ECCH_NEXT_FILTER_QOS = 3,
     ECCH_NEXT_FILTER_NO_LOCAL = 4, ECCH_NEXT_FILTER_PRESERVE_RETAIN = 5, ECCH_NEXT_FILTER_RULE = 6, ECCH_NEXT_FILTER_NUMBERS = 7,
+    ECCH_NEXT_USER_NEXT = 0, ECCH_NEXT_USER_KEY_START = 1, ECCH_NEXT_USER_KEY_LEN = 2, ECCH_NEXT_USER_VALUE_START = 3,
+    ECCH_NEXT_USER_VALUE_LEN = 4, ECCH_NEXT_USER_NUMBERS = 5,
     ECCH_NEXT_TOPIC_NEXT = 0, ECCH_NEXT_TOPIC_START = 1, ECCH_NEXT_TOPIC_LEN = 2, ECCH_NEXT_TOPIC_NUMBERS = 7,
 }
 
@@ -208,4 +210,5 @@ extern "C" {
     pub fn ecch_ping_size(answer: *mut u64, answer_len: usize) -> u32;
     pub fn ecch_pingreq_write(limited: u8, limit: usize, out: *mut u8, out_len: usize, answer: *mut u64, answer_len: usize) -> u32;
     pub fn ecch_pingresp_write(limited: u8, limit: usize, out: *mut u8, out_len: usize, answer: *mut u64, answer_len: usize) -> u32;
+    pub fn ecch_next_user(frame: *const u8, frame_len: usize, kind: u8, at: usize, end: usize, item: *mut u64, item_len: usize) -> u32;
 }
