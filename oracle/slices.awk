@@ -1,5 +1,6 @@
 # Reads bindings/c/ecchjulmina.h and writes C: each function, handing on to the port's own code, which has a slice as the address of a pointer
-# and a length. `rt staticlib` makes the like for a proved library; this serves one that is not proved.
+# and a length. `rt staticlib` makes the like for a proved library; this serves one that is not proved, where a function that
+# the program does not have (of c_walk) is left undefined.
 BEGIN { print "#include <stddef.h>\n#include <stdint.h>\nstruct slice { void *start; size_t len; };" }
 /^(uint32_t|size_t) ecch_/ { text = ""; on = 1 }
 on { text = text " " $0 }
@@ -24,5 +25,5 @@ on && /;/ {
             takes = takes ", " type; hands = hands ", " called
         }
     }
-    printf "\n%s own_%s(%s);\n%s %s(%s)\n{\n%s    return own_%s(%s);\n}\n", gives, name, substr(takes, 3), gives, name, given, slices, name, substr(hands, 3)
+    printf "\n__attribute__((weak)) %s own_%s(%s);\n%s %s(%s)\n{\n%s    return own_%s(%s);\n}\n", gives, name, substr(takes, 3), gives, name, given, slices, name, substr(hands, 3)
 }

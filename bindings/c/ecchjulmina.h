@@ -1,4 +1,4 @@
-/* Ecchjulmina for C: MQTT 5 packets read and written by proved code (crates/capi, crates/capi_put). x86-64; link with libecchjulmina.a
+/* Ecchjulmina for C: MQTT 5 packets read and written by proved code (crates/capi, crates/capi_put, crates/c_walk). x86-64; link with libecchjulmina.a
  * (bindings/library).
  *
  * Every function ends, allocates nothing, keeps nothing, and calls nothing but its own code and C's memcpy. What each gives for every
@@ -530,6 +530,25 @@ uint32_t ecch_next_frame(
     uint8_t *buffer, size_t buffer_len,
     const uint8_t *piece, size_t piece_len,
     uint64_t *item, size_t item_len);
+
+/* ---- walking the user properties of a frame, one after another; the caller keeps the position. */
+
+/* `item` of ecch_next_user: the index after it, where the next call begins, or where the walk stands if there is none; the places of key and
+ * value. */
+enum ecch_next_user_layout {
+    ECCH_NEXT_USER_NEXT = 0,
+    ECCH_NEXT_USER_KEY_START = 1,
+    ECCH_NEXT_USER_KEY_LEN = 2,
+    ECCH_NEXT_USER_VALUE_START = 3,
+    ECCH_NEXT_USER_VALUE_LEN = 4,
+    ECCH_NEXT_USER_NUMBERS = 5
+};
+
+/* The next user property from index `at` on, in the bytes before index `end`, of a block of `kind`: 0, or 21 if there is none left, for ever.
+ * `kind` is 3 to 11; any other is 21. To walk what ecch_read found, hand over the same stream and ECCH_KIND, begin at ECCH_BLOCK_START, and
+ * let `end` be ECCH_BLOCK_START + ECCH_BLOCK_LEN: the answers are the user properties of the record, in order, then 21. Of a frame that was
+ * refused all of these are 0, and there is none. Other properties are passed over; bytes that are no property end the walk. */
+uint32_t ecch_next_user(const uint8_t *frame, size_t frame_len, uint8_t kind, size_t at, size_t end, uint64_t *item, size_t item_len);
 
 /* A pointer for what has length 0: aligned, and not NULL. C++ needs a cast to the type of the parameter. */
 #define ECCH_NOTHING ((void *)sizeof(size_t))

@@ -15,6 +15,7 @@ pub mod places;
 #[allow(clippy::too_many_arguments)]
 pub mod sys;
 mod topics;
+pub mod walk;
 mod write;
 
 pub use alias::{AliasError, Aliases};

@@ -1,5 +1,5 @@
-//! Where the properties of a record stand (02's P7), of every layout: present, of length 0, and not sent.
-use ecchjulmina::places;
+//! Where the properties of a record stand (02's P7), of every layout: present, of length 0, and not sent; and the walker over user properties.
+use ecchjulmina::{places, walk::Walker};
 
 /// Start and end of the properties of the frame at the start of the stream.
 fn stand(stream: &[u8]) -> (usize, usize) {
@@ -31,4 +31,28 @@ fn part_of_the_frame() {
     let frame = b"\x30\x0B\0\x01a\x06\x0B\x01\x0B\x02\x0B\x03\x07";
     let (start, end) = stand(frame);
     assert_eq!(&frame[start..end], b"\x0B\x01\x0B\x02\x0B\x03");
+}
+
+fn walked(stream: &[u8]) -> Vec<(&[u8], &[u8])> {
+    let mut walker = Walker::new(stream);
+    let found: Vec<_> = walker.by_ref().collect();
+    assert_eq!((walker.next(), walker.next()), (None, None));
+    found
+}
+
+#[test]
+fn user_properties_in_order() {
+    let publish = b"\x30\x1A\0\x01t\x15\x0B\x05\x26\0\x01a\0\x011\x01\x01\x26\0\x01b\0\0\x03\0\x01cx\x26";
+    assert_eq!(walked(publish), [(&b"a"[..], &b"1"[..]), (b"b", b"")]);
+    assert_eq!(walked(b"\x90\x10\0\x01\x0C\x26\0\x01a\0\0\x26\0\x01b\0\0\0"), [(&b"a"[..], &b""[..]), (b"b", b"")]);
+    assert_eq!(walked(b"\x70\x0E\0\x01\0\x0A\x1F\0\x01r\x26\0\x01a\0\0"), [(&b"a"[..], &b""[..])]);
+    assert_eq!(walked(b"\xA2\x0C\0\x01\x06\x26\0\x01a\0\0\0\x01f"), [(&b"a"[..], &b""[..])]);
+}
+
+#[test]
+fn nothing_to_walk() {
+    let refused = b"\x82\x09\0\x01\x06\x26\0\x01a\0\0";
+    for stream in [&b""[..], b"\x30\x04\0\x01t\0", b"\xC0\0", b"\x40\x02\0\x01", refused, b"\x10\x01\0"] {
+        assert!(walked(stream).is_empty());
+    }
 }

@@ -1,4 +1,9 @@
 -- The answers of `records`: a read, sizes, items and a forward rule; the values of a refusal; a limit. Assumes nothing.
+use Prim.Native.Nat.{ℕ}
+use Rattle.reading.specs.Refusal.{Answer}
+use Rattle.reading.specs.Reader.{Fit}
+use Rattle.reading.specs.Place.{Placed}
+use Rattle.records.specs.declared.answer.Read.{Read}
 use Rattle.records.specs.Answered.{told, carried, toldSized, toldWritten, toldUser, toldIdentifier, toldFilterItem, toldReasonItem, toldTopicItem, toldGotRule}
 use Rattle.records.specs.Told.{toldValues, limitOf}
 use Rattle.records.proofs.Answered.{backRead, back-read, backSized, back-sized, backWritten, back-written, backUser, back-user, backIdentifier, back-identifier, backFilterItem, back-filter-item, backReasonItem, back-reason-item, backTopicItem, back-topic-item, backGotRule, back-got-rule}
@@ -6,9 +11,12 @@ use Rattle.records.proofs.Told.{backValues, back-values, backLimit, back-limit}
 use Rattle.one_result.specs.OneResult.{OneResult}
 use Rattle.one_result.proofs.Laws.{one-by}
 
--- 02's two numbers included
-pub read-same : OneResult (λ r. (told r, carried r))
-read-same = one-by (λ r. (told r, carried r)) backRead back-read
+-- all that a read tells: 02's two numbers beside the rest
+abbrev pub toldRead : Read → Answer Placed × Fit (ℕ × ℕ)
+toldRead r = (told r, carried r)
+
+pub read-same : OneResult toldRead
+read-same = one-by toldRead backRead back-read
 
 pub sized-same : OneResult toldSized
 sized-same = one-by toldSized backSized back-sized
