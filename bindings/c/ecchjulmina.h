@@ -438,8 +438,8 @@ uint32_t ecch_pingreq_write(uint8_t limited, size_t limit, uint8_t *out, size_t 
 uint32_t ecch_pingresp_write(uint8_t limited, size_t limit, uint8_t *out, size_t out_len, uint64_t *answer, size_t answer_len);
 
 /* Topics and filters, over any bytes (crate c_topics). Each answers 1 for true and 0 for false, and nothing is refused or written. '+' and '#'
- * are wildcards, '/' separates levels; no text is tested for UTF-8, for U+0000 or for its length. Stack: some 3 KiB at
- * most for texts of up to 65,535 bytes, 12 KiB for any others (docs/PERFORMANCE.md).
+ * are wildcards, '/' separates levels; no text is tested for UTF-8, for U+0000 or for its length. Stack: some 2 KiB at
+ * most for texts of up to 65,535 bytes, 10 KiB for any others (docs/PERFORMANCE.md).
  *
  * ecch_has_wildcards: a '+' or a '#' stands somewhere in s.
  * ecch_valid_topic: neither does. As in rumqttc the empty topic is valid; MQTT 4.7.3 asks for a character.

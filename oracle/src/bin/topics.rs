@@ -166,7 +166,7 @@ fn compare(seed: u64) {
 fn listed() {
     std::panic::set_hook(Box::new(|_| {}));
     let say = |a: Answer| a.map_or("stops".to_string(), |b| b.to_string());
-    for (t, f) in [("$", "$"), ("$a/b", "$a/#"), ("$", "#"), ("é", "é"), ("é", "#"), ("aé", "#"), ("#", "+"), ("a", "a/#"), ("a/b", "a/#/c"), ("b", "a/#/c"), ("a", "a#"), ("a#", "a#"), ("", ""), ("", "#"), ("a", "$share/g/a"), ("$share/g/a", "$share/g/a")] {
+    for (t, f) in [("$", "$"), ("$a/b", "$a/#"), ("$", "#"), ("é", ""), ("é", "é"), ("é", "#"), ("aé", "#"), ("#", "+"), ("a", "a/#"), ("a/b", "a/#/c"), ("b", "a/#/c"), ("a", "a#"), ("a#", "a#"), ("", ""), ("", "#"), ("a", "$share/g/a"), ("$share/g/a", "$share/g/a")] {
         println!("matches({t:?}, {f:?}): crate {}, port {}", say((CRATE.matches)(t, f)), say((PORT.matches)(t, f)));
     }
     for s in ["", "$share/g/a", "$share/g", "$share//a", "a#", "a/#/c", "\0"] {
