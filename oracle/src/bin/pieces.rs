@@ -1,5 +1,5 @@
 //! 02's P10, through the C interface: streams cut into pieces against the whole stream by the model, and what pieces cost. See oracle/README.md.
-//! pieces compare [--count N] [--seed N], pieces rows, pieces time, pieces run whole|SIZE
+//! pieces compare [--count N] [--seed N], pieces rows, pieces time, pieces run none|whole|SIZE
 use oracle::compare::frames::{self, one_in, pick};
 use oracle::compare::model::{self, Switches};
 use oracle::compare::port;
@@ -305,9 +305,13 @@ fn main() {
         Some("run") => {
             let s = publishes(10_000, QoS::AtMostOnce);
             let mut buffer = vec![1u8; 65_536];
-            let sum = if args[1] == "whole" { read_whole(&s) } else { read_pieces(&s, args[1].parse().unwrap(), &mut buffer) };
+            let sum = match args[1].as_str() {
+                "none" => 0,
+                "whole" => read_whole(&s),
+                size => read_pieces(&s, size.parse().unwrap(), &mut buffer),
+            };
             println!("{sum}");
         }
-        _ => println!("pieces compare [--count N] [--seed N], pieces rows, pieces time, pieces run whole|SIZE"),
+        _ => println!("pieces compare [--count N] [--seed N], pieces rows, pieces time, pieces run none|whole|SIZE"),
     }
 }
