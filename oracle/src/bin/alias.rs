@@ -225,7 +225,7 @@ fn rows() -> Vec<String> {
     rows.extend(["Paax", "Eaax", "0...", "Eaax"].map(String::from));
     // and messages as they come
     let mut r = Random(0x02_06);
-    for _ in 0..150 {
+    for _ in 0..90 {
         let what = match r.next(10) {
             0 => '-',
             1 => ['@', 'Q', 'P', 'A'][r.next(4)],
