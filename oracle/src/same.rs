@@ -1,4 +1,4 @@
-//! The loops of `var_length::length` and `utf8::is_utf8` in Rust, line by line but for texts of less than 8 bytes, so that the two compilers can be compared.
+//! The loops of `var_length::length` and `utf8::is_utf8` in Rust, line by line, so that the two compilers can be compared.
 
 /// The index after the variable length number at `at`, whose value is stored; 0 if there is none.
 #[inline(always)]
@@ -81,6 +81,28 @@ fn is_ascii(s: &[u8]) -> bool {
     s.iter().fold(0, |all, b| all | flaw(*b)) < 128
 }
 
+fn is_two_chunks(s: &[u8]) -> bool {
+    let end = s.len();
+    if end < 8 {
+        return false;
+    }
+    if end < 16 {
+        return is_ascii(&s[..8]) && is_ascii(&s[end - 8..]);
+    }
+    end <= 32 && is_ascii(&s[..16]) && is_ascii(&s[end - 16..])
+}
+
+fn pass_ascii(s: &[u8]) -> usize {
+    let mut i = 0;
+    while 64 <= s.len() - i {
+        if !is_ascii(&s[i..i + 64]) {
+            return i;
+        }
+        i += 64;
+    }
+    i
+}
+
 fn pass_chunk(s: &[u8], at: usize) -> usize {
     let left = s.len() - at;
     if 64 <= left && is_ascii(&s[at..at + 64]) {
@@ -93,7 +115,7 @@ fn pass_chunk(s: &[u8], at: usize) -> usize {
         return pass_chars(s, at, at + 16);
     }
     let end = s.len();
-    if is_ascii(&s[at..end]) {
+    if 16 <= end && is_ascii(&s[end - 16..]) {
         return end;
     }
     pass_chars(s, at, end)
@@ -102,7 +124,13 @@ fn pass_chunk(s: &[u8], at: usize) -> usize {
 /// Is `s` well-formed UTF-8 without U+0000?
 #[inline(never)]
 pub fn is_utf8(s: &[u8]) -> bool {
-    let mut i = 0;
+    if s.len() < 8 && s.iter().all(|b| flaw(*b) < 128) {
+        return true;
+    }
+    if is_two_chunks(s) {
+        return true;
+    }
+    let mut i = pass_ascii(s);
     while i < s.len() {
         let next = pass_chunk(s, i);
         if next == i {

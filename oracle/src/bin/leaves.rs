@@ -1,5 +1,6 @@
 //! ns for a variable length number, and bytes of UTF-8 in a ns: the leaves (port), the same loops in Rust (same), the crate's `length`
-//! (crate) and std::str::from_utf8 (std), the hand-written reader's (hand), over the same bytes. One call a number or a text on every side.
+//! (crate) and std::str::from_utf8 (std), the same with a search for 0 (std0), the hand-written reader's (hand), over the same bytes. One call
+//! a number or a text on every side.
 use oracle::timing::{load, medians, report, rounds, Contender};
 use oracle::{codec, limit, same, streams};
 use std::hint::black_box;
@@ -103,6 +104,12 @@ fn std_utf8(s: &[u8]) -> bool {
     std::str::from_utf8(s).is_ok()
 }
 
+/// 02's P9 by std: well-formed, and no U+0000.
+#[inline(never)]
+fn std_no_zero(s: &[u8]) -> bool {
+    std::str::from_utf8(s).is_ok() && !s.contains(&0)
+}
+
 /// How many of the texts of `len` bytes, one behind the other, are UTF-8.
 #[inline(always)]
 fn texts(s: &[u8], len: usize, is_utf8: impl Fn(&[u8]) -> bool) -> u64 {
@@ -114,8 +121,9 @@ fn utf8(what: &str, len: usize, every: u64) {
     let s: Vec<u8> = streams::text(len, every).repeat(count);
     assert_eq!(texts(&s, len, std_utf8), count as u64);
     let s = &s[..];
-    let mut all: [Contender; 4] = [
+    let mut all: [Contender; 5] = [
         ("port", Box::new(|| texts(black_box(s), len, port::is_utf8))),
+        ("std0", Box::new(|| texts(black_box(s), len, std_no_zero))),
         ("std", Box::new(|| texts(black_box(s), len, std_utf8))),
         ("same", Box::new(|| texts(black_box(s), len, same::is_utf8))),
         ("hand", Box::new(|| texts(black_box(s), len, limit::plain_utf8))),
