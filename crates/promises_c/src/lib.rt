@@ -1,0 +1,1 @@
+// Definitions and laws alone: which refusals each writer and each size of C gives.
