@@ -457,7 +457,7 @@ uint8_t ecch_matches(const uint8_t *topic, size_t topic_len, const uint8_t *filt
  * The table is ECCH_ALIAS_TABLE_LEN bytes of the caller's: for aliases 1 to 16 in turn a length byte, 0 if never set, and 128 bytes for the
  * topic. Fill it with zeros where a connection begins, hand every Publish that is read to ecch_alias_learn in the order of the stream, and
  * write to it by no other way: then it holds the last topic of each alias, which is proved. Any bytes may be handed over as a table: one of
- * another length, or with a length byte above 128, is refusal 24.
+ * another length, or with a length byte above 128, is refusal 24. ecch_alias_learn writes to the table, ecch_topic_in_force reads it alone.
  *
  * `start`, `len`: where the packet's own topic stands in the stream (ECCH_TOPIC_START, ECCH_TOPIC_LEN of its record); a place that does not
  * lie in the stream is an empty topic. `alias_on`, `alias`: its alias, if it has one (ECCH_ALIAS, ECCH_ALIAS_VALUE). Where a message has more
