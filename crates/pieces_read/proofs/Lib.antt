@@ -1,3 +1,4 @@
 pub mod Same
 pub mod Cut
 pub mod Goes
+pub mod When
