@@ -4,7 +4,10 @@ use ecchjulmina::{places, AliasError, Aliases, Packet};
 use std::collections::HashMap;
 
 /// a/b with alias 5, then none with alias 5, then c with alias 5, then none again.
-const STREAM: &[u8] = b"\x30\x0A\x00\x03a/b\x03\x23\x00\x051\x30\x07\x00\x00\x03\x23\x00\x052\x30\x08\x00\x01c\x03\x23\x00\x053\x30\x07\x00\x00\x03\x23\x00\x054";
+const STREAM: &[u8] = b"\x30\x0A\x00\x03a/b\x03\x23\x00\x051\
+    \x30\x07\x00\x00\x03\x23\x00\x052\
+    \x30\x08\x00\x01c\x03\x23\x00\x053\
+    \x30\x07\x00\x00\x03\x23\x00\x054";
 
 #[test]
 fn a_stream() {
@@ -67,7 +70,8 @@ fn refusals() {
     assert_eq!(bad.learn(b"a", None), Err(AliasError::AliasTableBad));
     assert_eq!(bad.topic_in_force(b"", Some(0)), Err(AliasError::AliasTableBad));
     assert_eq!(bad.table(), &table);
-    assert_eq!([24, 25, 26, 27, 28], [AliasError::AliasTableBad, AliasError::AliasInvalid, AliasError::TopicMissing, AliasError::AliasUnknown, AliasError::AliasNoRoom].map(AliasError::number));
+    use AliasError::*;
+    assert_eq!([24, 25, 26, 27, 28], [AliasTableBad, AliasInvalid, TopicMissing, AliasUnknown, AliasNoRoom].map(AliasError::number));
 }
 
 /// What 02 says, over a map.

@@ -7,9 +7,12 @@ use std::process::exit;
 
 #[link(name = "ecchjulmina", kind = "static")]
 extern "C" {
-    fn ecch_alias_learn(stream: *const u8, stream_len: usize, start: usize, len: usize, alias_on: u8, alias: u16, table: *mut u8, table_len: usize) -> u32;
+    fn ecch_alias_learn(
+        stream: *const u8, stream_len: usize, start: usize, len: usize, alias_on: u8, alias: u16, table: *mut u8, table_len: usize,
+    ) -> u32;
     fn ecch_topic_in_force(
-        stream: *const u8, stream_len: usize, start: usize, len: usize, alias_on: u8, alias: u16, table: *const u8, table_len: usize, item: *mut u64, item_len: usize,
+        stream: *const u8, stream_len: usize, start: usize, len: usize, alias_on: u8, alias: u16, table: *const u8, table_len: usize,
+        item: *mut u64, item_len: usize,
     ) -> u32;
 }
 
@@ -216,7 +219,9 @@ fn rows() -> Vec<String> {
     let mut rows: Vec<String> = Vec::new();
     let len = |n: usize| format!("{}{}", (b'a' + (n / 16) as u8) as char, (b'a' + (n % 16) as u8) as char);
     // each refusal at its edges, in the order of 02
-    for (what, n) in [("<", 1), (">", 1), ("<", 0), ("@", 1), ("@", 0), ("Q", 200), ("-", 0), ("-", 255), ("E", 0), ("E", 129), ("E", 128), ("E", 0), ("-", 0), ("P", 1), ("P", 0), ("A", 5), ("B", 6), ("A", 0), ("A", 7), ("A", 0), ("B", 0)] {
+    let refused = [("<", 1), (">", 1), ("<", 0), ("@", 1), ("@", 0), ("Q", 200), ("-", 0), ("-", 255), ("E", 0), ("E", 129)];
+    let set = [("E", 128), ("E", 0), ("-", 0), ("P", 1), ("P", 0), ("A", 5), ("B", 6), ("A", 0), ("A", 7), ("A", 0), ("B", 0)];
+    for (what, n) in refused.into_iter().chain(set) {
         rows.push(format!("{what}{}x", len(n)));
     }
     rows.push(format!("!P{}", len(129)));
