@@ -1,6 +1,6 @@
 # Reads bindings/c/ecchjulmina.h and writes C: each function, handing on to the port's own code, which has a slice as the address of a pointer
-# and a length. `rt staticlib` makes the like for a proved library; this serves one that is not proved, where a function that
-# the program does not have (of c_walk) is left undefined.
+# and a length. `has` names the functions that are wanted; all are if it is empty, and one that the program does not have is left undefined.
+# `rt staticlib` makes the like for a proved library; this serves one that is not proved.
 BEGIN { print "#include <stddef.h>\n#include <stdint.h>\nstruct slice { void *start; size_t len; };" }
 /^(uint32_t|size_t) ecch_/ { text = ""; on = 1 }
 on { text = text " " $0 }
@@ -11,6 +11,7 @@ on && /;/ {
     split(text, word, " ")
     gives = word[1]
     name = word[2]; sub(/\(.*/, "", name)
+    if (has != "" && !index(" " has " ", " " name " ")) next
     given = text; sub(/^[^(]*\( */, "", given)
     count = split(given, part, /, */)
     takes = ""; hands = ""; slices = ""
