@@ -432,6 +432,55 @@ uint32_t ecch_ping_size(uint64_t *answer, size_t answer_len);
 uint32_t ecch_pingreq_write(uint8_t limited, size_t limit, uint8_t *out, size_t out_len, uint64_t *answer, size_t answer_len);
 uint32_t ecch_pingresp_write(uint8_t limited, size_t limit, uint8_t *out, size_t out_len, uint64_t *answer, size_t answer_len);
 
+/* ---- the client's record of outgoing messages that await an answer (P4 of 02). The table is `table`, a lent byte for each identifier from 1
+   to ECCH_IDENTIFIERS: table[n - 1] is 0 if identifier n is free, 1, 2 or 3 if it waits for PubAck, PubRec or PubComp. Bytes of another
+   length, or with another number among them, are no table: ECCH_BAD_TABLE, and they are left as they are. A refused call changes
+   nothing. `answer` is one number. */
+enum ecch_inflight {
+    ECCH_IDENTIFIERS = 1024,
+    ECCH_IN_FLIGHT_FULL = 29,
+    ECCH_NO_CLAIM = 30,
+    ECCH_NOT_WAITING = 31,
+    ECCH_BAD_TABLE = 39
+};
+
+/* Every identifier free. */
+uint32_t ecch_inflight_start(uint8_t *table, size_t table_len);
+
+/* An identifier for a message of QoS 1 or 2 about to be sent, the smallest free one: it is stored in `answer`, and waits from now on. 29 if
+   none is free, 30 for QoS 0, 11 for a QoS above 2. */
+uint32_t ecch_inflight_claim(uint8_t qos, uint8_t *table, size_t table_len, uint64_t *answer, size_t answer_len);
+
+/* An acknowledgement that was read: its kind (ECCH_PUBACK, ECCH_PUBREC, ECCH_PUBCOMP; any other is 31), identifier and reason, which counts
+   for a PubRec alone. `answer` is what the identifier waits for now: 0 if it was freed, 3 if a PubRec below 0x80 moved it on. 31 if it
+   does not wait for this. */
+uint32_t ecch_inflight_acked(uint8_t kind, uint16_t id, uint8_t reason, uint8_t *table, size_t table_len, uint64_t *answer, size_t answer_len);
+
+/* How many identifiers wait; 0 for what is no table. */
+size_t ecch_inflight_waiting(const uint8_t *table, size_t table_len);
+
+/* ---- a journal: that table kept through a power cut in a lent area of two or more whole blocks of 512 bytes (P11 of 02), else
+   ECCH_BAD_AREA before all else, and nothing changed. Start an area once; from then on only saves may write to it. If the power is cut
+   while a save's block is being stored, and leaves it as it was, as it should be, or not good, recovery gives the table before that save or
+   after it. An area that was written when identifiers went to 128 recovers unchanged, with the places above free; a block in it that
+   was not good only for a mark above 128 would count as good. */
+enum ecch_journal {
+    ECCH_BAD_AREA = 32,
+    ECCH_JOURNAL_EMPTY = 33,
+    ECCH_JOURNAL_ENDED = 34
+};
+
+/* Zeroes the area. */
+uint32_t ecch_journal_start(uint8_t *area, size_t area_len);
+
+/* Stores the table under the next number. `answer` is two numbers: the save's, and which block of 512 bytes, from 0, it stored: with the area in a
+   file, write these 512 bytes and no others. 34 after the largest 64-bit number, 39 if `table` is no table; nothing is stored then. */
+uint32_t ecch_journal_save(const uint8_t *table, size_t table_len, uint8_t *area, size_t area_len, uint64_t *answer, size_t answer_len);
+
+/* The table of the latest good save into `table`, and its number into `answer`. 33 if there is none: a fresh table. 39 if `table` has fewer
+   than ECCH_IDENTIFIERS bytes, which are left as they are. */
+uint32_t ecch_journal_recover(const uint8_t *area, size_t area_len, uint8_t *table, size_t table_len, uint64_t *answer, size_t answer_len);
+
 /* A pointer for what has length 0: aligned, and not NULL. C++ needs a cast to the type of the parameter. */
 #define ECCH_NOTHING ((void *)sizeof(size_t))
 

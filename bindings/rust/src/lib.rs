@@ -8,6 +8,8 @@
 //! What is proved ends at the C interface; this crate is tested.
 mod error;
 mod frame;
+pub mod inflight;
+pub mod journal;
 pub mod places;
 #[allow(clippy::too_many_arguments)]
 pub mod sys;

@@ -30,6 +30,7 @@ layout! {
     ECCH_NEXT_FILTER_NEXT = 0, ECCH_NEXT_FILTER_START = 1, ECCH_NEXT_FILTER_LEN = 2, ECCH_NEXT_FILTER_QOS = 3,
     ECCH_NEXT_FILTER_NO_LOCAL = 4, ECCH_NEXT_FILTER_PRESERVE_RETAIN = 5, ECCH_NEXT_FILTER_RULE = 6, ECCH_NEXT_FILTER_NUMBERS = 7,
     ECCH_NEXT_TOPIC_NEXT = 0, ECCH_NEXT_TOPIC_START = 1, ECCH_NEXT_TOPIC_LEN = 2, ECCH_NEXT_TOPIC_NUMBERS = 7,
+    ECCH_IDENTIFIERS = 1024, ECCH_IN_FLIGHT_FULL = 29,
 }
 
 extern "C" {
@@ -208,4 +209,19 @@ extern "C" {
     pub fn ecch_ping_size(answer: *mut u64, answer_len: usize) -> u32;
     pub fn ecch_pingreq_write(limited: u8, limit: usize, out: *mut u8, out_len: usize, answer: *mut u64, answer_len: usize) -> u32;
     pub fn ecch_pingresp_write(limited: u8, limit: usize, out: *mut u8, out_len: usize, answer: *mut u64, answer_len: usize) -> u32;
+    pub fn ecch_inflight_start(table: *mut u8, table_len: usize) -> u32;
+    pub fn ecch_inflight_claim(qos: u8, table: *mut u8, table_len: usize, answer: *mut u64, answer_len: usize) -> u32;
+    pub fn ecch_inflight_acked(kind: u8, id: u16, reason: u8, table: *mut u8, table_len: usize, answer: *mut u64, answer_len: usize) -> u32;
+    pub fn ecch_inflight_waiting(table: *const u8, table_len: usize) -> usize;
+    pub fn ecch_journal_start(area: *mut u8, area_len: usize) -> u32;
+    pub fn ecch_journal_save(
+        table: *const u8, table_len: usize,
+        area: *mut u8, area_len: usize,
+        answer: *mut u64, answer_len: usize,
+    ) -> u32;
+    pub fn ecch_journal_recover(
+        area: *const u8, area_len: usize,
+        table: *mut u8, table_len: usize,
+        answer: *mut u64, answer_len: usize,
+    ) -> u32;
 }
