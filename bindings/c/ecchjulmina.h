@@ -1,14 +1,14 @@
-/* Ecchjulmina for C: MQTT 5 packets read and written by proved code (crates/capi, crates/capi_put, crates/c_walk). x86-64; link with libecchjulmina.a
- * (bindings/library).
+/* Ecchjulmina for C: MQTT 5 packets read and written by proved code (crates capi, capi_put and c_ROOM for each room beside them). x86-64; link
+ * with libecchjulmina.a (bindings/library).
  *
  * Every function ends, allocates nothing, keeps nothing, and calls nothing but its own code and C's memcpy. What each gives for every
  * input is proved (docs/PROMISES.md); that a C caller hands over what the declarations below say is assumed:
- * - a pointer with a length stands for that many elements that can be read, and for `out`, `record`, `item`, `answer`, `name`, `state` and `buffer`
- *   also be written; it is aligned and never NULL, not even with length 0 (ECCH_NOTHING serves there);
+ * - a pointer with a length stands for that many elements that can be read, and for `out`, `record`, `item`, `answer`, `name`, `state`, `buffer`,
+ *   and for `table` and `area` where they are not const, also be written; it is aligned and never NULL, not even with length 0 (ECCH_NOTHING serves there);
  * - what is written overlaps nothing else that is handed over, and no other thread writes what is handed over while the call lasts.
  *
- * Numbers of refusals are those of 01 and 02, 1 to 23 (enum ecch_refusal); 0 is success. A flag that is handed over is false if it is 0, else
- * true; one that is handed back is 0 or 1.
+ * Numbers of refusals are those of 01 and 02, 1 to 23 (enum ecch_refusal), and from 24 on those of a room (enum ecch_ROOM_refusal); 0 is
+ * success. A flag that is handed over is false if it is 0, else true; one that is handed back is 0 or 1.
  *
  * Arrays that are filled: every number of the layout is set in every answer, 0 where it does not apply. Of a shorter array what fits is
  * set, from index 0 on; of a longer one the rest stays.
@@ -247,7 +247,7 @@ uint32_t ecch_property(const uint8_t *stream, size_t stream_len, uint8_t kind, s
 uint32_t ecch_next_filter(const uint8_t *stream, size_t stream_len, size_t at, size_t end, uint64_t *item, size_t item_len);
 uint32_t ecch_next_topic(const uint8_t *stream, size_t stream_len, size_t at, size_t end, uint64_t *item, size_t item_len);
 
-/* The name of a refusal, as in 01 and 02: how many bytes it has (24 at most), 0 for a number that is none of 1 to 23. Its bytes are set
+/* The name of a refusal, as in 01 and 02: how many bytes it has (24 at most), 0 for a number that is none of 1 to 39. Its bytes are set
  * from index 0 on, what fits of them; no 0 follows them. */
 size_t ecch_name(uint32_t number, uint8_t *name, size_t name_len);
 
@@ -549,6 +549,62 @@ enum ecch_next_user_layout {
  * let `end` be ECCH_BLOCK_START + ECCH_BLOCK_LEN: the answers are the user properties of the record, in order, then 21. Of a frame that was
  * refused all of these are 0, and there is none. Other properties are passed over; bytes that are no property end the walk. */
 uint32_t ecch_next_user(const uint8_t *frame, size_t frame_len, uint8_t kind, size_t at, size_t end, uint64_t *item, size_t item_len);
+
+/* The filters of a Subscribe in a table, three numbers for an entry (P7 of 02), are Rattle's alone so far (crate filter_table); the numbers and
+ * names of its refusals: */
+enum ecch_table_refusal {
+    ECCH_FILTER_TABLE_FULL = 37, /* value 1: how many places are needed */
+    ECCH_NOT_SUBSCRIBE = 38
+};
+
+/* ---- the client's record of outgoing messages that await an answer (P4 of 02). The table is `table`, a lent byte for each identifier from 1
+   to ECCH_IDENTIFIERS: table[n - 1] is 0 if identifier n is free, 1, 2 or 3 if it waits for PubAck, PubRec or PubComp. Bytes of another
+   length, or with another number among them, are no table: ECCH_BAD_TABLE, and they are left as they are. A refused call changes
+   nothing. `answer` is one number. */
+enum ecch_inflight { ECCH_IDENTIFIERS = 1024 };
+enum ecch_inflight_refusal {
+    ECCH_IN_FLIGHT_FULL = 29,
+    ECCH_NO_CLAIM = 30,
+    ECCH_NOT_WAITING = 31,
+    ECCH_BAD_TABLE = 39
+};
+
+/* Every identifier free. */
+uint32_t ecch_inflight_start(uint8_t *table, size_t table_len);
+
+/* An identifier for a message of QoS 1 or 2 about to be sent, the smallest free one: it is stored in `answer`, and waits from now on. 29 if
+   none is free, 30 for QoS 0, 11 for a QoS above 2. */
+uint32_t ecch_inflight_claim(uint8_t qos, uint8_t *table, size_t table_len, uint64_t *answer, size_t answer_len);
+
+/* An acknowledgement that was read: its kind (ECCH_PUBACK, ECCH_PUBREC, ECCH_PUBCOMP; any other is 31), identifier and reason, which counts
+   for a PubRec alone. `answer` is what the identifier waits for now: 0 if it was freed, 3 if a PubRec below 0x80 moved it on. 31 if it
+   does not wait for this. */
+uint32_t ecch_inflight_acked(uint8_t kind, uint16_t id, uint8_t reason, uint8_t *table, size_t table_len, uint64_t *answer, size_t answer_len);
+
+/* How many identifiers wait; 0 for what is no table. */
+size_t ecch_inflight_waiting(const uint8_t *table, size_t table_len);
+
+/* ---- a journal: that table kept through a power cut in a lent area of two or more whole blocks of 512 bytes (P11 of 02), else
+   ECCH_BAD_AREA before all else, and nothing changed. Start an area once; from then on only saves may write to it. If the power is cut
+   while a save's block is being stored, and leaves it as it was, as it should be, or not good, recovery gives the table before that save or
+   after it. An area that was written when identifiers went to 128 recovers unchanged, with the places above free; a block in it that
+   was not good only for a mark above 128 would count as good. */
+enum ecch_journal_refusal {
+    ECCH_BAD_AREA = 32,
+    ECCH_JOURNAL_EMPTY = 33,
+    ECCH_JOURNAL_ENDED = 34
+};
+
+/* Zeroes the area. */
+uint32_t ecch_journal_start(uint8_t *area, size_t area_len);
+
+/* Stores the table under the next number. `answer` is two numbers: the save's, and which block of 512 bytes, from 0, it stored: with the area in a
+   file, write these 512 bytes and no others. 34 after the largest 64-bit number, 39 if `table` is no table; nothing is stored then. */
+uint32_t ecch_journal_save(const uint8_t *table, size_t table_len, uint8_t *area, size_t area_len, uint64_t *answer, size_t answer_len);
+
+/* The table of the latest good save into `table`, and its number into `answer`. 33 if there is none: a fresh table. 39 if `table` has fewer
+   than ECCH_IDENTIFIERS bytes, which are left as they are. */
+uint32_t ecch_journal_recover(const uint8_t *area, size_t area_len, uint8_t *table, size_t table_len, uint64_t *answer, size_t answer_len);
 
 /* A pointer for what has length 0: aligned, and not NULL. C++ needs a cast to the type of the parameter. */
 #define ECCH_NOTHING ((void *)sizeof(size_t))

@@ -10,6 +10,8 @@
 mod alias;
 mod error;
 mod frame;
+pub mod inflight;
+pub mod journal;
 pub mod pieces;
 pub mod places;
 #[allow(clippy::too_many_arguments)]

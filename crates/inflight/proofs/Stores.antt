@@ -75,8 +75,9 @@ taken-more {s} {t} {i} w p h l e g = record {
       ∙ ap₂ (λ (u : List ℕ) (x : ℕ). u ++ (x ∷ [])) (p .is) e
       ∙ (let q : take i s ++ (getD s i 0 ∷ []) ≡ take (i + 1) s = rw add-one (sym (take-suc s i 0 (omega (arith, l)))) in q);
   rest = p .rest
-    ∙ (let q : drop i s ≡ getD s i 0 ∷ drop (suc i) s = drop-cons s i 0 (omega (arith, l)) in ap allStates q)
-    ∙ rw (add-one, lt-ltb (getD s i 0) 4 g) }
+      ∙ (let q : drop i s ≡ getD s i 0 ∷ drop (suc i) s = drop-cons s i 0 (omega (arith, l)) in ap allStates q)
+      ∙ rw (add-one, lt-ltb (getD s i 0) 4 g);
+}
 
 not-state : (s : List ℕ) (t : InFlight) (i : ℕ) → Taken s t i → i < limit → length s ≡ limit → 4 ≤ getD s i 0 → allStates s ≡ false
 unfolding allStates
@@ -104,7 +105,8 @@ taken-all {s} {t} {i} p l h =
     record {
       fine = rw (eq-eqb (length s) limit l, all-states s t i p l h);
       table = rw (eq-eqb (length s) limit l, all-states s t i p l h)
-        (sym (take-all i (waitsOf t) (omega (arith, waits-length t, p .long))) ∙ p .is ∙ take-all i s (omega (arith, l))) }
+          (sym (take-all i (waitsOf t) (omega (arith, waits-length t, p .long))) ∙ p .is ∙ take-all i s (omega (arith, l)));
+    }
 
 -- ---- a table stored
 

@@ -7,9 +7,9 @@ use lib.Dec.{eqb, leb, ltb}
 use lib.ListN.{length, getD, set}
 use Rattle.reading.specs.Refusal.{Refusal, nr}
 
--- "Identifiers are 1 to 128"
+-- "Identifiers are 1 to 128"; P12, "Raise the identifiers in P4 to 1,024"
 abbrev pub limit : ℕ
-limit = 128
+limit = 1024
 
 -- P11: "free 0, PubAck 1, PubRec 2, PubComp 3"
 abbrev pub free : ℕ

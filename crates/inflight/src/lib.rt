@@ -12,7 +12,7 @@ ghost use Rattle.inflight.specs.Told.{codeOf, waitsOf, answerOf, afterCl
 ghost use Rattle.records.specs.Told.{toldQoS, toldAckKind};
 
 // Identifiers are 1 to LIMIT; `limit` of specs/Rules.antt is the same number.
-pub const LIMIT: usize = 128;
+pub const LIMIT: usize = 1024;
 
 // What the place of an identifier waits for.
 pub enum Wait {
@@ -236,7 +236,10 @@ impl InFlight {
         if kind == 7 {
             return self.pubcomp(id);
         }
-        Answered { table: self, answer: Answer::NotWaiting }
+        Answered {
+            table: self,
+            answer: Answer::NotWaiting,
+        }
     }
 
     // The number of identifiers that wait.

@@ -236,6 +236,10 @@ module _ (l r k : ℕ) (two : 2 ≤ k) (low : l ≤ r) (high : r ≤ 1024) where
   unfolding start
   start-lives a e = rw (whole-is a e, e) Lived.started
 
+-- P12: "an area written under the old limit recovers unchanged": the same number and table, with 896 places more, all free
+pub old-area-recovers : {k : ℕ} {a : List ℕ} → 2 ≤ k → Lived 128 limit k a → recover limit a ≡ widened 896 (recover 128 a)
+old-area-recovers {k} two v = raised-recovers 128 limit k two (omega arith) (omega arith) v
+
 -- "The history that P4 counts starts afresh at a recovery, with the recovered table's waiting number added."
 pub life-counts : {l r k : ℕ} {a t : List ℕ} {s g f : ℕ} → Life l r k a t s g f → waiting t + f ≡ s + g
 life-counts {l} Life.begun = let e : waiting (replicate l free) ≡ 0 = none-waiting l in omega (arith, e)

@@ -52,7 +52,7 @@ pub struct Recovered {
 // ---- the area
 
 // Two or more whole blocks.
-fn is_whole(area: &[u8]) -> bool
+pub fn is_whole(area: &[u8]) -> bool
     ensures { λ r. ⌜ r ≡ whole (now (area .entry)) ⌝ }
 {
     if area.len() % 512 == 0 {

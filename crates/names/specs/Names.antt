@@ -49,6 +49,7 @@ names =
     "FrameTooLong" ∷
     "FilterTableFull" ∷
     "NotSubscribe" ∷
+    "BadTable" ∷
     []
 
 -- 01, "When the desk says no": the name in the row of that number; none at 0, and none past the last row

@@ -58,7 +58,8 @@ pub fn name_at(number: u32) -> Name
         36 => named(*b"FrameTooLong\0\0\0\0\0\0\0\0\0\0\0\0", 12),
         37 => named(*b"FilterTableFull\0\0\0\0\0\0\0\0\0", 15),
         38 => named(*b"NotSubscribe\0\0\0\0\0\0\0\0\0\0\0\0", 12),
-        39..=4294967295 => named([0; 24], 0),
+        39 => named(*b"BadTable\0\0\0\0\0\0\0\0\0\0\0\0\0\0\0\0", 8),
+        40..=4294967295 => named([0; 24], 0),
     }
 }
 

@@ -6,15 +6,16 @@ use Rattle.names.proofs.Laws.{past-places}
 use Rattle.names.proofs.name_at.Statement.{statement}
 use Rattle.names.proofs.name_at.Tie as tie
 
-left-over : tie.Need-returns-40
+left-over : tie.Need-returns-41
 unfolding names nameAt
-left-over c = rw (past-places ("" ∷ names) "" (c .before .before .args .number) (c .before .match .rest)) (c .named40 .ensures)
+left-over c = rw (past-places ("" ∷ names) "" (c .before .before .args .number) (c .before .match .rest)) (c .named41 .ensures)
 
 pub name-at-spec : {M : Type 1} → statement M
 unfolding names nameAt
 name-at-spec =
     tie.close
     (tie.spec
+    (λ c κs. search needs)
     (λ c κs. search needs)
     (λ c κs. search needs)
     (λ c κs. search needs)
@@ -94,4 +95,5 @@ name-at-spec =
     (λ c. rw (c .before .before .before .match .keys37) (c .named37 .ensures))
     (λ c. rw (c .before .before .before .match .keys38) (c .named38 .ensures))
     (λ c. rw (c .before .before .before .match .keys39) (c .named39 .ensures))
+    (λ c. rw (c .before .before .before .match .keys40) (c .named40 .ensures))
     left-over)

@@ -1,0 +1,120 @@
+//! Which messages are still out (02, P4): the identifiers of outgoing messages of QoS 1 and 2, and the answers that free them.
+use crate::sys::*;
+use crate::{PubAck, PubComp, PubRec, QoS};
+
+/// Identifiers are 1 to this number.
+pub const IDENTIFIERS: usize = ECCH_IDENTIFIERS;
+
+/// Why a claim is refused; the table stays as it was.
+#[derive(Debug, Clone, Copy, PartialEq, Eq)]
+pub enum ClaimError {
+    /// Every identifier waits.
+    InFlightFull,
+    /// A message of QoS 0 has no identifier.
+    NoClaim,
+}
+
+/// The identifier does not wait for this answer; the table stays as it was.
+#[derive(Debug, Clone, Copy, PartialEq, Eq)]
+pub struct NotWaiting;
+
+/// What became of an answer's identifier.
+#[derive(Debug, Clone, Copy, PartialEq, Eq)]
+pub enum Answered {
+    /// It is free again.
+    Freed,
+    /// It waits for PubComp now: time for the PubRel.
+    Moved,
+}
+
+/// What an identifier waits for.
+#[derive(Debug, Clone, Copy, PartialEq, Eq)]
+pub enum Wait {
+    PubAck,
+    PubRec,
+    PubComp,
+}
+
+/// The table: a byte for each identifier, 0 if it is free, else what it waits for.
+#[derive(Clone, PartialEq, Eq)]
+pub struct InFlight {
+    table: [u8; IDENTIFIERS],
+}
+
+impl Default for InFlight {
+    fn default() -> InFlight {
+        InFlight::new()
+    }
+}
+
+impl std::fmt::Debug for InFlight {
+    fn fmt(&self, f: &mut std::fmt::Formatter) -> std::fmt::Result {
+        f.debug_map().entries((1..=IDENTIFIERS as u16).filter_map(|id| self.waits_for(id).map(|w| (id, w)))).finish()
+    }
+}
+
+impl InFlight {
+    /// Every identifier free.
+    pub fn new() -> InFlight {
+        let mut table = [0; IDENTIFIERS];
+        unsafe { ecch_inflight_start(table.as_mut_ptr(), table.len()) };
+        InFlight { table }
+    }
+
+    /// The table of those bytes, if they are one.
+    pub fn from_bytes(bytes: &[u8]) -> Option<InFlight> {
+        let table: [u8; IDENTIFIERS] = bytes.try_into().ok()?;
+        table.iter().all(|w| *w < 4).then_some(InFlight { table })
+    }
+
+    pub fn as_bytes(&self) -> &[u8; IDENTIFIERS] {
+        &self.table
+    }
+
+    /// The smallest free identifier, for a message about to be sent.
+    pub fn claim(&mut self, qos: QoS) -> Result<u16, ClaimError> {
+        let mut id = 0;
+        let n = unsafe { ecch_inflight_claim(qos as u8, self.table.as_mut_ptr(), self.table.len(), &mut id, 1) };
+        match n as usize {
+            0 => Ok(id as u16),
+            ECCH_IN_FLIGHT_FULL => Err(ClaimError::InFlightFull),
+            _ => Err(ClaimError::NoClaim),
+        }
+    }
+
+    fn acked(&mut self, kind: usize, id: u16, reason: u8) -> Result<Answered, NotWaiting> {
+        let mut now = 0;
+        let n = unsafe { ecch_inflight_acked(kind as u8, id, reason, self.table.as_mut_ptr(), self.table.len(), &mut now, 1) };
+        match (n, now) {
+            (0, 0) => Ok(Answered::Freed),
+            (0, _) => Ok(Answered::Moved),
+            _ => Err(NotWaiting),
+        }
+    }
+
+    pub fn puback(&mut self, ack: &PubAck) -> Result<Answered, NotWaiting> {
+        self.acked(ECCH_PUBACK, ack.pkid, ack.reason.code())
+    }
+
+    pub fn pubrec(&mut self, ack: &PubRec) -> Result<Answered, NotWaiting> {
+        self.acked(ECCH_PUBREC, ack.pkid, ack.reason.code())
+    }
+
+    pub fn pubcomp(&mut self, ack: &PubComp) -> Result<Answered, NotWaiting> {
+        self.acked(ECCH_PUBCOMP, ack.pkid, ack.reason.code())
+    }
+
+    /// How many identifiers wait.
+    pub fn waiting(&self) -> usize {
+        unsafe { ecch_inflight_waiting(self.table.as_ptr(), self.table.len()) }
+    }
+
+    pub fn waits_for(&self, id: u16) -> Option<Wait> {
+        match self.table.get(usize::from(id).checked_sub(1)?)? {
+            1 => Some(Wait::PubAck),
+            2 => Some(Wait::PubRec),
+            3 => Some(Wait::PubComp),
+            _ => None,
+        }
+    }
+}

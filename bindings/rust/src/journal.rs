@@ -1,0 +1,83 @@
+//! A journal (02, P11): the table of [`InFlight`] in a file that survives a power cut. A save writes one block of 512 bytes, and waits until
+//! it is on the disk.
+use crate::inflight::{InFlight, IDENTIFIERS};
+use crate::sys::*;
+use std::fs::{File, OpenOptions};
+use std::io::{self, Read};
+use std::os::unix::fs::FileExt;
+use std::path::Path;
+
+const BLOCK: usize = 512;
+
+/// A file of two or more blocks.
+pub struct Journal {
+    file: File,
+    area: Vec<u8>,
+}
+
+/// Why a save stored nothing.
+#[derive(Debug)]
+pub enum SaveError {
+    /// The largest 64-bit number is used.
+    JournalEnded,
+    Io(io::Error),
+}
+
+/// What was saved last, and under which number.
+#[derive(Debug, Clone, PartialEq, Eq)]
+pub struct Recovered {
+    pub number: u64,
+    pub table: InFlight,
+}
+
+impl Journal {
+    /// Starts a journal of that many blocks, 2 at least: whatever the file held is zeroed.
+    pub fn start(path: impl AsRef<Path>, blocks: usize) -> io::Result<Journal> {
+        let mut area = vec![0; blocks * BLOCK];
+        if unsafe { ecch_journal_start(area.as_mut_ptr(), area.len()) } != 0 {
+            return Err(io::Error::new(io::ErrorKind::InvalidInput, "BadArea: not two or more whole blocks"));
+        }
+        let file = OpenOptions::new().read(true).write(true).create(true).truncate(true).open(path)?;
+        file.write_all_at(&area, 0)?;
+        file.sync_all()?;
+        Ok(Journal { file, area })
+    }
+
+    /// Opens a journal that was started before.
+    pub fn open(path: impl AsRef<Path>) -> io::Result<Journal> {
+        let mut file = OpenOptions::new().read(true).write(true).open(path)?;
+        let mut area = Vec::new();
+        file.read_to_end(&mut area)?;
+        if area.len() % BLOCK != 0 || area.len() < 2 * BLOCK {
+            return Err(io::Error::new(io::ErrorKind::InvalidData, "BadArea: not two or more whole blocks"));
+        }
+        Ok(Journal { file, area })
+    }
+
+    /// Stores the table under the next number, which is the answer.
+    pub fn save(&mut self, table: &InFlight) -> Result<u64, SaveError> {
+        let bytes = table.as_bytes();
+        let mut answer = [0; 2];
+        let n = unsafe {
+            ecch_journal_save(bytes.as_ptr(), bytes.len(), self.area.as_mut_ptr(), self.area.len(), answer.as_mut_ptr(), answer.len())
+        };
+        if n != 0 {
+            return Err(SaveError::JournalEnded);
+        }
+        let at = answer[1] as usize * BLOCK;
+        self.file.write_all_at(&self.area[at..at + BLOCK], at as u64).map_err(SaveError::Io)?;
+        self.file.sync_data().map_err(SaveError::Io)?;
+        Ok(answer[0])
+    }
+
+    /// The table of the latest save, or none if there was none.
+    pub fn recover(&self) -> Option<Recovered> {
+        let mut bytes = [0; IDENTIFIERS];
+        let mut number = 0;
+        let n = unsafe { ecch_journal_recover(self.area.as_ptr(), self.area.len(), bytes.as_mut_ptr(), bytes.len(), &mut number, 1) };
+        if n != 0 {
+            return None;
+        }
+        Some(Recovered { number, table: InFlight::from_bytes(&bytes)? })
+    }
+}

@@ -1,0 +1,55 @@
+-- What C hands over of P4, the bytes of a table, and what it is answered. Bytes that are no table are refused, and left as they are.
+use mathlib.Core.Path.{_≡_}
+use mathlib.Core.Bool.{Bool, true, false, cond}
+use mathlib.Core.List.{List, [], _∷_}
+use Prim.Native.Nat.{ℕ}
+use lib.Dec.{eqb, ltb}
+use lib.ListN.{length, replicate}
+use Rattle.reading.specs.Refusal.{nr}
+use Rattle.inflight.specs.Rules.{limit, free, pubcomp, isTable, claimed, call, answerBy, waiting, Says, granted, freed, moved, refused, Left, left}
+
+-- 39: not a state for each identifier
+abbrev pub badTable : List ℕ → Left
+badTable b = left b (refused (nr 39 []))
+
+-- "the table starts as 128 free places"
+unfoldable pub startGiven : List ℕ → Left
+startGiven b = cond (eqb (length b) limit) (left (replicate limit free) freed) (badTable b)
+
+-- a claim for QoS 0, 1 or 2; 01, row 11 for any other
+unfoldable pub claimGiven : ℕ → List ℕ → Left
+claimGiven q b = cond (isTable b) (cond (ltb q 3) (claimed q b) (left b (refused (nr 11 (q ∷ []))))) (badTable b)
+
+-- an acknowledgement, by the number of its kind
+unfoldable pub ackGiven : ℕ → ℕ → ℕ → List ℕ → Left
+ackGiven kind n reason b = cond (isTable b) (call (answerBy kind n reason) b) (badTable b)
+
+-- "the number waiting"; none in what is no table
+unfoldable pub waitingGiven : List ℕ → ℕ
+waitingGiven b = waiting (cond (isTable b) b (replicate limit free))
+
+-- what is returned: 0, or the refusal's number
+abbrev pub numberOf : Says → ℕ
+numberOf (granted n) = 0
+numberOf freed = 0
+numberOf moved = 0
+numberOf (refused (nr k vs)) = k
+
+-- what is stored: the identifier that was granted, or what the identifier of an answer waits for now
+abbrev pub valueOf : Says → ℕ
+valueOf (granted n) = n
+valueOf freed = free
+valueOf moved = pubcomp
+valueOf (refused k) = 0
+
+-- the table b goes on to what is left of it
+pub record Ends (l : Left) (number : ℕ) (b : List ℕ) : Type 0 where
+  pub returned : number ≡ numberOf (l .says)
+  pub table : b ≡ l .table
+
+-- the same before it is stored: t where `fine`, else b as it was
+pub record Outcomes (b : List ℕ) (l : Left) (number value : ℕ) (fine : Bool) (t : List ℕ) : Type 0 where
+  pub returned : number ≡ numberOf (l .says)
+  pub stores : value ≡ valueOf (l .says)
+  pub long : fine ≡ true → length b ≡ limit
+  pub table : cond fine t b ≡ l .table

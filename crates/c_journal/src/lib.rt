@@ -1,0 +1,167 @@
+// What C calls for P11: a journal over lent memory, and its table as the lent bytes of c_inflight. bindings/c/ecchjulmina.h says the rest.
+use inflight::LIMIT;
+use inflight::from_codes;
+use inflight::put_codes;
+use journal::Found;
+use journal::Saved;
+use journal::Started;
+use journal::is_whole;
+use journal::recover;
+use journal::save;
+use journal::start;
+use layout::store::store;
+ghost use mathlib.Core.Path.{_≡_};
+ghost use mathlib.Core.List.{_∷_, []};
+ghost use lib.ListN.{length};
+ghost use lib.Seq.{sets};
+ghost use Rattle.inflight.specs.Rules.{limit};
+ghost use Rattle.inflight.specs.Told.{waitsOf, stored};
+ghost use Rattle.journal.specs.Area.{start as startOf, recover as recoverOf};
+ghost use Rattle.journal.specs.Told.{saveOf, foundOf};
+ghost use Rattle.c_journal.specs.Given.{numberOf, firstOf, blockOf, tableOf, saveGiven, recoverNumber, roomNumber, Ends, Done};
+
+pub const BAD_AREA: u32 = 32;
+
+pub const JOURNAL_EMPTY: u32 = 33;
+
+pub const JOURNAL_ENDED: u32 = 34;
+
+// What a save returns and stores.
+struct Outcome {
+    number: u32,
+    first: u64,
+    block: u64,
+}
+
+fn save_number(s: Saved) -> u32
+    ensures { λ r. ⌜ r ≡ numberOf (saveOf s) ⌝ }
+{
+    match s {
+        Saved::Stored {
+            number: _,
+            block: _,
+        } => 0,
+        Saved::BadArea => BAD_AREA,
+        Saved::JournalEnded => JOURNAL_ENDED,
+    }
+}
+
+fn save_first(s: Saved) -> u64
+    ensures { λ r. ⌜ r ≡ firstOf (saveOf s) ⌝ }
+{
+    match s {
+        Saved::Stored { number, block: _ } => number,
+        Saved::BadArea => 0,
+        Saved::JournalEnded => 0,
+    }
+}
+
+fn save_block(s: Saved) -> u64
+    ensures { λ r. ⌜ r ≡ blockOf (saveOf s) ⌝ }
+{
+    match s {
+        Saved::Stored { number: _, block } => block as u64,
+        Saved::BadArea => 0,
+        Saved::JournalEnded => 0,
+    }
+}
+
+fn saves(codes: &[u8], area: &mut [u8]) -> Outcome
+    ensures { λ r. ⌜ Done (saveGiven (now (codes .entry)) (now (area .entry))) (r .number) (r .first) (r .block) (now (area .exit)) ⌝ }
+{
+    let given = from_codes(codes);
+    let table = given.table;
+    if given.fine {
+        let s = save(&mut *area, table);
+        return Outcome {
+            number: save_number(s),
+            first: save_first(s),
+            block: save_block(s),
+        };
+    }
+    if is_whole(&*area) {
+        return Outcome {
+            number: 39,
+            first: 0,
+            block: 0,
+        };
+    }
+    Outcome {
+        number: BAD_AREA,
+        first: 0,
+        block: 0,
+    }
+}
+
+fn found_number(f: Found) -> u32
+    ensures { λ r. ⌜ r ≡ numberOf (foundOf f []) ⌝ }
+{
+    match f {
+        Found::Number(_) => 0,
+        Found::BadArea => BAD_AREA,
+        Found::JournalEmpty => JOURNAL_EMPTY,
+    }
+}
+
+fn found_first(f: Found) -> u64
+    ensures { λ r. ⌜ r ≡ firstOf (foundOf f []) ⌝ }
+{
+    match f {
+        Found::Number(n) => n,
+        Found::BadArea => 0,
+        Found::JournalEmpty => 0,
+    }
+}
+
+// Zeroes the area: 0 or 32.
+#[no_mangle]
+pub extern "C" fn ecch_journal_start(area: &mut [u8]) -> u32
+    ensures { λ r. ⌜ Ends (startOf (now (area .entry))) r (now (area .exit)) ⌝ }
+{
+    let s = start(&mut *area);
+    match s {
+        Started::Zeroed => 0,
+        Started::BadArea => BAD_AREA,
+    }
+}
+
+// Stores the table under the next number.
+#[no_mangle]
+pub extern "C" fn ecch_journal_save(table: &[u8], area: &mut [u8], answer: &mut [u64]) -> u32
+    ensures left { λ r. ⌜ Ends (saveGiven (now (table .entry)) (now (area .entry))) r (now (area .exit)) ⌝ }
+    ensures stored { λ r. ⌜ now (answer .exit) ≡ sets (now (answer .entry)) 0 (firstOf (saveGiven (now (table .entry)) (now (area .entry)) .says) ∷ blockOf (saveGiven (now (table .entry)) (now (area .entry)) .says) ∷ []) ⌝ }
+{
+    let o = saves(table, &mut *area);
+    let numbers = [o.first, o.block];
+    store(&mut *answer, &numbers);
+    o.number
+}
+
+// The table of the latest save. 39 if the table has no room for a byte of each identifier, unless the area is bad.
+#[no_mangle]
+pub extern "C" fn ecch_journal_recover(area: &[u8], table: &mut [u8], answer: &mut [u64]) -> u32
+    ensures number { λ r. ⌜ r ≡ recoverNumber (recoverOf limit (now (area .entry))) (length (now (table .entry))) ⌝ }
+    ensures left { λ r. ⌜ now (table .exit) ≡ stored (tableOf (recoverOf limit (now (area .entry)))) (now (table .entry)) ⌝ }
+    ensures stored { λ r. ⌜ now (answer .exit) ≡ sets (now (answer .entry)) 0 (firstOf (recoverOf limit (now (area .entry))) ∷ []) ⌝ }
+{
+    let room = table.len();
+    let r = recover(area);
+    let f = r.found;
+    let t = r.table;
+    put_codes(t, &mut *table);
+    let numbers = [found_first(f)];
+    store(&mut *answer, &numbers);
+    with_room(found_number(f), room)
+}
+
+fn with_room(number: u32, room: usize) -> u32
+    ensures { λ r. ⌜ r ≡ roomNumber number room ⌝ }
+{
+    if number == BAD_AREA {
+        return BAD_AREA;
+    }
+    if room < LIMIT {
+        return 39;
+    }
+    number
+}
