@@ -11,7 +11,7 @@ ghost use lib.ListN.{take};
 ghost use Rattle.records.specs.Told.{limitOf};
 ghost use Rattle.pieces.specs.Step.{readIn, stepOf};
 ghost use Rattle.pieces.specs.Told.{toldState, toldGiven};
-ghost use Rattle.pieces_read.specs.Told.{toldAnswer, toldReply};
+ghost use Rattle.pieces_read.specs.Told.{toldAnswer, toldReply, Carries};
 
 pub enum Answer {
     // the piece is taken in, and lacks bytes of a frame
@@ -43,7 +43,8 @@ fn front(s: &[u8], n: usize) -> &[u8]
 
 // The answer to a frame that was found, read where it lies.
 fn answer_in(given: Given, limit: Limit, buffer: &[u8], piece: &[u8]) -> Answer
-    ensures { λ r. ⌜ toldAnswer r ≡ readIn (limitOf limit) (now (piece .entry)) (now (buffer .entry)) (toldGiven given) ⌝ }
+    ensures answer { λ r. ⌜ toldAnswer r ≡ readIn (limitOf limit) (now (piece .entry)) (now (buffer .entry)) (toldGiven given) ⌝ }
+    ensures carries { λ r. ⌜ Carries r ⌝ }
 {
     match given {
         Given::More => return Answer::More,
@@ -55,7 +56,8 @@ fn answer_in(given: Given, limit: Limit, buffer: &[u8], piece: &[u8]) -> Answer
 
 // The next answer, of the bytes held and the piece behind them. After `InPiece` and `InBuffer` it is called again with the rest of the piece.
 pub fn next(state: State, limit: Limit, buffer: &mut [u8], piece: &[u8]) -> Reply
-    ensures { λ r. ⌜ toldReply r (now (buffer .exit)) ≡ stepOf (toldState state) (now (buffer .entry)) (now (piece .entry)) (limitOf limit) ⌝ }
+    ensures answer { λ r. ⌜ toldReply r (now (buffer .exit)) ≡ stepOf (toldState state) (now (buffer .entry)) (now (piece .entry)) (limitOf limit) ⌝ }
+    ensures carries { λ r. ⌜ Carries (r .answer) ⌝ }
 {
     let step = pieces::next_frame(state, limit, &mut *buffer, piece);
     let given = step.given;

@@ -22,7 +22,7 @@ returns : tie.Need-returns
 returns c =
     let a = c .before .before .before .before .before .before .before .before .before .args in
     let l = limitOf (a .limit) in
-    rw (c .answer-in .ensures) (ap (readStep l (now (a .piece))) (c .before .before .before .before .before .next-frame .ensures) ∙ found-read l (now (a .piece)) (toldState (a .state)) (now (a .buffer)))
+    (rw (c .answer-in .ensures .0) (ap (readStep l (now (a .piece))) (c .before .before .before .before .before .next-frame .ensures) ∙ found-read l (now (a .piece)) (toldState (a .state)) (now (a .buffer))), c .answer-in .ensures .1)
 
 pub next-spec : {M : Type 1} → statement M
 next-spec = tie.close (tie.spec next-frame-requires answer-in-requires same-length returns)
