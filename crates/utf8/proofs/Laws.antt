@@ -267,10 +267,6 @@ text-over s i h = rw (drop-of-length-le s h) text-end
 pub going-end : {s : List ℕ} {at i : ℕ} → Going s at i → length s ≤ i → isText (drop at s) ≡ true
 going-end {s} {i = i} g h = g .rest ∙ text-over s i h
 
--- the top bits of two bytes
-pub both-low : (a b : ℕ) → bitOr a b < 128 → (a < 128) × (b < 128)
-both-low a b h = (omega (arith, or-add-and a b, and-le-r a b), omega (arith, or-add-and a b, and-le-l a b))
-
 -- ---- bytes that are all ASCII
 
 pub and-both : (a b : Bool) → (a && b) ≡ true → (a ≡ true) × (b ≡ true)

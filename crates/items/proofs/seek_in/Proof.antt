@@ -1,6 +1,5 @@
 -- `items::seek_in` is right since each turn passes one property, which was not met before, and what is left decides. Assumes nothing.
 use borrow.Author.Needs.{needs}
-use denote.Ref.{now}
 use lib.ListN.{length}
 use native.Mathlib.Omega.{arith}
 use Prim.Native.Nat.{_-_}

@@ -1,5 +1,5 @@
 -- `utf8::is_all_ascii` meets its contract. The loop's invariant: the bytes from the i-th on decide; then the last sixteen do. Assumes nothing.
-use mathlib.Core.Path.{_≡_, refl, sym, ap, _∙_}
+use mathlib.Core.Path.{_≡_, refl, sym, _∙_}
 use Prim.Native.Nat.{_+_, _≤_, _-_}
 use native.Mathlib.Omega.{arith}
 use lib.ListN.{length, drop}
