@@ -61,7 +61,7 @@ impl std::error::Error for AliasError {}
 
 /// The topics of one connection by their aliases, 1 to 16; topics of up to 128 bytes have one. Every Publish of the connection is to be
 /// learnt, in the order of the stream.
-#[derive(Clone)]
+#[derive(Clone, Debug, PartialEq, Eq)]
 pub struct Aliases {
     table: [u8; ECCH_ALIAS_TABLE_LEN],
 }

@@ -162,3 +162,17 @@ worked-valid = refl
 pub worked-invalid : every (λ (f : List ℕ). not (validFilter f)) invalid ≡ true
 unfolding levels lone hasWild levelsFine validFilter joined
 worked-invalid = refl
+
+-- ---- the three characters themselves, spelled as bytes: a/b, a.b, a/+, #
+
+pub worked-cut : levels (97 ∷ 47 ∷ 98 ∷ []) ≡ (97 ∷ []) ∷ (98 ∷ []) ∷ []
+unfolding levels
+worked-cut = refl
+
+pub worked-uncut : levels (97 ∷ 46 ∷ 98 ∷ []) ≡ (97 ∷ 46 ∷ 98 ∷ []) ∷ []
+unfolding levels
+worked-uncut = refl
+
+pub worked-spelled : every (λ (f : List ℕ). matchesOf (97 ∷ 47 ∷ 98 ∷ []) f) ((97 ∷ 47 ∷ 43 ∷ []) ∷ (35 ∷ []) ∷ (97 ∷ 47 ∷ 98 ∷ []) ∷ []) ≡ true
+unfolding levels lone same restMatches matchesOf
+worked-spelled = refl
