@@ -15,7 +15,7 @@ ghost use Prim.Native.Nat.{_≤_, _<_};
 fn frame(words: &[u8], r: Read) {
     io::write_all(1, words);
     match r {
-        Read::Packet(_, taken) => said(0, taken),
+        Read::Packet(_, _, taken) => said(0, taken),
         Read::Refused(e, taken) => said(refusals::number(e), taken),
     }
 }

@@ -160,7 +160,7 @@ fn plan_run(s: &[u8], p: Span, places: usize) -> Plan
 }
 
 // The plan for the frame at the start of s, read with no limit, and a table of so many places.
-pub fn plan_of(s: &[u8], places: usize) -> Plan
+fn plan_of(s: &[u8], places: usize) -> Plan
     ensures { λ r. ⌜ PlanIs (now (s .entry)) places (r .answer) (r .at) (r .end) (r .count) ⌝ }
 {
     match packet::read(s, Limit::Unlimited) {
