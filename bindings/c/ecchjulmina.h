@@ -559,8 +559,8 @@ enum ecch_table_refusal {
 
 /* ---- the client's record of outgoing messages that await an answer (P4 of 02). The table is `table`, a lent byte for each identifier from 1
    to ECCH_IDENTIFIERS: table[n - 1] is 0 if identifier n is free, 1, 2 or 3 if it waits for PubAck, PubRec or PubComp. Bytes of another
-   length, or with another number among them, are no table: ECCH_BAD_TABLE, and they are left as they are. A refused call changes
-   nothing. `answer` is one number. */
+   length, or with another number among them, are no table: ECCH_BAD_TABLE, and they are left as they are. A refused call leaves
+   the table as it was and sets `answer`, which is one number, to 0. */
 enum ecch_inflight { ECCH_IDENTIFIERS = 1024 };
 enum ecch_inflight_refusal {
     ECCH_IN_FLIGHT_FULL = 29,
@@ -599,11 +599,12 @@ enum ecch_journal_refusal {
 uint32_t ecch_journal_start(uint8_t *area, size_t area_len);
 
 /* Stores the table under the next number. `answer` is two numbers: the save's, and which block of 512 bytes, from 0, it stored: with the area in a
-   file, write these 512 bytes and no others. 34 after the largest 64-bit number, 39 if `table` is no table; nothing is stored then. */
+   file, write these 512 bytes and no others. 34 after the largest 64-bit number, 39 if `table` is no table; the area stays then,
+   and `answer` is 0, 0. If writing the block to the file fails, put its 512 bytes back as they were before the next save: the save was not made. */
 uint32_t ecch_journal_save(const uint8_t *table, size_t table_len, uint8_t *area, size_t area_len, uint64_t *answer, size_t answer_len);
 
-/* The table of the latest good save into `table`, and its number into `answer`. 33 if there is none: a fresh table. 39 if `table` has fewer
-   than ECCH_IDENTIFIERS bytes, which are left as they are. */
+/* The table of the latest good save into the first ECCH_IDENTIFIERS bytes of `table`, and its number into `answer`. 33 if there is none: a fresh
+   table. 32 for a bad area, and 39 if `table` has fewer bytes: it is left as it was. */
 uint32_t ecch_journal_recover(const uint8_t *area, size_t area_len, uint8_t *table, size_t table_len, uint64_t *answer, size_t answer_len);
 
 /* A pointer for what has length 0: aligned, and not NULL. C++ needs a cast to the type of the parameter. */

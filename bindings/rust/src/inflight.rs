@@ -78,17 +78,19 @@ impl InFlight {
         match n as usize {
             0 => Ok(id as u16),
             ECCH_IN_FLIGHT_FULL => Err(ClaimError::InFlightFull),
-            _ => Err(ClaimError::NoClaim),
+            ECCH_NO_CLAIM => Err(ClaimError::NoClaim),
+            n => panic!("ecch_inflight_claim gave {n}"),
         }
     }
 
     fn acked(&mut self, kind: usize, id: u16, reason: u8) -> Result<Answered, NotWaiting> {
         let mut now = 0;
         let n = unsafe { ecch_inflight_acked(kind as u8, id, reason, self.table.as_mut_ptr(), self.table.len(), &mut now, 1) };
-        match (n, now) {
+        match (n as usize, now) {
             (0, 0) => Ok(Answered::Freed),
-            (0, _) => Ok(Answered::Moved),
-            _ => Err(NotWaiting),
+            (0, 3) => Ok(Answered::Moved),
+            (ECCH_NOT_WAITING, _) => Err(NotWaiting),
+            (n, now) => panic!("ecch_inflight_acked gave {n} and {now}"),
         }
     }
 

@@ -54,19 +54,22 @@ impl Journal {
         Ok(Journal { file, area })
     }
 
-    /// Stores the table under the next number, which is the answer.
+    /// Stores the table under the next number, which is the answer. Until the block is on the disk the save counts as not made: after an
+    /// error the next one takes the same number and the same block again, and what was saved before stays.
     pub fn save(&mut self, table: &InFlight) -> Result<u64, SaveError> {
         let bytes = table.as_bytes();
         let mut answer = [0; 2];
-        let n = unsafe {
-            ecch_journal_save(bytes.as_ptr(), bytes.len(), self.area.as_mut_ptr(), self.area.len(), answer.as_mut_ptr(), answer.len())
-        };
-        if n != 0 {
-            return Err(SaveError::JournalEnded);
+        let mut area = self.area.clone();
+        let n = unsafe { ecch_journal_save(bytes.as_ptr(), bytes.len(), area.as_mut_ptr(), area.len(), answer.as_mut_ptr(), answer.len()) };
+        match n as usize {
+            0 => {}
+            ECCH_JOURNAL_ENDED => return Err(SaveError::JournalEnded),
+            n => panic!("ecch_journal_save gave {n}"),
         }
         let at = answer[1] as usize * BLOCK;
-        self.file.write_all_at(&self.area[at..at + BLOCK], at as u64).map_err(SaveError::Io)?;
+        self.file.write_all_at(&area[at..at + BLOCK], at as u64).map_err(SaveError::Io)?;
         self.file.sync_data().map_err(SaveError::Io)?;
+        self.area = area;
         Ok(answer[0])
     }
 
@@ -75,9 +78,10 @@ impl Journal {
         let mut bytes = [0; IDENTIFIERS];
         let mut number = 0;
         let n = unsafe { ecch_journal_recover(self.area.as_ptr(), self.area.len(), bytes.as_mut_ptr(), bytes.len(), &mut number, 1) };
-        if n != 0 {
-            return None;
+        match n as usize {
+            0 => Some(Recovered { number, table: InFlight::from_bytes(&bytes).expect("a table") }),
+            ECCH_JOURNAL_EMPTY => None,
+            n => panic!("ecch_journal_recover gave {n}"),
         }
-        Some(Recovered { number, table: InFlight::from_bytes(&bytes)? })
     }
 }

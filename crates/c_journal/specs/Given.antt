@@ -37,6 +37,10 @@ tableOf (saved n i) = replicate limit free
 tableOf (recovered n t) = t
 tableOf (refused k) = replicate limit free
 
+-- 02, P11: "any other length gets BadArea before all else, nothing changed": the lent table then stays as it was
+abbrev pub unlessBadArea : ℕ → List ℕ → List ℕ → List ℕ
+unlessBadArea number after before = cond (eqb number 32) before after
+
 -- BadArea before all else; 39 for bytes that are no table
 unfoldable pub saveGiven : List ℕ → List ℕ → Left
 saveGiven b a = cond (isTable b) (save limit b a) (cond (whole a) (left a (refused (nr 39 []))) (left a badArea))

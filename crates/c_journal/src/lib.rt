@@ -1,4 +1,5 @@
 // What C calls for P11: a journal over lent memory, and its table as the lent bytes of c_inflight. bindings/c/ecchjulmina.h says the rest.
+use inflight::InFlight;
 use inflight::LIMIT;
 use inflight::from_codes;
 use inflight::put_codes;
@@ -18,7 +19,7 @@ ghost use Rattle.inflight.specs.Rules.{limit};
 ghost use Rattle.inflight.specs.Told.{waitsOf, stored};
 ghost use Rattle.journal.specs.Area.{start as startOf, recover as recoverOf};
 ghost use Rattle.journal.specs.Told.{saveOf, foundOf};
-ghost use Rattle.c_journal.specs.Given.{numberOf, firstOf, blockOf, tableOf, saveGiven, recoverNumber, roomNumber, Ends, Done};
+ghost use Rattle.c_journal.specs.Given.{numberOf, firstOf, blockOf, tableOf, saveGiven, unlessBadArea, recoverNumber, roomNumber, Ends, Done};
 
 pub const BAD_AREA: u32 = 32;
 
@@ -141,17 +142,27 @@ pub extern "C" fn ecch_journal_save(table: &[u8], area: &mut [u8], answer: &mut 
 #[no_mangle]
 pub extern "C" fn ecch_journal_recover(area: &[u8], table: &mut [u8], answer: &mut [u64]) -> u32
     ensures number { λ r. ⌜ r ≡ recoverNumber (recoverOf limit (now (area .entry))) (length (now (table .entry))) ⌝ }
-    ensures left { λ r. ⌜ now (table .exit) ≡ stored (tableOf (recoverOf limit (now (area .entry)))) (now (table .entry)) ⌝ }
+    ensures left { λ r. ⌜ now (table .exit) ≡ unlessBadArea (numberOf (recoverOf limit (now (area .entry)))) (stored (tableOf (recoverOf limit (now (area .entry)))) (now (table .entry))) (now (table .entry)) ⌝ }
     ensures stored { λ r. ⌜ now (answer .exit) ≡ sets (now (answer .entry)) 0 (firstOf (recoverOf limit (now (area .entry))) ∷ []) ⌝ }
 {
     let room = table.len();
     let r = recover(area);
     let f = r.found;
     let t = r.table;
-    put_codes(t, &mut *table);
+    let number = found_number(f);
+    put_found(number, t, &mut *table);
     let numbers = [found_first(f)];
     store(&mut *answer, &numbers);
-    with_room(found_number(f), room)
+    with_room(number, room)
+}
+
+// The table that was found, put into the lent bytes; a bad area leaves them as they were.
+fn put_found(number: u32, t: InFlight, table: &mut [u8])
+    ensures { λ r. ⌜ now (table .exit) ≡ unlessBadArea number (stored (waitsOf t) (now (table .entry))) (now (table .entry)) ⌝ }
+{
+    if number != BAD_AREA {
+        put_codes(t, &mut *table);
+    }
 }
 
 fn with_room(number: u32, room: usize) -> u32
