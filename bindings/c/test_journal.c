@@ -85,7 +85,8 @@ static void refusals(void) {
         EXPECT(ecch_journal_start(area, len) == ECCH_BAD_AREA && area[0] == 7);
         EXPECT(ecch_journal_save(table, sizeof table, area, len, answer, 2) == ECCH_BAD_AREA && area[0] == 7);
         EXPECT(ecch_journal_save(table, 1, area, len, answer, 2) == ECCH_BAD_AREA);
-        EXPECT(recovered(area, len, &number) == ECCH_BAD_AREA);
+        memset(back, 2, sizeof back);
+        EXPECT(recovered(area, len, &number) == ECCH_BAD_AREA && back[0] == 2 && back[ECCH_IDENTIFIERS - 1] == 2);
     }
     ecch_journal_start(area, 2 * BLOCK);
     EXPECT(ecch_journal_save(table, sizeof table - 1, area, 2 * BLOCK, answer, 2) == ECCH_BAD_TABLE && area[7] == 0);

@@ -1,4 +1,4 @@
-/* ecch_next_frame: a stream of 38 bytes cut in two at every place and into pieces of every size, each frame read where it lies, against the
+/* ecch_next_frame: a stream of 35 bytes cut in two at every place and into pieces of every size, each frame read where it lies, against the
  * same frames read from the whole; the refusals 2, 3, 35 and 36, repeated; and numbers that are no state. One line for each case that fails,
  * and a last line with the count. */
 #include "ecchjulmina.h"

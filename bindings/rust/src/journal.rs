@@ -85,3 +85,50 @@ impl Journal {
         }
     }
 }
+
+#[cfg(test)]
+mod tests {
+    use super::*;
+    use crate::QoS;
+
+    fn path(name: &str) -> std::path::PathBuf {
+        std::env::temp_dir().join(format!("ecchjulmina-{name}-{}", std::process::id()))
+    }
+
+    /// A block that could not be written is no save: the area stays, and the next save takes the same number.
+    #[test]
+    fn a_failed_write_is_no_save() {
+        let path = path("failed");
+        let mut journal = Journal::start(&path, 2).unwrap();
+        let mut table = InFlight::new();
+        table.claim(QoS::AtLeastOnce).unwrap();
+        assert_eq!(journal.save(&table).unwrap(), 1);
+        let saved = table.clone();
+        let area = journal.area.clone();
+        journal.file = File::open(&path).unwrap();
+        table.claim(QoS::ExactlyOnce).unwrap();
+        for _ in 0..2 {
+            assert!(matches!(journal.save(&table), Err(SaveError::Io(_))));
+            assert_eq!(journal.area, area);
+            assert_eq!(journal.recover(), Some(Recovered { number: 1, table: saved.clone() }));
+        }
+        journal.file = OpenOptions::new().read(true).write(true).open(&path).unwrap();
+        assert_eq!(journal.save(&table).unwrap(), 2);
+        assert_eq!(Journal::open(&path).unwrap().recover(), Some(Recovered { number: 2, table }));
+        std::fs::remove_file(path).unwrap();
+    }
+
+    /// An area made by Python's zlib, whose last save has the largest number: a save is refused, and stores nothing.
+    #[test]
+    fn the_largest_number_ends_the_journal() {
+        let path = path("ended");
+        let made = include_bytes!("../../../crates/show_journal/data/area1024.bin");
+        std::fs::write(&path, made).unwrap();
+        let mut journal = Journal::open(&path).unwrap();
+        assert_eq!(journal.recover().unwrap().number, u64::MAX);
+        assert!(matches!(journal.save(&InFlight::new()), Err(SaveError::JournalEnded)));
+        assert_eq!(journal.area, made);
+        assert_eq!(std::fs::read(&path).unwrap(), made);
+        std::fs::remove_file(path).unwrap();
+    }
+}
