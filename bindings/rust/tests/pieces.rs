@@ -111,18 +111,121 @@ fn every_cut() {
     assert_eq!(cuts, 991_672);
 }
 
-/// The sample file, at every place, in pieces of every size up to 70, and a few larger.
+/// The sample files, at every place, in pieces of every size up to 70, and a few larger.
 #[test]
-fn the_sample() {
-    let s = std::fs::read(concat!(env!("CARGO_MANIFEST_DIR"), "/../../samples/armouring-line.mqtt")).unwrap();
-    for room in [5, 64, 300, 65_536] {
-        let all = whole(&s, None, room);
-        for i in 0..=s.len().min(2_000) {
-            assert_eq!(cut(&[&s[..i], &s[i..]], None, room), all);
+fn the_samples() {
+    for name in ["armouring-line", "short-topics"] {
+        let s = std::fs::read(format!("{}/../../samples/{name}.mqtt", env!("CARGO_MANIFEST_DIR"))).unwrap();
+        assert!(s.len() < 2_000);
+        for room in [5, 64, 300, 65_536] {
+            let all = whole(&s, None, room);
+            for i in 0..=s.len() {
+                assert_eq!(cut(&[&s[..i], &s[i..]], None, room), all);
+            }
+            for size in (1..70).chain([100, 1_000, 65_536]) {
+                assert_eq!(cut(&s.chunks(size).collect::<Vec<_>>(), None, room), all, "{name} {size}");
+            }
         }
-        for size in (1..70).chain([100, 1_000, 65_536]) {
-            assert_eq!(cut(&s.chunks(size).collect::<Vec<_>>(), None, room), all, "{size}");
+    }
+}
+
+/// The streams of the rows of the program corpus that are reads (oracle/README.md has the file's form).
+fn corpus() -> Vec<Vec<u8>> {
+    let file = std::fs::read(concat!(env!("CARGO_MANIFEST_DIR"), "/../../crates/corpus/data/answers.bin")).unwrap();
+    let mut at = 4;
+    let number = |at: &mut usize, n: usize| {
+        *at += n;
+        file[*at - n..*at].iter().fold(0, |v, b| v << 8 | *b as usize)
+    };
+    let run = |at: &mut usize| {
+        let n = number(at, 4);
+        *at += n;
+        *at - n..*at
+    };
+    let lengths = |at: &mut usize| *at += 4 * number(at, 2);
+    let answer = |at: &mut usize| {
+        number(at, 1);
+        *at += 5 * number(at, 1);
+    };
+    let mut streams = Vec::new();
+    for _ in 0..number(&mut 0, 4) {
+        let kind = number(&mut at, 1);
+        at += 8;
+        match kind {
+            1 => {
+                at += 5;
+                streams.push(file[run(&mut at)].to_vec());
+            }
+            2 => {
+                at += 14;
+                run(&mut at);
+            }
+            _ => {
+                let fields = match kind {
+                    3 => "5r12r1rrll1rr",
+                    4..=7 => "5rrl",
+                    8 => "8rlrlr",
+                    9 | 11 => "4rrlr",
+                    10 => "3rlrl",
+                    _ => "",
+                };
+                let mut count = 0;
+                for c in fields.chars().chain(['1', '0']) {
+                    if let Some(d) = c.to_digit(10) {
+                        count = 10 * count + d as usize;
+                        continue;
+                    }
+                    at += std::mem::take(&mut count);
+                    if c == 'r' {
+                        run(&mut at);
+                    } else {
+                        lengths(&mut at);
+                    }
+                }
+                at += count;
+                answer(&mut at);
+            }
         }
+        answer(&mut at);
+        if kind > 2 {
+            run(&mut at);
+        }
+    }
+    assert_eq!(at, file.len());
+    streams
+}
+
+/// The corpus's streams, each cut at every place, and joined at random and cut at random.
+#[test]
+fn the_corpus() {
+    let streams = corpus();
+    assert_eq!(streams.len(), 18_548);
+    let mut seed = 0x0123_4567_89AB_CDEFu64;
+    let mut below = move |n: usize| {
+        seed ^= seed << 13;
+        seed ^= seed >> 7;
+        seed ^= seed << 17;
+        (seed % n as u64) as usize
+    };
+    for s in &streams {
+        let room = 5 + below(40);
+        let all = whole(s, None, room);
+        for i in 0..=s.len() {
+            assert_eq!(cut(&[&s[..i], &s[i..]], None, room), all, "{s:02X?} {i} {room}");
+        }
+    }
+    for _ in 0..20_000 {
+        let s: Vec<u8> = (0..below(30)).flat_map(|_| streams[below(streams.len())].clone()).collect();
+        let room = 5 + below(100);
+        let limit = [None, Some(below(40))][below(2)];
+        let mut pieces: Vec<&[u8]> = Vec::new();
+        let mut at = 0;
+        while at < s.len() {
+            let n = below(20).min(s.len() - at);
+            pieces.push(&s[at..at + n]);
+            at += n;
+        }
+        assert_eq!(cut(&pieces, limit, room), whole(&s, limit, room));
     }
 }
 
