@@ -5,6 +5,7 @@ pub mod Kept
 pub mod Latest
 pub mod Limits
 pub mod Places
+pub mod Raised
 pub mod Theorems
 pub mod Turns
 pub mod Told
