@@ -1,5 +1,6 @@
 pub mod Bytes
 pub mod Finding
+pub mod First
 pub mod Good
 pub mod Kept
 pub mod Latest
