@@ -4,6 +4,7 @@ pub mod First
 pub mod Good
 pub mod Kept
 pub mod Latest
+pub mod Life
 pub mod Limits
 pub mod Places
 pub mod Raised

@@ -7,12 +7,13 @@ use mathlib.Core.Option.{Option}
 use Prim.Native.Nat.{ℕ, zero, suc, _+_, _*_, _-_, _^_, _<_, _≤_}
 use native.Mathlib.Omega.{arith}
 use lib.ListN.{length, getD, replicate, length-append, length-replicate}
-use Rattle.inflight.specs.Rules.{limit}
+use Rattle.inflight.specs.Rules.{limit, waiting, oneIfWaits}
+use Rattle.inflight.proofs.Theorems.{none-waiting}
 use Rattle.crc32.specs.Crc.{crcOf}
 use Rattle.journal.specs.Block.{each, bytesOf, packedAt, bodyOf, blockOf}
 use Rattle.journal.specs.Area.{latestIn, highest, stored, Says, recovered, recover}
-use Rattle.journal.specs.History.{Table, widened, next, Cut, Lived, Allows, asItWas, asItShouldBe, notGood}
-use Rattle.journal.proofs.Theorems.{latest-both, cut-recovers, allows-lived, raised-recovers}
+use Rattle.journal.specs.History.{Table, widened, next, Cut, Lived, Allows, asItWas, asItShouldBe, notGood, Life}
+use Rattle.journal.proofs.Theorems.{latest-both, cut-recovers, allows-lived, raised-recovers, old-area-recovers}
 
 -- ---- free places more make the same block
 
@@ -122,3 +123,15 @@ old-area-lives {k} two v = lived-raised 128 limit k two (omega arith) (omega ari
 
 pub old-area-allows : {k : ℕ} {a : List ℕ} {s : List Says} → 2 ≤ k → Allows 128 limit k a s → Allows limit limit k a (map (widened 896) s)
 old-area-allows {k} two v = allows-raised 128 limit k two (omega arith) (omega arith) v
+
+-- P4's count goes on from what waits in the old area's table
+wide-waiting : (t : List ℕ) (d : ℕ) → waiting (t ++ replicate d 0) ≡ waiting t
+unfolding waiting
+wide-waiting [] d = none-waiting d
+wide-waiting (x ∷ t) d = ap (λ (n : ℕ). oneIfWaits x + n) (wide-waiting t d)
+
+pub old-area-life : {k n : ℕ} {a u : List ℕ} → 2 ≤ k → Lived 128 limit k a → recover 128 a ≡ recovered n u
+    → Life limit limit k a (u ++ replicate 896 0) (waiting u) 0 0
+old-area-life {k} {n} {a} {u} two v e =
+    subst (λ (s : ℕ). Life limit limit k a (u ++ replicate 896 0) s 0 0) (wide-waiting u 896)
+    (Life.taken {n = n} (old-area-lives two v) (old-area-recovers two v ∙ ap (widened 896) e))

@@ -248,9 +248,11 @@ old-area-recovers {k} two v = raised-recovers 128 limit k two (omega arith) (ome
 -- "The history that P4 counts starts afresh at a recovery, with the recovered table's waiting number added."
 pub life-counts : {l r k : ℕ} {a t : List ℕ} {s g f : ℕ} → Life l r k a t s g f → waiting t + f ≡ s + g
 life-counts {l} Life.begun = let e : waiting (replicate l free) ≡ 0 = none-waiting l in omega (arith, e)
+life-counts (Life.taken v e) = omega arith
 life-counts (Life.called {t = t} c v) =
     let h : waiting (call c t .table) + oneIfFreed (call c t .says) ≡ waiting t + oneIfGranted (call c t .says) = call-balanced c t in
     let ih : _ = life-counts v in
     omega (arith, h, ih)
 life-counts (Life.kept v) = life-counts v
 life-counts (Life.back v c e) = omega arith
+life-counts {l} (Life.anew v c q) = let e : waiting (replicate l free) ≡ 0 = none-waiting l in omega (arith, e)
