@@ -1,10 +1,13 @@
 pub mod Bytes
 pub mod Finding
+pub mod First
 pub mod Good
 pub mod Kept
 pub mod Latest
+pub mod Life
 pub mod Limits
 pub mod Places
+pub mod Raised
 pub mod Theorems
 pub mod Turns
 pub mod Told

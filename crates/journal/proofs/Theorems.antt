@@ -192,6 +192,13 @@ module _ (l r k : ℕ) (two : 2 ≤ k) (low : l ≤ r) (high : r ≤ 1024) where
   unfolding recoveredFrom
   some-raised c g = ap (recovered (numberOf c)) (table-raised l r c low high g)
 
+  -- the latest block is the same under both limits
+  pub latest-both : {a : List ℕ} → Lived l r k a → latestIn r a ≡ latestIn l a
+  latest-both {a} v =
+      latest-is r k a (lived-kept v .size)
+      ∙ latest-raised (blocks k a) (λ j h. lived-kept v .agree j (rw (length-blocks k a) at h))
+      ∙ sym (latest-is l k a (lived-kept v .size))
+
   pub raised-recovers : {a : List ℕ} → Lived l r k a → recover r a ≡ widened (r - l) (recover l a)
   raised-recovers {a} v =
       recover-is r a (kept .size) ∙ ap (recoveredFrom r) same ∙ go (latest l (blocks k a)) refl
@@ -202,9 +209,7 @@ module _ (l r k : ℕ) (two : 2 ≤ k) (low : l ≤ r) (high : r ≤ 1024) where
       kept = lived-kept v
 
       same : latestIn r a ≡ latest l (blocks k a)
-      same =
-          latest-is r k a (kept .size)
-          ∙ latest-raised (blocks k a) (λ j h. kept .agree j (rw (length-blocks k a) at h))
+      same = latest-both v ∙ latest-is l k a (kept .size)
 
       go : (m : Option (List ℕ)) → latest l (blocks k a) ≡ m → recoveredFrom r (latest l (blocks k a)) ≡ widened (r - l) (recoveredFrom l (latest l (blocks k a)))
       go none p = rw p (none-raised)
@@ -212,7 +217,7 @@ module _ (l r k : ℕ) (two : 2 ≤ k) (low : l ≤ r) (high : r ≤ 1024) where
 
   -- ---- any history at once
 
-  allows-lived : {a : List ℕ} {s : List Says} → Allows l r k a s → Lived l r k a
+  pub allows-lived : {a : List ℕ} {s : List Says} → Allows l r k a s → Lived l r k a
   allows-lived Allows.started = Lived.started
   allows-lived (Allows.saved t v f h) = Lived.saved t (allows-lived v) f h
   allows-lived (Allows.cut t v f h c) = Lived.cut t (allows-lived v) f h c
@@ -243,9 +248,11 @@ old-area-recovers {k} two v = raised-recovers 128 limit k two (omega arith) (ome
 -- "The history that P4 counts starts afresh at a recovery, with the recovered table's waiting number added."
 pub life-counts : {l r k : ℕ} {a t : List ℕ} {s g f : ℕ} → Life l r k a t s g f → waiting t + f ≡ s + g
 life-counts {l} Life.begun = let e : waiting (replicate l free) ≡ 0 = none-waiting l in omega (arith, e)
+life-counts (Life.taken v e) = omega arith
 life-counts (Life.called {t = t} c v) =
     let h : waiting (call c t .table) + oneIfFreed (call c t .says) ≡ waiting t + oneIfGranted (call c t .says) = call-balanced c t in
     let ih : _ = life-counts v in
     omega (arith, h, ih)
 life-counts (Life.kept v) = life-counts v
 life-counts (Life.back v c e) = omega arith
+life-counts {l} (Life.anew v c q) = let e : waiting (replicate l free) ≡ 0 = none-waiting l in omega (arith, e)

@@ -49,12 +49,21 @@ widened d (Says.saved n i) = Says.saved n i
 widened d (refused k) = refused k
 widened d (recovered n t) = recovered n (t ++ replicate d 0)
 
--- a client's life with a journal: calls, saves, and cuts each followed by a recovery. "The history that P4 counts starts afresh at a
--- recovery, with the recovered table's waiting number added": the area, the table, what was there at the start, claims granted, answers
--- that freed one
+-- the area a when the power goes: during a save of t, or between calls. "A save after the largest 64-bit number .. stores nothing", so
+-- no save is under way then
+pub data Stop (l r k : ℕ) (a t : List ℕ) : List ℕ → Type 0 where
+  between : Stop l r k a t a
+  during : {b : List ℕ} → next l a < 2 ^ 64 → Cut l r k a t b → Stop l r k a t b
+
+-- a client's life with a journal: calls, saves, and stops each followed by a recovery; where that says JournalEmpty, a fresh table. "The
+-- history that P4 counts starts afresh at a recovery, with the recovered table's waiting number added": the area, the table, what was
+-- there at the start, claims granted, answers that freed one. A life begins with a start, or with an area that has lived (P12: perhaps
+-- under another limit) and its recovery
 pub data Life (l r k : ℕ) : List ℕ → List ℕ → ℕ → ℕ → ℕ → Type 0 where
   begun : Life l r k (replicate (k * 512) 0) (replicate l free) 0 0 0
+  taken : {a u : List ℕ} {n : ℕ} → Lived l r k a → recover l a ≡ recovered n u → Life l r k a u (waiting u) 0 0
   called : {a t : List ℕ} {s g f : ℕ} (c : Call) → Life l r k a t s g f
       → Life l r k a (call c t .table) s (g + oneIfGranted (call c t .says)) (f + oneIfFreed (call c t .says))
   kept : {a t : List ℕ} {s g f : ℕ} → Life l r k a t s g f → Life l r k (save l t a .area) t s g f
-  back : {a b t u : List ℕ} {s g f n : ℕ} → Life l r k a t s g f → Cut l r k a t b → recover l b ≡ recovered n u → Life l r k b u (waiting u) 0 0
+  back : {a b t u : List ℕ} {s g f n : ℕ} → Life l r k a t s g f → Stop l r k a t b → recover l b ≡ recovered n u → Life l r k b u (waiting u) 0 0
+  anew : {a b t : List ℕ} {s g f : ℕ} → Life l r k a t s g f → Stop l r k a t b → recover l b ≡ journalEmpty → Life l r k b (replicate l free) 0 0 0
