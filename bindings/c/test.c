@@ -488,7 +488,9 @@ static void names(void) {
     static const char *const all[] = {
         "", "InsufficientBytes", "MalformedRemainingLength", "PayloadSizeLimitExceeded", "InvalidPacketType", "PayloadRequired", "KindNotCarried", "MalformedPacket",
         "BoundaryCrossed", "TopicNotUtf8", "InvalidPropertyType", "InvalidQoS", "PacketIdZero", "EmptySubscription", "InvalidRetainForwardRule", "InvalidReason",
-        "OutgoingPacketTooLarge", "PayloadTooLong", "StringTooLong", "NoRoom", "ListMismatch", "NoItem", "DuplicateProperty", "SubscriptionIdZero", ""};
+        "OutgoingPacketTooLarge", "PayloadTooLong", "StringTooLong", "NoRoom", "ListMismatch", "NoItem", "DuplicateProperty", "SubscriptionIdZero",
+        "AliasTableBad", "AliasInvalid", "TopicMissing", "AliasUnknown", "AliasNoRoom", "InFlightFull", "NoClaim", "NotWaiting", "BadArea", "JournalEmpty", "JournalEnded",
+        "BadBuffer", "FrameTooLong", "FilterTableFull", "NotSubscribe", "BadTable", ""};
     uint8_t name[25];
     uint32_t i;
     for (i = 0; i < sizeof all / sizeof *all; i++) {
