@@ -16,7 +16,7 @@ use Rattle.pieces.specs.declared.State.{State}
 use Rattle.pieces_read.specs.Told.{toldAnswer, toldReply}
 use Rattle.pieces_read.specs.declared.Reply.{Reply}
 
--- the contract of `next`: the reply r, and the buffer b′ afterwards
+-- the first clause of the contract of `next`: the reply r, and the buffer b′ afterwards; the second (`Carries`) fixes P7's two numbers
 abbrev pub Meets : Limit → State → List ℕ → List ℕ → Reply → List ℕ → Type 0
 Meets limit st b p r b′ = toldReply r b′ ≡ stepOf (toldState st) b p (limitOf limit)
 
