@@ -1,99 +1,45 @@
--- `names::name_at` is right since each row has its own arm; a number that is left over has no row. Assumes nothing.
-use mathlib.Core.List.{_∷_}
+-- `names::name_at` is right since every row of its table is the name of its number, which is computed. Assumes nothing.
+use mathlib.Core.Path.{refl, sym, ap}
 use borrow.Author.Needs.{needs}
-use Rattle.names.specs.Names.{names, nameAt}
-use Rattle.names.proofs.Laws.{past-places}
+use Rattle.names.specs.Names.{names, nameAt, padded}
+use Rattle.names.proofs.Laws.{row-named, unnamed}
 use Rattle.names.proofs.name_at.Statement.{statement}
 use Rattle.names.proofs.name_at.Tie as tie
 
-left-over : tie.Need-returns-41
+returns : tie.Need-returns
+returns c = ap padded (sym (unnamed (c .before .args .number) (search needs)))
+
+slice-aggregate-rows : tie.Need-slice-aggregate-rows
+slice-aggregate-rows c = search needs
+
+mul-at : tie.Need-mul-at
+mul-at c = search needs
+
+add-letters : tie.Need-add-letters
+add-letters c = search needs
+
+letters-requires : tie.Need-letters-requires
+letters-requires c κs = search needs
+
+shared-slice-read-wide : tie.Need-shared-slice-read-wide
+shared-slice-read-wide c = search needs
+
+wide-requires : tie.Need-wide-requires
+wide-requires c κs = search needs
+
+returns-2 : tie.Need-returns-2
 unfolding names nameAt
-left-over c = rw (past-places ("" ∷ names) "" (c .before .before .args .number) (c .before .match .rest)) (c .named41 .ensures)
+returns-2 c = row-named _ (c .before .before .before .before .before .args .number) (search needs) (c .before .before .letters .ensures) (c .wide .ensures) refl
 
 pub name-at-spec : {M : Type 1} → statement M
-unfolding names nameAt
 name-at-spec =
     tie.close
     (tie.spec
-    (λ c κs. search needs)
-    (λ c κs. search needs)
-    (λ c κs. search needs)
-    (λ c κs. search needs)
-    (λ c κs. search needs)
-    (λ c κs. search needs)
-    (λ c κs. search needs)
-    (λ c κs. search needs)
-    (λ c κs. search needs)
-    (λ c κs. search needs)
-    (λ c κs. search needs)
-    (λ c κs. search needs)
-    (λ c κs. search needs)
-    (λ c κs. search needs)
-    (λ c κs. search needs)
-    (λ c κs. search needs)
-    (λ c κs. search needs)
-    (λ c κs. search needs)
-    (λ c κs. search needs)
-    (λ c κs. search needs)
-    (λ c κs. search needs)
-    (λ c κs. search needs)
-    (λ c κs. search needs)
-    (λ c κs. search needs)
-    (λ c κs. search needs)
-    (λ c κs. search needs)
-    (λ c κs. search needs)
-    (λ c κs. search needs)
-    (λ c κs. search needs)
-    (λ c κs. search needs)
-    (λ c κs. search needs)
-    (λ c κs. search needs)
-    (λ c κs. search needs)
-    (λ c κs. search needs)
-    (λ c κs. search needs)
-    (λ c κs. search needs)
-    (λ c κs. search needs)
-    (λ c κs. search needs)
-    (λ c κs. search needs)
-    (λ c κs. search needs)
-    (λ c κs. search needs)
-    (λ c. rw (c .before .match .keys1) (c .named .ensures))
-    (λ c. rw (c .before .before .before .match .keys2) (c .named2 .ensures))
-    (λ c. rw (c .before .before .before .match .keys3) (c .named3 .ensures))
-    (λ c. rw (c .before .before .before .match .keys4) (c .named4 .ensures))
-    (λ c. rw (c .before .before .before .match .keys5) (c .named5 .ensures))
-    (λ c. rw (c .before .before .before .match .keys6) (c .named6 .ensures))
-    (λ c. rw (c .before .before .before .match .keys7) (c .named7 .ensures))
-    (λ c. rw (c .before .before .before .match .keys8) (c .named8 .ensures))
-    (λ c. rw (c .before .before .before .match .keys9) (c .named9 .ensures))
-    (λ c. rw (c .before .before .before .match .keys10) (c .named10 .ensures))
-    (λ c. rw (c .before .before .before .match .keys11) (c .named11 .ensures))
-    (λ c. rw (c .before .before .before .match .keys12) (c .named12 .ensures))
-    (λ c. rw (c .before .before .before .match .keys13) (c .named13 .ensures))
-    (λ c. rw (c .before .before .before .match .keys14) (c .named14 .ensures))
-    (λ c. rw (c .before .before .before .match .keys15) (c .named15 .ensures))
-    (λ c. rw (c .before .before .before .match .keys16) (c .named16 .ensures))
-    (λ c. rw (c .before .before .before .match .keys17) (c .named17 .ensures))
-    (λ c. rw (c .before .before .before .match .keys18) (c .named18 .ensures))
-    (λ c. rw (c .before .before .before .match .keys19) (c .named19 .ensures))
-    (λ c. rw (c .before .before .before .match .keys20) (c .named20 .ensures))
-    (λ c. rw (c .before .before .before .match .keys21) (c .named21 .ensures))
-    (λ c. rw (c .before .before .before .match .keys22) (c .named22 .ensures))
-    (λ c. rw (c .before .before .before .match .keys23) (c .named23 .ensures))
-    (λ c. rw (c .before .before .before .match .keys24) (c .named24 .ensures))
-    (λ c. rw (c .before .before .before .match .keys25) (c .named25 .ensures))
-    (λ c. rw (c .before .before .before .match .keys26) (c .named26 .ensures))
-    (λ c. rw (c .before .before .before .match .keys27) (c .named27 .ensures))
-    (λ c. rw (c .before .before .before .match .keys28) (c .named28 .ensures))
-    (λ c. rw (c .before .before .before .match .keys29) (c .named29 .ensures))
-    (λ c. rw (c .before .before .before .match .keys30) (c .named30 .ensures))
-    (λ c. rw (c .before .before .before .match .keys31) (c .named31 .ensures))
-    (λ c. rw (c .before .before .before .match .keys32) (c .named32 .ensures))
-    (λ c. rw (c .before .before .before .match .keys33) (c .named33 .ensures))
-    (λ c. rw (c .before .before .before .match .keys34) (c .named34 .ensures))
-    (λ c. rw (c .before .before .before .match .keys35) (c .named35 .ensures))
-    (λ c. rw (c .before .before .before .match .keys36) (c .named36 .ensures))
-    (λ c. rw (c .before .before .before .match .keys37) (c .named37 .ensures))
-    (λ c. rw (c .before .before .before .match .keys38) (c .named38 .ensures))
-    (λ c. rw (c .before .before .before .match .keys39) (c .named39 .ensures))
-    (λ c. rw (c .before .before .before .match .keys40) (c .named40 .ensures))
-    left-over)
+    returns
+    slice-aggregate-rows
+    mul-at
+    add-letters
+    letters-requires
+    shared-slice-read-wide
+    wide-requires
+    returns-2)
