@@ -1,5 +1,5 @@
-/* Topics and filters through the header: MQTT 4.7's examples, 02's rules, and a filter of 65,535 slashes on a stack of 2 MB and of 16 KiB. One line
- * for each case that fails, and a last line with the count. */
+/* Topics and filters through the header: MQTT 4.7's examples, 02's rules, and a filter of 65,535 slashes on a stack of 2 MB and of 16 KiB (or
+ * the least that the machine allows, where that is more). One line for each case that fails, and a last line with the count. */
 #define _POSIX_C_SOURCE 200112L
 #include "ecchjulmina.h"
 
@@ -80,8 +80,10 @@ static void *deep(void *unused) {
     return NULL;
 }
 
+/* on a stack of that size, or of the least that the machine allows */
 static void on_stack(size_t size) {
     pthread_attr_t with;
+    if (size < (size_t)PTHREAD_STACK_MIN) size = (size_t)PTHREAD_STACK_MIN;
     pthread_t thread;
     CHECK(pthread_attr_init(&with) == 0);
     CHECK(pthread_attr_setstacksize(&with, size) == 0);
