@@ -1,5 +1,6 @@
 // Filters, after `Subscribe::read` of subscribe.rs: a run of them to the end of the slice, and the n-th of a run.
 use filters::GotFilter;
+use filters::pass_filter;
 use filters::read_filter;
 use records::answer::FilterItem;
 use records::error::Error;
@@ -13,12 +14,22 @@ ghost use Rattle.reading.specs.Read.{filterOf};
 ghost use Rattle.reading.specs.Place.{asPlaces};
 ghost use Rattle.positions.specs.Nth.{chosen, nthRun};
 ghost use Rattle.records.specs.Said.{toldFilter};
-ghost use Rattle.filter_runs.specs.Told.{toldGotFilters, placeFit, NthFilter};
+ghost use Rattle.filter_runs.specs.Told.{toldGotFilters, placeFit, Broken, NthFilter};
 
 // Where a run of filters stands.
 pub enum GotFilters {
     Place(Span),
     Refused(Error),
+}
+
+// The refusal of the filter at `at`, which is not whole.
+fn broken(s: &[u8], at: usize) -> GotFilters
+    ensures { λ r. ⌜ Broken (now (s .entry)) at r ⌝ }
+{
+    match read_filter(s, at) {
+        GotFilter::Refused(e) => return GotFilters::Refused(e),
+        GotFilter::Value(f, next) => return GotFilters::Refused(Error::MalformedPacket),
+    }
 }
 
 // One filter or more, to the end.
@@ -30,12 +41,11 @@ pub fn read_filters(s: &[u8], at: usize) -> GotFilters
     }
     let mut i = at;
     while i < s.len() {
-        match read_filter(s, i) {
-            GotFilter::Refused(e) => return GotFilters::Refused(e),
-            GotFilter::Value(_, next) => {
-                i = next;
-            }
+        let next = pass_filter(s, i);
+        if next == i {
+            return broken(s, i);
         }
+        i = next;
     }
     let len = s.len() - at;
     GotFilters::Place(Span { start: at, len })

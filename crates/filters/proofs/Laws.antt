@@ -1,6 +1,6 @@
 -- A filter is its text, then its options. Assumes nothing.
-use mathlib.Core.Path.{_≡_, refl, sym}
-use mathlib.Core.Bool.{Bool, true, false}
+use mathlib.Core.Path.{_≡_, refl, sym, ap, _∙_}
+use mathlib.Core.Bool.{Bool, true, false, _&&_, false≢true}
 use mathlib.Core.List.{List, [], _∷_}
 use Prim.Native.Nat.{ℕ, zero, suc, _/_, _%_, _≤_, _<_}
 use native.Mathlib.Nat.{mod-lt}
@@ -13,14 +13,14 @@ use Rattle.reading.specs.Refusal.{Refusal, nr, cut}
 use Rattle.reading.specs.Reader.{Fit, got, bad, Reader, _>>=_, _>>_, guard, mapOf, onlyOf, thenOf}
 use Rattle.reading.specs.Read.{byteOf, textOf, filterOf}
 use Rattle.reading.specs.Place.{Span, asPlaces}
-use Rattle.positions.specs.Position.{fromAt}
+use Rattle.positions.specs.Position.{fromAt, nextOr}
 use Rattle.positions.proofs.Less.{filter-less}
 use Rattle.positions.proofs.Trails.{trails-byte, trails-text, trails-filter}
 use Rattle.positions.proofs.Position.{got-left, got-within, bad-left, left-at, left-bad}
 use Rattle.positions.proofs.Run.{item-ahead}
 use Rattle.records.specs.Answered.{ruleOf}
 use Rattle.tables.specs.Qos.{qosOf}
-use Rattle.filters.specs.Told.{optionsOf}
+use Rattle.filters.specs.Told.{optionsOf, FilterPassed}
 
 -- ---- the options byte
 
@@ -69,6 +69,9 @@ module _ (s : List ℕ) (at : ℕ) where
   unfolding filterOf mapOf thenOf
   filter-text {k = k} e = sym (left-bad one s at k (rw (bad-left text s at k (sym e))))
 
+  pub past-text : {k : Refusal} → bad k ≡ fromAt text s at → FilterPassed s at at
+  past-text e = record { says = ap (nextOr at) (filter-text e) }
+
   module _ {path : Span} {m : ℕ} (e : got (path, m) ≡ fromAt text s at) where
     text-left : text (drop at s) ≡ got (path, drop m s)
     text-left = got-left text s at (trails-text asPlaces (length s)) path m (sym e)
@@ -76,6 +79,9 @@ module _ (s : List ℕ) (at : ℕ) where
     pub filter-cut : {k : Refusal} → bad k ≡ fromAt (byteOf cut) s m → bad k ≡ fromAt one s at
     unfolding filterOf mapOf thenOf onlyOf
     filter-cut {k = k} j = sym (left-bad one s at k (rw (text-left, bad-left (byteOf cut) s m k (sym j))))
+
+    pub past-cut : {k : Refusal} → bad k ≡ fromAt (byteOf cut) s m → FilterPassed s at at
+    past-cut j = record { says = ap (nextOr at) (filter-cut j) }
 
     module _ {o next : ℕ} (j : got (o, next) ≡ fromAt (byteOf cut) s m) where
       byte-left : byteOf cut (drop m s) ≡ got (o, drop next s)
@@ -91,6 +97,43 @@ module _ (s : List ℕ) (at : ℕ) where
       pub filter-options : optionsOf path o next ≡ fromAt one s at
       filter-options = by-options (ruleFine o) (qosFine o) refl refl
 
+      pub past-fine : (ruleFine o && qosFine o) ≡ true → FilterPassed s at next
+      past-fine h = record { says = go (ruleFine o) (qosFine o) refl refl h ∙ ap (nextOr at) filter-options }
+        where
+          go : (a b : Bool) → ruleFine o ≡ a → qosFine o ≡ b → (a && b) ≡ true → next ≡ nextOr at (optionsOf path o next)
+          go true true f g h = rw (f, g)
+          go true false f g h = absurd (false≢true h)
+          go false b f g h = absurd (false≢true h)
+
+      pub past-unfit : (ruleFine o && qosFine o) ≡ false → FilterPassed s at at
+      past-unfit h = record { says = go (ruleFine o) (qosFine o) refl refl h ∙ ap (nextOr at) filter-options }
+        where
+          go : (a b : Bool) → ruleFine o ≡ a → qosFine o ≡ b → (a && b) ≡ false → at ≡ nextOr at (optionsOf path o next)
+          go true true f g h = absurd (false≢true (sym h))
+          go true false f g h = rw (f, g)
+          go false b f g h = rw f
+
 -- the readers of a filter go ahead, within the slice
 pub filter-ahead : (s : List ℕ) {i m : ℕ} {v : Filter Span} → i < length s → got (v, m) ≡ fromAt (filterOf asPlaces (length s)) s i → (i < m) × (m ≤ length s)
 filter-ahead s h e = item-ahead s (filter-less (length s)) (trails-filter asPlaces (length s)) h (sym e)
+
+-- ---- passed over
+
+module _ (s : List ℕ) {i r : ℕ} (h : i < length s) (p : FilterPassed s i r) where
+  abbrev here : Fit (Filter Span × ℕ)
+  here = fromAt (filterOf asPlaces (length s)) s i
+
+  -- a filter takes bytes, so that the index stays only where none stands whole
+  pub stays : r ≡ i → (k : Refusal) × (bad k ≡ here)
+  stays e = go here refl (p .says)
+    where
+      go : (m : Fit (Filter Span × ℕ)) → here ≡ m → r ≡ nextOr i m → (k : Refusal) × (bad k ≡ here)
+      go (got (v, n)) q l = absurd (omega (arith, filter-ahead s h (sym q), l, e))
+      go (bad k) q l = (k, sym q)
+
+  pub goes : (r ≡ i → ⊥) → (v : Filter Span) × (got (v, r) ≡ here)
+  goes d = go here refl (p .says)
+    where
+      go : (m : Fit (Filter Span × ℕ)) → here ≡ m → r ≡ nextOr i m → (v : Filter Span) × (got (v, r) ≡ here)
+      go (got (v, n)) q l = (v, rw l (sym q))
+      go (bad k) q l = absurd (d l)

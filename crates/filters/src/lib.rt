@@ -16,7 +16,9 @@ ghost use Rattle.reading.specs.Read.{filterOf};
 ghost use Rattle.reading.specs.Place.{asPlaces};
 ghost use Rattle.positions.specs.Position.{fromAt};
 ghost use Rattle.records.specs.Told.{toldSpan};
-ghost use Rattle.filters.specs.Told.{toldGotFilter, optionsOf};
+ghost use mathlib.Core.Bool.{_&&_};
+ghost use Rattle.grammar.specs.Sentence.{ruleFine, qosFine};
+ghost use Rattle.filters.specs.Told.{toldGotFilter, optionsOf, FilterPassed};
 
 // A filter and the index after it.
 pub enum GotFilter {
@@ -55,6 +57,34 @@ pub fn read_filter(s: &[u8], at: usize) -> GotFilter
         GotSpan::Value(path, end) => match fixed::read_u8(s, end) {
             GotU8::Refused(e) => return GotFilter::Refused(e),
             GotU8::Value(options, next) => return with_options(path, options, next),
+        },
+    }
+}
+
+// Whether an options byte may stand: neither its forward rule nor its QoS is 3.
+fn has_options(options: u8) -> bool
+    ensures { λ r. ⌜ r ≡ (ruleFine options && qosFine options) ⌝ }
+{
+    if options / 16 % 4 == 3 {
+        return false;
+    }
+    options % 4 != 3
+}
+
+// The index after the filter at `at`; `at` if none stands there whole. One number, where `read_filter` hands its answer back in memory.
+pub fn pass_filter(s: &[u8], at: usize) -> usize
+    ensures { λ r. ⌜ FilterPassed (now (s .entry)) at r ⌝ }
+{
+    match string::read_mqtt_string(s, at) {
+        GotSpan::Refused(e) => return at,
+        GotSpan::Value(path, end) => match fixed::read_u8(s, end) {
+            GotU8::Refused(e) => return at,
+            GotU8::Value(options, next) => {
+                if has_options(options) {
+                    return next;
+                }
+                return at;
+            }
         },
     }
 }

@@ -1,10 +1,11 @@
 -- `filter_runs::read_filters` is right since each turn passes one filter, and what stands at `i` decides. Assumes nothing.
+use mathlib.Core.Path.{sym, _∙_}
 use Prim.Native.Nat.{_-_}
 use native.Mathlib.Omega.{arith}
 use borrow.Author.Needs.{needs}
 use lib.ListN.{length}
 use denote.Ref.{now}
-use Rattle.filters.proofs.Laws.{filter-ahead}
+use Rattle.filters.proofs.Laws.{filter-ahead, stays, goes}
 use Rattle.positions.proofs.Less.{filter-less}
 use Rattle.positions.proofs.Trails.{trails-filter}
 use Rattle.positions.proofs.Runs.{run-empty, Going, going-start, going-bad, going-next, going-end}
@@ -25,25 +26,27 @@ returns c = run-empty _ (now (c .before .before .args .s)) (c .before .before .a
 loop-holds : tie.Need-loop-holds Inv-loop μ-loop
 loop-holds c = going-start (now (c .before .before .args .s)) (filter-less _) (c .before .before .args .at)
 
-read-filter-requires : tie.Need-read-filter-requires Inv-loop μ-loop
-read-filter-requires c κs = search needs
+pass-filter-requires : tie.Need-pass-filter-requires Inv-loop μ-loop
+pass-filter-requires c κs = search needs
 
-enum-known-e : tie.Need-enum-known-e Inv-loop μ-loop
-enum-known-e c = search needs
+broken-requires : tie.Need-broken-requires Inv-loop μ-loop
+broken-requires c κs = search needs
 
 returns-2 : tie.Need-returns-2 Inv-loop μ-loop
-returns-2 c = going-bad _ (filter-less _) (c .before .before .before .before .before .loop .inv) (c .before .before .before .before .loop-test .taken) (rw (c .before .e .given .1) at (c .before .before .before .read-filter .ensures))
-
-enum-known-next : tie.Need-enum-known-next Inv-loop μ-loop
-enum-known-next c = search needs
+returns-2 c =
+    let (k, e) = stays _ (c .before .before .before .loop-test .taken) (c .before .before .pass-filter .ensures) (c .before .if2 .taken) in
+    sym (c .broken .ensures .says e) ∙ going-bad _ (filter-less _) (c .before .before .before .before .loop .inv) (c .before .before .before .loop-test .taken) e
 
 loop-less : tie.Need-loop-less Inv-loop μ-loop
 loop-less c =
-    let h = filter-ahead (now (c .before .before .before .before .before .before .before .before .args .s)) (c .before .before .before .before .loop-test .taken) (rw (c .before .next .given .1) at (c .before .before .before .read-filter .ensures)) in
+    let (v, e) = goes _ (c .before .before .loop-test .taken) (c .before .pass-filter .ensures) (c .if2 .left) in
+    let h = filter-ahead (now (c .before .before .before .before .before .before .args .s)) (c .before .before .loop-test .taken) e in
     omega (arith, h)
 
 loop-again : tie.Need-loop-again Inv-loop μ-loop
-loop-again c = going-next _ (filter-less _) (c .before .before .before .before .before .loop .inv) (trails-filter asPlaces _) (c .before .before .before .before .loop-test .taken) (rw (c .before .next .given .1) at (c .before .before .before .read-filter .ensures))
+loop-again c =
+    let (v, e) = goes _ (c .before .before .loop-test .taken) (c .before .pass-filter .ensures) (c .if2 .left) in
+    going-next _ (filter-less _) (c .before .before .before .loop .inv) (trails-filter asPlaces _) (c .before .before .loop-test .taken) e
 
 sub-len : tie.Need-sub-len Inv-loop μ-loop
 sub-len c = omega arith
@@ -59,10 +62,9 @@ read-filters-spec =
     μ-loop
     returns
     loop-holds
-    read-filter-requires
-    enum-known-e
+    pass-filter-requires
+    broken-requires
     returns-2
-    enum-known-next
     loop-less
     loop-again
     sub-len
