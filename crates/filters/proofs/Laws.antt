@@ -5,6 +5,7 @@ use mathlib.Core.List.{List, [], _∷_}
 use Prim.Native.Nat.{ℕ, zero, suc, _/_, _%_, _≤_, _<_}
 use native.Mathlib.Nat.{mod-lt}
 use native.Mathlib.Omega.{arith}
+use borrow.Author.Tests.{eq-eqb, ne-eqb}
 use lib.Dec.{ltb}
 use lib.ListN.{length, drop}
 use Rattle.grammar.specs.Record.{Filter, mkFilter}
@@ -31,6 +32,13 @@ two-bits row (suc zero) h = refl
 two-bits row (suc (suc zero)) h = refl
 two-bits row (suc (suc (suc zero))) h = refl
 two-bits row (suc (suc (suc (suc n)))) h = absurd (omega arith)
+
+-- rule 3 may not stand; with any other QoS decides
+pub rule-three : (o : ℕ) → o / 16 % 4 ≡ 3 → false ≡ (ruleFine o && qosFine o)
+rule-three o e = rw (eq-eqb (o / 16 % 4) 3 e)
+
+pub rule-other : (o : ℕ) → (o / 16 % 4 ≡ 3 → ⊥) → qosFine o ≡ (ruleFine o && qosFine o)
+rule-other o d = rw (ne-eqb (o / 16 % 4) 3 d)
 
 module _ (path : Span) (o next : ℕ) where
   -- the filter of a rule and a quality of service
