@@ -224,6 +224,12 @@ class TheLinesOfDesk(unittest.TestCase):
                 line(text)
 
 
+class TheLengthDesk(unittest.TestCase):
+    def test_lengths(self):
+        got = subprocess.run([sys.executable, pathlib.Path(__file__).with_name('lengths.py'), TOP + '/samples/length-desk.mqtt'], capture_output=True, text=True)
+        self.assertEqual(got.stdout, pathlib.Path(TOP, 'samples/length-desk.lengths').read_text())
+
+
 class ThePage(unittest.TestCase):
     def test_programs(self):
         """The programs of README.md, one after the other in one room, print what stands below them."""
