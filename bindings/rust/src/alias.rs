@@ -61,6 +61,16 @@ impl std::error::Error for AliasError {}
 
 /// The topics of one connection by their aliases, 1 to 16; topics of up to 128 bytes have one. Every Publish of the connection is to be
 /// learnt, in the order of the stream.
+///
+/// ```
+/// use ecchjulmina::{AliasError, Aliases};
+///
+/// let mut aliases = Aliases::new();
+/// assert_eq!(aliases.topic_in_force(b"", Some(1)), Err(AliasError::AliasUnknown));
+/// aliases.learn(b"plant/2/length", Some(1))?;
+/// assert_eq!(aliases.topic_in_force(b"", Some(1))?, b"plant/2/length");
+/// # Ok::<(), AliasError>(())
+/// ```
 #[derive(Clone, Debug, PartialEq, Eq)]
 pub struct Aliases {
     table: [u8; ECCH_ALIAS_TABLE_LEN],

@@ -36,6 +36,18 @@ pub enum Wait {
 }
 
 /// The table: a byte for each identifier, 0 if it is free, else what it waits for.
+///
+/// ```
+/// use ecchjulmina::inflight::{Answered, InFlight, NotWaiting};
+/// use ecchjulmina::mqttbytes::{v5::{PubComp, PubRec}, QoS};
+///
+/// let mut out = InFlight::new();
+/// let id = out.claim(QoS::ExactlyOnce).unwrap();
+/// assert_eq!(out.pubcomp(&PubComp::new(id, None)), Err(NotWaiting));
+/// assert_eq!(out.pubrec(&PubRec::new(id, None)), Ok(Answered::Moved));
+/// assert_eq!(out.pubcomp(&PubComp::new(id, None)), Ok(Answered::Freed));
+/// assert_eq!(out.waiting(), 0);
+/// ```
 #[derive(Clone, PartialEq, Eq)]
 pub struct InFlight {
     table: [u8; IDENTIFIERS],

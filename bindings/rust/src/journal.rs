@@ -10,6 +10,22 @@ use std::path::Path;
 const BLOCK: usize = 512;
 
 /// A file of two or more blocks.
+///
+/// ```
+/// use ecchjulmina::{inflight::InFlight, journal::Journal, QoS};
+///
+/// let path = std::env::temp_dir().join(format!("example-{}.journal", std::process::id()));
+/// let mut journal = Journal::start(&path, 2)?;
+/// let mut out = InFlight::new();
+/// out.claim(QoS::AtLeastOnce).unwrap();
+/// assert_eq!(journal.save(&out).unwrap(), 1);
+///
+/// // after the power came back
+/// let back = Journal::open(&path)?.recover().unwrap();
+/// assert_eq!((back.number, back.table), (1, out));
+/// # std::fs::remove_file(&path)?;
+/// # Ok::<(), std::io::Error>(())
+/// ```
 pub struct Journal {
     file: File,
     area: Vec<u8>,

@@ -6,6 +6,18 @@
 //! `places` is the thinner one: the records as they are read, with no copy at all. `pieces` reads a stream that arrives in pieces, over either.
 //! `Aliases` keeps the topics of a connection by their aliases.
 //!
+//! ```
+//! use bytes::BytesMut;
+//! use ecchjulmina::mqttbytes::{v5::Packet, Error};
+//!
+//! let mut stream = BytesMut::from(&[0x30, 8, 0, 3, b'a', b'/', b'b', 0, b'h', b'i', 0xC0][..]);
+//! match Packet::read(&mut stream, Some(1024)) {
+//!     Ok(Packet::Publish(m)) => assert_eq!((&m.topic[..], &m.payload[..]), (&b"a/b"[..], &b"hi"[..])),
+//!     other => panic!("{other:?}"),
+//! }
+//! assert_eq!(Packet::read(&mut stream, Some(1024)), Err(Error::InsufficientBytes(1)));
+//! ```
+//!
 //! What is proved ends at the C interface; this crate is tested.
 mod alias;
 mod error;
@@ -19,6 +31,14 @@ pub mod sys;
 mod topics;
 pub mod walk;
 mod write;
+
+// the examples of the pages run as well
+#[cfg(doctest)]
+#[doc = include_str!("../README.md")]
+pub struct Readme;
+#[cfg(doctest)]
+#[doc = include_str!("../GATEWAY.md")]
+pub struct Gateway;
 
 pub use alias::{AliasError, Aliases};
 use bytes::{Buf, Bytes, BytesMut};
@@ -514,6 +534,14 @@ impl Packet {
     /// Reads a stream of bytes and extracts next MQTT packet out of it. `max_size` counts the whole frame, its first byte and its length
     /// number included. A refusal within a whole frame takes the frame away too, as in the crate; `InsufficientBytes`, a malformed length of
     /// the frame and a frame above the limit take nothing.
+    ///
+    /// ```
+    /// # use bytes::BytesMut;
+    /// # use ecchjulmina::mqttbytes::{v5::Packet, Error};
+    /// let mut stream = BytesMut::from(&[0x32, 6, 0, 1, b'a', 0, 0, 0, 0xD0, 0][..]);
+    /// assert_eq!(Packet::read(&mut stream, None), Err(Error::PacketIdZero)); // its 8 bytes are gone
+    /// assert!(matches!(Packet::read(&mut stream, None), Ok(Packet::PingResp(_))));
+    /// ```
     pub fn read(stream: &mut BytesMut, max_size: Option<u32>) -> Result<Packet, Error> {
         let (answer, taken) = places::read(stream, max_size.map(|n| n as usize));
         let numbers = match answer {

@@ -50,6 +50,28 @@ impl fmt::Display for Stop {
 impl std::error::Error for Stop {}
 
 /// A reader of pieces: it owns the buffer and the state.
+///
+/// ```
+/// use ecchjulmina::pieces::{Answer, Pieces};
+///
+/// let mut pieces = Pieces::new(64, None).unwrap();
+/// assert!(pieces.push(&[0x30, 8, 0, 3]).next().is_none());
+/// let piece = [b'a', b'/', b'b', 0, b'h', b'i', 0xC0, 0];
+/// let mut pushed = pieces.push(&piece);
+/// let mut seen = 0;
+/// while let Some(answer) = pushed.next() {
+///     match answer {
+///         // the first lies in the buffer, the second in the piece itself
+///         Answer::Frame { frame, copied, read } => {
+///             assert!(read.is_ok());
+///             assert_eq!((frame.len(), copied), [(10, true), (2, false)][seen]);
+///             seen += 1;
+///         }
+///         Answer::Stopped(why) => panic!("the stream has ended: {}", why.number()),
+///     }
+/// }
+/// assert_eq!(seen, 2);
+/// ```
 pub struct Pieces {
     buffer: Box<[u8]>,
     state: [u64; ECCH_STATE_NUMBERS],
@@ -57,6 +79,8 @@ pub struct Pieces {
 }
 
 /// What a piece completes.
+// it is handed back by value and used at once: a box would be an allocation for each frame
+#[allow(clippy::large_enum_variant)]
 pub enum Answer<'a> {
     /// a frame, where it lies (`copied` says in the buffer), and its record or refusal; the stream goes on at the next frame
     Frame { frame: &'a [u8], copied: bool, read: Result<Record<'a>, Error> },

@@ -5,6 +5,17 @@ use crate::{sys::*, Error, QoS, RetainForwardRule};
 /// What the stream begins with, or why it is refused; and how many bytes of the stream that takes. `limit` counts the whole frame. Nothing
 /// below can panic: the number taken and every place lie within the stream, and every number has one of its meanings, which is proved of
 /// `ecch_read`. A library that gives anything else ends in a panic that says so.
+///
+/// ```
+/// use ecchjulmina::{places::read, Error};
+///
+/// let stream = [0x30, 8, 0, 3, b'a', b'/', b'b', 0, b'h', b'i', 0xF0, 0];
+/// let (answer, taken) = read(&stream, Some(10));
+/// assert_eq!(answer.unwrap().topic(), b"a/b");
+/// let (answer, taken) = read(&stream[taken..], Some(10));
+/// assert!(matches!(answer, Err(Error::InvalidPacketType(15))));
+/// assert_eq!(taken, 2);
+/// ```
 pub fn read(stream: &[u8], limit: Option<usize>) -> (Result<Record<'_>, Error>, usize) {
     let mut numbers = [0u64; ECCH_RECORD_LEN];
     // Sound: both pointers stand for whole Rust slices, which do not overlap since one is lent for writing.

@@ -13,24 +13,40 @@ fn flag(n: u8) -> bool {
 }
 
 /// Checks if a topic or topic filter has wildcards
+///
+/// ```
+/// assert!(ecchjulmina::has_wildcards("a/+") && !ecchjulmina::has_wildcards("a/b"));
+/// ```
 pub fn has_wildcards(s: &str) -> bool {
     // SAFETY: a str is that many bytes that can be read, and its pointer is not null
     flag(unsafe { ecch_has_wildcards(s.as_ptr(), s.len()) })
 }
 
 /// Checks if a topic is valid
+///
+/// ```
+/// assert!(ecchjulmina::valid_topic("a/b") && !ecchjulmina::valid_topic("a/#"));
+/// ```
 pub fn valid_topic(topic: &str) -> bool {
     // SAFETY: as above
     flag(unsafe { ecch_valid_topic(topic.as_ptr(), topic.len()) })
 }
 
 /// Checks if the filter is valid
+///
+/// ```
+/// assert!(ecchjulmina::valid_filter("a/+/#") && !ecchjulmina::valid_filter("a/#/b"));
+/// ```
 pub fn valid_filter(filter: &str) -> bool {
     // SAFETY: as above
     flag(unsafe { ecch_valid_filter(filter.as_ptr(), filter.len()) })
 }
 
 /// Checks if topic matches a filter. topic and filter validation isn't done here.
+///
+/// ```
+/// assert!(ecchjulmina::matches("plant/2/length", "plant/+/length") && !ecchjulmina::matches("$SYS/x", "#"));
+/// ```
 pub fn matches(topic: &str, filter: &str) -> bool {
     // SAFETY: as above, for both; nothing is written
     flag(unsafe { ecch_matches(topic.as_ptr(), topic.len(), filter.as_ptr(), filter.len()) })

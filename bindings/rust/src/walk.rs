@@ -2,6 +2,14 @@
 use crate::{places, sys::*};
 
 /// Yields the user properties of the frame at the start of a stream, in order; none if the reader refuses it. No copy, no allocation.
+///
+/// ```
+/// use ecchjulmina::walk::Walker;
+///
+/// let frame = [0x30, 17, 0, 1, b'a', 12, 0x26, 0, 1, b'k', 0, 1, b'v', 0x26, 0, 0, 0, 0, 7];
+/// assert_eq!(Walker::new(&frame).collect::<Vec<_>>(), [(&b"k"[..], &b"v"[..]), (b"", b"")]);
+/// assert_eq!(Walker::new(&frame[..18]).next(), None);
+/// ```
 #[derive(Clone, Copy, Debug)]
 pub struct Walker<'a> {
     frame: &'a [u8],

@@ -471,6 +471,17 @@ impl PingResp {
 
 impl Packet {
     /// Appends the packet, if its size is at most `max_size`; a refused write leaves the buffer as it stood.
+    ///
+    /// ```
+    /// # use bytes::BytesMut;
+    /// # use ecchjulmina::mqttbytes::{v5::{Packet, Publish}, Error, QoS};
+    /// let packet = Packet::Publish(Publish::new("a/b", QoS::AtMostOnce, "hi", None));
+    /// let mut out = BytesMut::new();
+    /// assert_eq!(packet.write(&mut out, Some(9)), Err(Error::OutgoingPacketTooLarge { pkt_size: 10, max: 9 }));
+    /// assert!(out.is_empty());
+    /// assert_eq!(packet.write(&mut out, Some(10)), Ok(10));
+    /// assert_eq!(out, &[0x30, 8, 0, 3, b'a', b'/', b'b', 0, b'h', b'i'][..]);
+    /// ```
     pub fn write(&self, write: &mut BytesMut, max_size: Option<u32>) -> Result<usize, Error> {
         match self {
             Packet::Publish(m) => append(&PublishParts::of(m), write, max_size),

@@ -115,7 +115,7 @@ fn texts_are_the_crates() {
     for (error, text) in rows {
         assert_eq!(error.to_string(), text);
     }
-    let io = std::io::Error::new(std::io::ErrorKind::Other, "closed");
+    let io = std::io::Error::new(std::io::ErrorKind::BrokenPipe, "closed");
     assert_eq!(Error::from(io).to_string(), "IO: closed");
     let text = vec![0xFF];
     let utf8 = std::str::from_utf8(&text).unwrap_err();
