@@ -1,6 +1,6 @@
 -- What C hands over of P4, the bytes of a table, and what it is answered. Bytes that are no table are refused, and left as they are.
 use mathlib.Core.Path.{_≡_}
-use mathlib.Core.Bool.{Bool, true, false, cond}
+use mathlib.Core.Bool.{cond}
 use mathlib.Core.List.{List, [], _∷_}
 use Prim.Native.Nat.{ℕ}
 use lib.Dec.{eqb, ltb}
@@ -24,9 +24,13 @@ claimGiven q b = cond (isTable b) (cond (ltb q 3) (claimed q b) (left b (refused
 unfoldable pub ackGiven : ℕ → ℕ → ℕ → List ℕ → Left
 ackGiven kind n reason b = cond (isTable b) (call (answerBy kind n reason) b) (badTable b)
 
--- "the number waiting"; none in what is no table
-unfoldable pub waitingGiven : List ℕ → ℕ
-waitingGiven b = waiting (cond (isTable b) b (replicate limit free))
+-- 0, or 39 for what is no table
+unfoldable pub waitingNumber : List ℕ → ℕ
+waitingNumber b = cond (isTable b) 0 39
+
+-- "the number waiting"
+unfoldable pub waitingValue : List ℕ → ℕ
+waitingValue b = cond (isTable b) (waiting b) 0
 
 -- what is returned: 0, or the refusal's number
 abbrev pub numberOf : Says → ℕ
@@ -42,14 +46,13 @@ valueOf freed = free
 valueOf moved = pubcomp
 valueOf (refused k) = 0
 
--- the table b goes on to what is left of it
+-- a call that returns `number` and leaves b: what is left of the table
 pub record Ends (l : Left) (number : ℕ) (b : List ℕ) : Type 0 where
   pub returned : number ≡ numberOf (l .says)
   pub table : b ≡ l .table
 
--- the same before it is stored: t where `fine`, else b as it was
-pub record Outcomes (b : List ℕ) (l : Left) (number value : ℕ) (fine : Bool) (t : List ℕ) : Type 0 where
+-- the same, with what it stores
+pub record Outcomes (l : Left) (number value : ℕ) (b : List ℕ) : Type 0 where
   pub returned : number ≡ numberOf (l .says)
   pub stores : value ≡ valueOf (l .says)
-  pub long : fine ≡ true → length b ≡ limit
-  pub table : cond fine t b ≡ l .table
+  pub table : b ≡ l .table

@@ -1,57 +1,21 @@
--- Bytes stored one behind the other, and a table taken from bytes.
+-- A table taken from bytes, and a table stored.
 -- Assumes nothing.
 use mathlib.Core.Path.{_≡_, refl, sym, ap, ap₂, _∙_, subst}
-use mathlib.Core.Bool.{Bool, true, false, _&&_, cond}
+use mathlib.Core.Bool.{true, false}
 use mathlib.Core.List.{List, [], _∷_, _++_}
-use Prim.Native.Nat.{ℕ, zero, suc, _+_, _<_, _≤_}
+use Prim.Native.Nat.{ℕ, suc, _+_, _<_, _≤_}
 use native.Mathlib.Numerals.{add-one}
 use native.Mathlib.Omega.{arith}
 use borrow.Author.Tests.{eq-eqb, ne-eqb, lt-ltb, le-ltb, le-leb, lt-leb}
-use lib.Dec.{eqb, ltb, leb}
 use lib.ListN.{length, getD, take, drop, set, replicate, length-set, drop-of-length-le}
-use lib.Seq.{sets, length-sets, drop-cons, take-suc, take-suc-set, take-all, length-take-le}
+use lib.Seq.{sets, drop-cons, take-suc, take-suc-set, take-all}
 use Rattle.inflight.specs.Rules.{limit, free, allStates, isTable}
-use Rattle.inflight.specs.Told.{codeOf, waitsOf, TakenFrom, stored}
+use Rattle.inflight.specs.Told.{codeOf, waitsOf}
 use Rattle.inflight.specs.declared.Wait.{Wait}
 use Rattle.inflight.specs.declared.InFlight.{InFlight}
-use Rattle.inflight.specs.declared.FromCodes.{FromCodes}
 use Rattle.inflight.proofs.Laws.{waits-length, wait-set}
-
--- ---- stores one behind the other
-
-pub sets-more : (d : List ℕ) (at : ℕ) (xs : List ℕ) (v : ℕ) → set (sets d at xs) (at + length xs) v ≡ sets d at (xs ++ (v ∷ []))
-sets-more d at [] v = let e : at + 0 ≡ at = omega arith in ap (λ (i : ℕ). set d i v) e
-sets-more d at (x ∷ xs) v =
-    (let e : at + suc (length xs) ≡ suc at + length xs = omega arith in ap (λ (i : ℕ). set (sets (set d at x) (suc at) xs) i v) e)
-    ∙ sets-more (set d at x) (suc at) xs v
-
--- the first i bytes of s stand in d from at on
-pub record Put (d s : List ℕ) (at : ℕ) (out : List ℕ) (i : ℕ) : Type 0 where
-  pub within : i ≤ length s
-  pub is : out ≡ sets d at (take i s)
-
-pub put-none : (d s : List ℕ) (at : ℕ) → Put d s at d 0
-put-none d s at = record { within = omega arith; is = refl }
-
-pub put-long : {d s out : List ℕ} {at i : ℕ} → Put d s at out i → length out ≡ length d
-put-long {d} {s} {out} {at} {i} p = ap length (p .is) ∙ length-sets d at (take i s)
-
-pub put-more : {d s out : List ℕ} {at i : ℕ} → Put d s at out i → i < length s → Put d s at (set out (at + i) (getD s i 0)) (i + 1)
-put-more {d} {s} {out} {at} {i} p h = record {
-  within = omega arith;
-  is = ap (λ (o : List ℕ). set o (at + i) (getD s i 0)) (p .is)
-      ∙ ap (λ (j : ℕ). set (sets d at (take i s)) (at + j) (getD s i 0)) (sym (length-take-le i s (omega arith)))
-      ∙ sets-more d at (take i s) (getD s i 0)
-      ∙ (let e : take i s ++ (getD s i 0 ∷ []) ≡ take (i + 1) s = rw add-one (sym (take-suc s i 0 h)) in ap (sets d at) e);
-}
-
-pub put-all : {d s out : List ℕ} {at i : ℕ} → Put d s at out i → length s ≤ i → out ≡ sets d at s
-put-all {d} {s} {out} {at} {i} p h = p .is ∙ ap (sets d at) (take-all i s h)
-
-pub code-more : {d s out : List ℕ} {i v : ℕ} → Put d s 0 out i → i < length s → v ≡ getD s i 0 → Put d s 0 (set out i v) (i + 1)
-code-more {d} {s} {out} {i} {v} p h e =
-    let g : 0 + i ≡ i = omega arith in
-    subst (λ (o : List ℕ). Put d s 0 o (i + 1)) (ap₂ (λ (j x : ℕ). set out j x) g (sym e)) (put-more p h)
+use Rattle.journal.proofs.Stores.{Put, put-more}
+use Rattle.c_journal.specs.Bytes.{TakenFrom, stored}
 
 -- ---- a table from bytes
 
@@ -109,6 +73,11 @@ taken-all {s} {t} {i} p l h =
     }
 
 -- ---- a table stored
+
+pub code-more : {d s out : List ℕ} {i v : ℕ} → Put d s 0 out i → i < length s → v ≡ getD s i 0 → Put d s 0 (set out i v) (i + 1)
+code-more {d} {s} {out} {i} {v} p h e =
+    let g : 0 + i ≡ i = omega arith in
+    subst (λ (o : List ℕ). Put d s 0 o (i + 1)) (ap₂ (λ (j x : ℕ). set out j x) g (sym e)) (put-more p h)
 
 pub stored-fits : (t out : List ℕ) → limit ≤ length out → sets out 0 t ≡ stored t out
 unfolding stored

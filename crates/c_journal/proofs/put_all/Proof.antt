@@ -1,15 +1,16 @@
--- `inflight::put_all` is right since the places are stored one behind the other. Assumes nothing.
-use mathlib.Core.Path.{_≡_, refl, sym, ap, _∙_}
-use Prim.Native.Nat.{ℕ, _-_, _≤_}
+-- `c_journal::put_all` is right since the places are stored one behind the other. Assumes nothing.
+use mathlib.Core.Path.{_≡_, sym, _∙_}
+use Prim.Native.Nat.{_-_}
 use native.Mathlib.Omega.{arith}
 use borrow.Author.Needs.{needs}
 use lib.ListN.{length}
 use Rattle.inflight.specs.Rules.{limit}
 use Rattle.inflight.specs.Told.{waitsOf}
 use Rattle.inflight.proofs.Laws.{waits-length, wait-at, unmapped}
-use Rattle.inflight.proofs.Stores.{Put, put-none, put-long, code-more, put-all}
-use Rattle.inflight.proofs.put_all.Statement.{statement}
-use Rattle.inflight.proofs.put_all.Tie as tie
+use Rattle.journal.proofs.Stores.{Put, put-none, put-long, put-all}
+use Rattle.c_journal.proofs.Bytes.{code-more}
+use Rattle.c_journal.proofs.put_all.Statement.{statement}
+use Rattle.c_journal.proofs.put_all.Tie as tie
 
 abbrev Inv-loop : tie.InvT-loop
 Inv-loop out₀ table i₀ out i = Put out₀ (waitsOf table) 0 out i

@@ -1,15 +1,12 @@
--- `inflight::from_codes` is right since each byte is a state, or the first that is none ends it. Assumes nothing.
-use mathlib.Core.Path.{_≡_, refl, sym, ap, _∙_}
-use Prim.Native.Nat.{ℕ, _-_, _≤_}
+-- `c_journal::from_codes` is right since each byte is a state, or the first that is none ends it. Assumes nothing.
+use Prim.Native.Nat.{_-_}
 use native.Mathlib.Omega.{arith}
 use borrow.Author.Needs.{needs}
-use lib.ListN.{length}
 use Rattle.inflight.specs.Rules.{limit}
-use Rattle.inflight.specs.Told.{waitsOf}
-use Rattle.inflight.proofs.Laws.{waits-length, wait-at, unmapped}
-use Rattle.inflight.proofs.Stores.{Taken, taken-none, taken-more, not-long, not-states, taken-all}
-use Rattle.inflight.proofs.from_codes.Statement.{statement}
-use Rattle.inflight.proofs.from_codes.Tie as tie
+use Rattle.inflight.proofs.Laws.{unmapped}
+use Rattle.c_journal.proofs.Bytes.{Taken, taken-none, taken-more, not-long, not-states, taken-all}
+use Rattle.c_journal.proofs.from_codes.Statement.{statement}
+use Rattle.c_journal.proofs.from_codes.Tie as tie
 
 abbrev Inv-loop : tie.InvT-loop
 Inv-loop codes table₀ i₀ table i = Taken codes table i
