@@ -1,22 +1,22 @@
 -- Bytes gathered by `|`, the walk to the first free one by sixteens, and the ways that a call of C can end.
 -- Assumes nothing.
 use mathlib.Core.Path.{_≡_, refl, sym, ap, _∙_}
-use mathlib.Core.Bool.{Bool, true, false, not, _&&_, false≢true}
+use mathlib.Core.Bool.{Bool, true, false, not, _&&_, cond, false≢true}
 use mathlib.Core.List.{List, [], _∷_, _++_, append-nil}
 use Prim.Native.Nat.{ℕ, zero, suc, _+_, _^_, _≤_, _<_}
 use native.Mathlib.Numerals.{add-one}
 use native.Mathlib.Omega.{arith}
 use borrow.Author.Fill.{fill-none, fill-more}
-use borrow.Author.Tests.{eq-eqb, ne-eqb, eqb-false, lt-ltb, le-ltb, le-leb, lt-leb, leb-true, leb-false, not-true}
+use borrow.Author.Tests.{eq-eqb, ne-eqb, eqb-true, eqb-false, lt-ltb, le-ltb, le-leb, lt-leb, leb-true, leb-false, not-true}
 use lib.Bits.{bitOr, or-lt, or-add-and, and-le-l, and-le-r}
 use lib.Dec.{eqb, ltb}
 use lib.ListN.{length, getD, drop, set, replicate, length-set, drop-of-length-le}
 use lib.Seq.{drop-cons}
 use Rattle.reading.specs.Refusal.{nr}
-use Rattle.inflight.specs.Rules.{limit, free, allStates, isTable, firstFree, claimed, claimFor, waitOf, put, settled, becameOf, call, answerBy, waiting, refused, left, Left}
+use Rattle.inflight.specs.Rules.{limit, free, allStates, isTable, firstFree, claimed, claimFor, waitOf, put, settled, becameOf, afterPubRec, call, answerBy, waiting, refused, left, Left, notWaiting}
 use Rattle.inflight.specs.Told.{Ahead}
 use Rattle.inflight.proofs.Laws.{first-taken, wait-zero, wait-above}
-use Rattle.c_inflight.specs.Given.{badTable, startGiven, claimGiven, ackGiven, waitingNumber, waitingValue, numberOf, valueOf, Ends, Outcomes}
+use Rattle.c_inflight.specs.Given.{badTable, startGiven, claimGiven, dueOf, nextOf, ackGiven, waitingNumber, waitingValue, numberOf, valueOf, Ends, Outcomes}
 
 -- ---- bytes gathered by `|`
 
@@ -188,9 +188,77 @@ pub ack-none : (k n r : ℕ) (b : List ℕ) → isTable b ≡ false → ackGiven
 unfolding ackGiven
 ack-none k n r b e = rw e
 
-pub ack-some : (k n r : ℕ) (b : List ℕ) → isTable b ≡ true → call (answerBy k n r) b ≡ ackGiven k n r b
+byte-below : (b : List ℕ) (i : ℕ) → allStates b ≡ true → getD b i 0 < 4
+unfolding allStates
+byte-below [] i e = omega arith
+byte-below (w ∷ b) zero e = leb-true (suc w) 4 (both (ltb w 4) (allStates b) e .0)
+byte-below (w ∷ b) (suc i) e = byte-below b i (both (ltb w 4) (allStates b) e .1)
+
+wait-below : (b : List ℕ) (n : ℕ) → allStates b ≡ true → waitOf b n < 4
+unfolding waitOf
+wait-below b zero e = omega arith
+wait-below b (suc i) e = byte-below b i e
+
+no-answer : (b : List ℕ) (n to : ℕ) → isTable b ≡ true → settled 4 to b n ≡ left b notWaiting
+unfolding settled isTable
+no-answer b n to e =
+    let h : waitOf b n < 4 = wait-below b n (both (eqb (length b) limit) (allStates b) e .1) in
+    rw (ne-eqb (waitOf b n) 4 (λ g. omega (arith, g, h)))
+
+by-four : (k n r : ℕ) (b : List ℕ) → k ≡ 4 → settled (dueOf k) (nextOf k r) b n ≡ call (answerBy k n r) b
+unfolding dueOf nextOf answerBy call
+by-four k n r b e = rw e
+
+by-five : (k n r : ℕ) (b : List ℕ) → k ≡ 5 → settled (dueOf k) (nextOf k r) b n ≡ call (answerBy k n r) b
+unfolding dueOf nextOf answerBy call
+by-five k n r b e = rw e
+
+by-seven : (k n r : ℕ) (b : List ℕ) → k ≡ 7 → settled (dueOf k) (nextOf k r) b n ≡ call (answerBy k n r) b
+unfolding dueOf nextOf answerBy call
+by-seven k n r b e = rw e
+
+by-none : (k n r : ℕ) (b : List ℕ) → isTable b ≡ true → eqb k 4 ≡ false → eqb k 5 ≡ false → eqb k 7 ≡ false
+    → settled (dueOf k) (nextOf k r) b n ≡ call (answerBy k n r) b
+unfolding dueOf nextOf answerBy call
+by-none k n r b e f g h = rw (f, g, h) (no-answer b n free e)
+
+above : (k : ℕ) → 0 < dueOf k
+unfolding dueOf
+above k = go (eqb k 4) (eqb k 5) (eqb k 7)
+  where
+    go : (x y z : Bool) → 0 < cond x 1 (cond y 2 (cond z 3 4))
+    go true y z = omega arith
+    go false true z = omega arith
+    go false false true = omega arith
+    go false false false = omega arith
+
+told : (k r : ℕ) → nextOf k r ≡ valueOf (becameOf (nextOf k r))
+unfolding nextOf afterPubRec becameOf
+told k r = go (eqb k 5) (ltb r 0x80)
+  where
+    go : (x y : Bool) → cond x (cond y 3 0) 0 ≡ valueOf (becameOf (cond x (cond y 3 0) 0))
+    go true true = refl
+    go true false = refl
+    go false y = refl
+
+settles : (k n r : ℕ) (b : List ℕ) → isTable b ≡ true → settled (dueOf k) (nextOf k r) b n ≡ call (answerBy k n r) b
+settles k n r b e = go (eqb k 4) refl (eqb k 5) refl (eqb k 7) refl
+  where
+    go : (x : Bool) → eqb k 4 ≡ x → (y : Bool) → eqb k 5 ≡ y → (z : Bool) → eqb k 7 ≡ z → settled (dueOf k) (nextOf k r) b n ≡ call (answerBy k n r) b
+    go true f y g z h = by-four k n r b (eqb-true k 4 f)
+    go false f true g z h = by-five k n r b (eqb-true k 5 g)
+    go false f false g true h = by-seven k n r b (eqb-true k 7 h)
+    go false f false g false h = by-none k n r b e f g h
+
+pub due-above : (k : ℕ) {d : ℕ} → d ≡ dueOf k → 0 < d
+due-above k {d} e = rw e (above k)
+
+pub next-told : (k r : ℕ) {to : ℕ} → to ≡ nextOf k r → to ≡ valueOf (becameOf to)
+next-told k r e = rw e (told k r)
+
+pub ack-some : (k n r : ℕ) (b : List ℕ) {due to : ℕ} → isTable b ≡ true → due ≡ dueOf k → to ≡ nextOf k r → settled due to b n ≡ ackGiven k n r b
 unfolding ackGiven
-ack-some k n r b e = rw e
+ack-some k n r b e f g = rw (f, g, e) (settles k n r b e)
 
 -- the same call by another name
 pub named : {l m : Left} {number value : ℕ} {b : List ℕ} → Outcomes l number value b → l ≡ m → Outcomes m number value b

@@ -6,7 +6,7 @@ use Prim.Native.Nat.{ℕ}
 use lib.Dec.{eqb, ltb}
 use lib.ListN.{length, replicate}
 use Rattle.reading.specs.Refusal.{nr}
-use Rattle.inflight.specs.Rules.{limit, free, pubcomp, isTable, claimed, call, answerBy, waiting, Says, granted, freed, moved, refused, Left, left}
+use Rattle.inflight.specs.Rules.{limit, free, puback, pubrec, pubcomp, afterPubRec, isTable, claimed, call, answerBy, waiting, Says, granted, freed, moved, refused, Left, left}
 
 -- 39: not a state for each identifier
 abbrev pub badTable : List ℕ → Left
@@ -23,6 +23,14 @@ claimGiven q b = cond (isTable b) (cond (ltb q 3) (claimed q b) (left b (refused
 -- an acknowledgement, by the number of its kind
 unfoldable pub ackGiven : ℕ → ℕ → ℕ → List ℕ → Left
 ackGiven kind n reason b = cond (isTable b) (call (answerBy kind n reason) b) (badTable b)
+
+-- what the identifier of an answer waits for, "PubAck", "PubRec", "PubComp"; 4, which is no state, for "any other answer"
+unfoldable pub dueOf : ℕ → ℕ
+dueOf kind = cond (eqb kind 4) puback (cond (eqb kind 5) pubrec (cond (eqb kind 7) pubcomp 4))
+
+-- and what it goes on to
+unfoldable pub nextOf : ℕ → ℕ → ℕ
+nextOf kind reason = cond (eqb kind 5) (afterPubRec reason) free
 
 -- 0, or 39 for what is no table
 unfoldable pub waitingNumber : List ℕ → ℕ

@@ -9,9 +9,9 @@ ghost use Prim.Native.Nat.{_+_, _≤_, _<_};
 ghost use lib.Dec.{ltb};
 ghost use lib.ListN.{length, drop, replicate};
 ghost use lib.Seq.{sets};
-ghost use Rattle.inflight.specs.Rules.{free, allStates, isTable, firstFree, claimFor, settled, call, answerBy, pubRec, becameOf, oneIfWaits, waiting};
+ghost use Rattle.inflight.specs.Rules.{free, allStates, isTable, firstFree, claimFor, settled, becameOf, oneIfWaits, waiting};
 ghost use Rattle.inflight.specs.Told.{Ahead};
-ghost use Rattle.c_inflight.specs.Given.{startGiven, claimGiven, ackGiven, waitingNumber, waitingValue, valueOf, Ends, Outcomes};
+ghost use Rattle.c_inflight.specs.Given.{startGiven, claimGiven, dueOf, nextOf, ackGiven, waitingNumber, waitingValue, valueOf, Ends, Outcomes};
 
 pub const IN_FLIGHT_FULL: u32 = 29;
 
@@ -221,33 +221,33 @@ fn settle(codes: &mut [u8], id: u16, due: u8, to: u8) -> Outcome
     }
 }
 
-// A PubRec came with that reason.
-fn received(codes: &mut [u8], id: u16, reason: u8) -> Outcome
-    ensures { λ r. ⌜ Outcomes (call (pubRec id reason) (now (codes .entry))) (r .number) (r .value) (now (codes .exit)) ⌝ }
-{
-    if reason < 128 {
-        return settle(&mut *codes, id, 2, 3);
-    }
-    settle(&mut *codes, id, 2, 0)
-}
-
-// By the number of the kind.
-fn acked_by(codes: &mut [u8], kind: u8, id: u16, reason: u8) -> Outcome
-    ensures { λ r. ⌜ Outcomes (call (answerBy kind id reason) (now (codes .entry))) (r .number) (r .value) (now (codes .exit)) ⌝ }
+// What the identifier of an answer of this kind waits for; 4, which no byte of a table is, if the kind is no answer.
+fn due_of(kind: u8) -> u8
+    ensures { λ r. ⌜ r ≡ dueOf kind ⌝ }
 {
     if kind == 4 {
-        return settle(&mut *codes, id, 1, 0);
+        return 1;
     }
     if kind == 5 {
-        return received(&mut *codes, id, reason);
+        return 2;
     }
     if kind == 7 {
-        return settle(&mut *codes, id, 3, 0);
+        return 3;
     }
-    Outcome {
-        number: NOT_WAITING,
-        value: 0,
+    4
+}
+
+// What it goes on to.
+fn next_of(kind: u8, reason: u8) -> u8
+    ensures { λ r. ⌜ r ≡ nextOf kind reason ⌝ }
+{
+    if kind != 5 {
+        return 0;
     }
+    if reason < 128 {
+        return 3;
+    }
+    0
 }
 
 fn answers(kind: u8, id: u16, reason: u8, codes: &mut [u8]) -> Outcome
@@ -259,7 +259,7 @@ fn answers(kind: u8, id: u16, reason: u8, codes: &mut [u8]) -> Outcome
             value: 0,
         };
     }
-    acked_by(&mut *codes, kind, id, reason)
+    settle(&mut *codes, id, due_of(kind), next_of(kind, reason))
 }
 
 // ---- what C calls
