@@ -581,8 +581,8 @@ uint32_t ecch_inflight_claim(uint8_t qos, uint8_t *table, size_t table_len, uint
    does not wait for this. */
 uint32_t ecch_inflight_acked(uint8_t kind, uint16_t id, uint8_t reason, uint8_t *table, size_t table_len, uint64_t *answer, size_t answer_len);
 
-/* How many identifiers wait; 0 for what is no table. */
-size_t ecch_inflight_waiting(const uint8_t *table, size_t table_len);
+/* How many identifiers wait: their number is stored in `answer`. Like every call, it tells what is no table. */
+uint32_t ecch_inflight_waiting(const uint8_t *table, size_t table_len, uint64_t *answer, size_t answer_len);
 
 /* ---- a journal: that table kept through a power cut in a lent area of two or more whole blocks of 512 bytes (P11 of 02), else
    ECCH_BAD_AREA before all else, and nothing changed. Start an area once; from then on only saves may write to it. If the power is cut

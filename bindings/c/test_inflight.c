@@ -1,4 +1,4 @@
-/* P4 from C: claims and answers, each refusal, bytes that are no table, and a million random calls held against a model of 02's words. */
+/* P4 from C: claims and answers, each refusal, bytes that are no table at each place, and a million random calls held against a model of 02's words. */
 #include "ecchjulmina.h"
 
 #include <stdio.h>
@@ -21,6 +21,41 @@ static uint32_t acked(unsigned kind, unsigned id, unsigned reason) {
     return ecch_inflight_acked((uint8_t)kind, (uint16_t)id, (uint8_t)reason, table, sizeof table, answer, 1);
 }
 
+static uint64_t waiting(void) {
+    uint64_t n[2] = {77, 78};
+    EXPECT(ecch_inflight_waiting(table, sizeof table, n, 2) == 0 && n[1] == 78);
+    return n[0];
+}
+
+/* Each byte that is no state, at each place: every call says 39, stores 0 and leaves the bytes as they were. */
+static void no_table(void) {
+    static const uint8_t odd[] = {4, 5, 7, 8, 16, 32, 64, 127, 128, 131, 252, 255};
+    uint8_t kept[ECCH_IDENTIFIERS + 1];
+    unsigned i, k;
+    for (i = 0; i < ECCH_IDENTIFIERS; i++) table[i] = (uint8_t)(i % 7 % 4);
+    for (i = 0; i < ECCH_IDENTIFIERS; i++) {
+        for (k = 0; k < sizeof odd; k++) {
+            const uint8_t was = table[i];
+            uint64_t n[1] = {77};
+            table[i] = odd[k];
+            memcpy(kept, table, sizeof table);
+            EXPECT(claim(k % 3) == ECCH_BAD_TABLE && answer[0] == 0);
+            EXPECT(acked(ECCH_PUBACK + k % 4, i + 1, 0) == ECCH_BAD_TABLE && answer[0] == 0);
+            EXPECT(ecch_inflight_waiting(table, sizeof table, n, 1) == ECCH_BAD_TABLE && n[0] == 0);
+            EXPECT(!memcmp(kept, table, sizeof table));
+            table[i] = was;
+        }
+    }
+    memcpy(kept, table, sizeof table);
+    kept[ECCH_IDENTIFIERS] = 0;
+    for (i = 0; i <= ECCH_IDENTIFIERS + 1; i += i < 40 ? 1 : 41) {
+        const uint32_t want = i == ECCH_IDENTIFIERS ? 0 : ECCH_BAD_TABLE;
+        uint64_t n[1] = {77};
+        EXPECT(ecch_inflight_waiting(kept, i, n, 1) == want && (want == 0 || n[0] == 0));
+        EXPECT(ecch_inflight_acked(ECCH_PUBACK, 0, 0, kept, i, n, 1) == (want ? want : ECCH_NOT_WAITING));
+    }
+}
+
 static void by_hand(void) {
     uint8_t small[ECCH_IDENTIFIERS + 1];
     unsigned i;
@@ -34,7 +69,7 @@ static void by_hand(void) {
     EXPECT(claim(1) == 0 && answer[0] == 1 && table[0] == 1);
     EXPECT(claim(2) == 0 && answer[0] == 2 && table[1] == 2);
     EXPECT(claim(1) == 0 && answer[0] == 3);
-    EXPECT(ecch_inflight_waiting(table, sizeof table) == 3);
+    EXPECT(waiting() == 3);
     /* answers in another order than the messages */
     EXPECT(acked(ECCH_PUBACK, 3, 0) == 0 && answer[0] == 0 && table[2] == 0);
     EXPECT(acked(ECCH_PUBACK, 2, 0) == ECCH_NOT_WAITING);
@@ -50,7 +85,7 @@ static void by_hand(void) {
     EXPECT(acked(ECCH_PUBACK, 65535, 0) == ECCH_NOT_WAITING);
     for (i = 2; i <= ECCH_IDENTIFIERS; i++) EXPECT(claim(1 + i % 2) == 0 && answer[0] == i);
     EXPECT(claim(1) == ECCH_IN_FLIGHT_FULL && claim(2) == ECCH_IN_FLIGHT_FULL && claim(0) == ECCH_NO_CLAIM);
-    EXPECT(ecch_inflight_waiting(table, sizeof table) == ECCH_IDENTIFIERS);
+    EXPECT(waiting() == ECCH_IDENTIFIERS);
     memcpy(small, table, sizeof table);
     small[ECCH_IDENTIFIERS] = 0;
     EXPECT(ecch_inflight_claim(1, small, sizeof small, answer, 1) == ECCH_BAD_TABLE);
@@ -108,12 +143,13 @@ static void at_random(unsigned long calls) {
         EXPECT(got == want);
         EXPECT(answer[0] == value);
         if (n % 64 == 0) EXPECT(!memcmp(table, model, sizeof table));
-        if (n % 64 == 0) EXPECT(ecch_inflight_waiting(table, sizeof table) == granted - freed);
+        if (n % 64 == 0) EXPECT(waiting() == granted - freed);
     }
     EXPECT(!memcmp(table, model, sizeof table));
 }
 
 int main(int argc, char **argv) {
+    no_table();
     by_hand();
     at_random(argc > 1 ? strtoul(argv[1], NULL, 10) : 1000000);
     printf("%lu of %lu as expected\n", tried - failed, tried);

@@ -8,6 +8,7 @@ pub use v5::mqttbytes::{Error, QoS};
 pub mod compare;
 pub mod limit;
 pub mod same;
+pub mod state;
 pub mod streams;
 pub mod timing;
 pub mod topics;

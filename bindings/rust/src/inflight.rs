@@ -75,8 +75,9 @@ impl InFlight {
 
     /// The table of those bytes, if they are one.
     pub fn from_bytes(bytes: &[u8]) -> Option<InFlight> {
-        let table: [u8; IDENTIFIERS] = bytes.try_into().ok()?;
-        table.iter().all(|w| *w < 4).then_some(InFlight { table })
+        let table = bytes.try_into().ok()?;
+        let it = InFlight { table };
+        it.count().is_some().then_some(it)
     }
 
     pub fn as_bytes(&self) -> &[u8; IDENTIFIERS] {
@@ -118,9 +119,20 @@ impl InFlight {
         self.acked(ECCH_PUBCOMP, ack.pkid, ack.reason.code())
     }
 
+    /// How many identifiers wait; none if the bytes are no table.
+    fn count(&self) -> Option<usize> {
+        let mut count = 0;
+        let n = unsafe { ecch_inflight_waiting(self.table.as_ptr(), self.table.len(), &mut count, 1) };
+        match n as usize {
+            0 => Some(count as usize),
+            ECCH_BAD_TABLE => None,
+            n => panic!("ecch_inflight_waiting gave {n}"),
+        }
+    }
+
     /// How many identifiers wait.
     pub fn waiting(&self) -> usize {
-        unsafe { ecch_inflight_waiting(self.table.as_ptr(), self.table.len()) }
+        self.count().expect("the table of an InFlight is one")
     }
 
     pub fn waits_for(&self, id: u16) -> Option<Wait> {

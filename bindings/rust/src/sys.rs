@@ -39,7 +39,7 @@ layout! {
     ECCH_BAD_BUFFER = 35, ECCH_FRAME_TOO_LONG = 36,
     ECCH_STATE_HELD = 0, ECCH_STATE_ENDED = 1, ECCH_STATE_VALUE_1 = 2, ECCH_STATE_VALUE_2 = 3, ECCH_STATE_NUMBERS = 4,
     ECCH_FRAME_USED = 0, ECCH_FRAME_VALUE_1 = 1, ECCH_FRAME_VALUE_2 = 2, ECCH_FRAME_PLACE = 3, ECCH_FRAME_LEN = 4, ECCH_FRAME_NUMBERS = 5,
-    ECCH_IDENTIFIERS = 1024, ECCH_IN_FLIGHT_FULL = 29, ECCH_NO_CLAIM = 30, ECCH_NOT_WAITING = 31, ECCH_JOURNAL_EMPTY = 33, ECCH_JOURNAL_ENDED = 34,
+    ECCH_IDENTIFIERS = 1024, ECCH_IN_FLIGHT_FULL = 29, ECCH_NO_CLAIM = 30, ECCH_NOT_WAITING = 31, ECCH_BAD_TABLE = 39, ECCH_JOURNAL_EMPTY = 33, ECCH_JOURNAL_ENDED = 34,
 }
 
 extern "C" {
@@ -240,7 +240,7 @@ extern "C" {
     pub fn ecch_inflight_start(table: *mut u8, table_len: usize) -> u32;
     pub fn ecch_inflight_claim(qos: u8, table: *mut u8, table_len: usize, answer: *mut u64, answer_len: usize) -> u32;
     pub fn ecch_inflight_acked(kind: u8, id: u16, reason: u8, table: *mut u8, table_len: usize, answer: *mut u64, answer_len: usize) -> u32;
-    pub fn ecch_inflight_waiting(table: *const u8, table_len: usize) -> usize;
+    pub fn ecch_inflight_waiting(table: *const u8, table_len: usize, answer: *mut u64, answer_len: usize) -> u32;
     pub fn ecch_journal_start(area: *mut u8, area_len: usize) -> u32;
     pub fn ecch_journal_save(
         table: *const u8, table_len: usize,

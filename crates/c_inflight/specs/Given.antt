@@ -1,12 +1,12 @@
 -- What C hands over of P4, the bytes of a table, and what it is answered. Bytes that are no table are refused, and left as they are.
 use mathlib.Core.Path.{_≡_}
-use mathlib.Core.Bool.{Bool, true, false, cond}
+use mathlib.Core.Bool.{cond}
 use mathlib.Core.List.{List, [], _∷_}
 use Prim.Native.Nat.{ℕ}
 use lib.Dec.{eqb, ltb}
 use lib.ListN.{length, replicate}
 use Rattle.reading.specs.Refusal.{nr}
-use Rattle.inflight.specs.Rules.{limit, free, pubcomp, isTable, claimed, call, answerBy, waiting, Says, granted, freed, moved, refused, Left, left}
+use Rattle.inflight.specs.Rules.{limit, free, puback, pubrec, pubcomp, afterPubRec, isTable, claimed, call, answerBy, waiting, Says, granted, freed, moved, refused, Left, left}
 
 -- 39: not a state for each identifier
 abbrev pub badTable : List ℕ → Left
@@ -24,9 +24,21 @@ claimGiven q b = cond (isTable b) (cond (ltb q 3) (claimed q b) (left b (refused
 unfoldable pub ackGiven : ℕ → ℕ → ℕ → List ℕ → Left
 ackGiven kind n reason b = cond (isTable b) (call (answerBy kind n reason) b) (badTable b)
 
--- "the number waiting"; none in what is no table
-unfoldable pub waitingGiven : List ℕ → ℕ
-waitingGiven b = waiting (cond (isTable b) b (replicate limit free))
+-- what the identifier of an answer waits for, "PubAck", "PubRec", "PubComp"; 4, which is no state, for "any other answer"
+unfoldable pub dueOf : ℕ → ℕ
+dueOf kind = cond (eqb kind 4) puback (cond (eqb kind 5) pubrec (cond (eqb kind 7) pubcomp 4))
+
+-- and what it goes on to
+unfoldable pub nextOf : ℕ → ℕ → ℕ
+nextOf kind reason = cond (eqb kind 5) (afterPubRec reason) free
+
+-- 0, or 39 for what is no table
+unfoldable pub waitingNumber : List ℕ → ℕ
+waitingNumber b = cond (isTable b) 0 39
+
+-- "the number waiting"
+unfoldable pub waitingValue : List ℕ → ℕ
+waitingValue b = cond (isTable b) (waiting b) 0
 
 -- what is returned: 0, or the refusal's number
 abbrev pub numberOf : Says → ℕ
@@ -42,14 +54,13 @@ valueOf freed = free
 valueOf moved = pubcomp
 valueOf (refused k) = 0
 
--- the table b goes on to what is left of it
+-- a call that returns `number` and leaves b: what is left of the table
 pub record Ends (l : Left) (number : ℕ) (b : List ℕ) : Type 0 where
   pub returned : number ≡ numberOf (l .says)
   pub table : b ≡ l .table
 
--- the same before it is stored: t where `fine`, else b as it was
-pub record Outcomes (b : List ℕ) (l : Left) (number value : ℕ) (fine : Bool) (t : List ℕ) : Type 0 where
+-- the same, with what it stores
+pub record Outcomes (l : Left) (number value : ℕ) (b : List ℕ) : Type 0 where
   pub returned : number ≡ numberOf (l .says)
   pub stores : value ≡ valueOf (l .says)
-  pub long : fine ≡ true → length b ≡ limit
-  pub table : cond fine t b ≡ l .table
+  pub table : b ≡ l .table

@@ -1,19 +1,16 @@
 -- The ways that a call of C can end.
 -- Assumes nothing.
 use mathlib.Core.Path.{_≡_, refl, sym, ap, _∙_}
-use mathlib.Core.Bool.{Bool, true, false, cond}
-use mathlib.Core.List.{List, [], _∷_}
+use mathlib.Core.Bool.{true, false}
+use mathlib.Core.List.{List, []}
 use Prim.Native.Nat.{ℕ, _<_, _≤_}
-use borrow.Author.Tests.{eq-eqb, ne-eqb, lt-ltb, le-ltb}
-use lib.Dec.{eqb, ltb}
-use lib.ListN.{length, replicate}
-use Rattle.reading.specs.Refusal.{nr}
-use Rattle.inflight.specs.Rules.{limit, free, isTable}
-use Rattle.inflight.specs.Told.{waitsOf, TakenFrom}
-use Rattle.inflight.specs.declared.FromCodes.{FromCodes}
-use Rattle.journal.specs.Area.{whole, save, recover, Says, refused, badArea, Left, left}
-use Rattle.journal.specs.Told.{saveOf, foundOf, freshUnless, Recovers}
-use Rattle.journal.specs.declared.Saved.{Saved}
+use borrow.Author.Tests.{ne-eqb, lt-ltb, le-ltb}
+use Rattle.inflight.specs.Rules.{limit, isTable}
+use Rattle.inflight.specs.Told.{waitsOf}
+use Rattle.c_journal.specs.Bytes.{TakenFrom}
+use Rattle.c_journal.specs.declared.FromCodes.{FromCodes}
+use Rattle.journal.specs.Area.{whole, save, recover, Says, Left, left}
+use Rattle.journal.specs.Told.{foundOf, freshUnless, Recovers}
 use Rattle.journal.specs.declared.Found.{Found}
 use Rattle.journal.specs.declared.Recovered.{Recovered}
 use Rattle.c_journal.specs.Given.{numberOf, firstOf, blockOf, tableOf, saveGiven, roomNumber, Ends, Done}

@@ -1,8 +1,9 @@
 // What C calls for P11: a journal over lent memory, and its table as the lent bytes of c_inflight. bindings/c/ecchjulmina.h says the rest.
 use inflight::InFlight;
 use inflight::LIMIT;
-use inflight::from_codes;
-use inflight::put_codes;
+use inflight::Place;
+use inflight::Wait;
+use inflight::code;
 use journal::Found;
 use journal::Saved;
 use journal::Started;
@@ -13,12 +14,14 @@ use journal::start;
 use layout::store::store;
 ghost use mathlib.Core.Path.{_≡_};
 ghost use mathlib.Core.List.{_∷_, []};
+ghost use Prim.Native.Nat.{_<_, _≤_};
 ghost use lib.ListN.{length};
 ghost use lib.Seq.{sets};
 ghost use Rattle.inflight.specs.Rules.{limit};
-ghost use Rattle.inflight.specs.Told.{waitsOf, stored};
+ghost use Rattle.inflight.specs.Told.{codeOf, waitsOf};
 ghost use Rattle.journal.specs.Area.{start as startOf, recover as recoverOf};
 ghost use Rattle.journal.specs.Told.{saveOf, foundOf};
+ghost use Rattle.c_journal.specs.Bytes.{TakenFrom, stored};
 ghost use Rattle.c_journal.specs.Given.{numberOf, firstOf, blockOf, tableOf, saveGiven, unlessBadArea, recoverNumber, roomNumber, Ends, Done};
 
 pub const BAD_AREA: u32 = 32;
@@ -26,6 +29,71 @@ pub const BAD_AREA: u32 = 32;
 pub const JOURNAL_EMPTY: u32 = 33;
 
 pub const JOURNAL_ENDED: u32 = 34;
+
+// ---- a table as the lent bytes of c_inflight, one for each identifier
+
+// The table of those bytes, if they are one; else a fresh one.
+struct FromCodes {
+    fine: bool,
+    table: InFlight,
+}
+
+fn wait_of(code: u8) -> Wait
+    requires { ⌜ code < 4 ⌝ }
+    ensures { λ r. ⌜ codeOf r ≡ code ⌝ }
+{
+    match code {
+        0 => Wait::Free,
+        1 => Wait::PubAck,
+        2 => Wait::PubRec,
+        _ => Wait::PubComp,
+    }
+}
+
+fn from_codes(codes: &[u8]) -> FromCodes
+    ensures { λ r. ⌜ TakenFrom (now (codes .entry)) r ⌝ }
+{
+    let mut table = InFlight::new();
+    if codes.len() != LIMIT {
+        return FromCodes { fine: false, table };
+    }
+    let mut i: usize = 0;
+    while i < LIMIT {
+        let x = codes[i];
+        if 3 < x {
+            let table = InFlight::new();
+            return FromCodes { fine: false, table };
+        }
+        let p = Place { wait: wait_of(x) };
+        table.places[i] = p;
+        i += 1;
+    }
+    FromCodes { fine: true, table }
+}
+
+// What each identifier waits for, from index 0 on; nothing is stored if not all fit.
+fn put_codes(table: InFlight, out: &mut [u8])
+    ensures { λ r. ⌜ now (out .exit) ≡ stored (waitsOf table) (now (out .entry)) ⌝ }
+{
+    if LIMIT <= out.len() {
+        put_all(table, &mut *out);
+    }
+}
+
+fn put_all(table: InFlight, out: &mut [u8])
+    requires { ⌜ limit ≤ length (now out) ⌝ }
+    ensures { λ r. ⌜ now (out .exit) ≡ sets (now (out .entry)) 0 (waitsOf table) ⌝ }
+{
+    let mut i: usize = 0;
+    while i < LIMIT {
+        let p = table.places[i];
+        let w = p.wait;
+        out[i] = code(w);
+        i += 1;
+    }
+}
+
+// ---- saving and recovering
 
 // What a save returns and stores.
 struct Outcome {

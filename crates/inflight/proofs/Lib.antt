@@ -1,4 +1,3 @@
 pub mod Laws
-pub mod Stores
 pub mod Theorems
 pub mod Told

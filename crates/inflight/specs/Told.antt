@@ -1,13 +1,10 @@
 -- What the values of src/lib.rt say in the terms of Rules: "any answer that is an enum has a definition".
 use mathlib.Core.Path.{_≡_}
-use mathlib.Core.Bool.{cond}
 use mathlib.Core.List.{List, [], map}
-use Prim.Native.Nat.{ℕ}
-use lib.Dec.{leb}
-use lib.ListN.{length, replicate}
-use lib.Seq.{sets}
+use Prim.Native.Nat.{ℕ, _+_, _≤_}
+use lib.ListN.{length, drop}
 use Rattle.reading.specs.Refusal.{nr}
-use Rattle.inflight.specs.Rules.{limit, isTable, free, puback, pubrec, pubcomp, Says, granted, freed, moved, refused, Left}
+use Rattle.inflight.specs.Rules.{firstFree, free, puback, pubrec, pubcomp, Says, granted, freed, moved, refused, Left}
 use Rattle.inflight.specs.declared.Wait.{Wait}
 use Rattle.inflight.specs.declared.Wait.the-variants.{Free, PubAck, PubRec, PubComp}
 use Rattle.inflight.specs.declared.Place.{Place}
@@ -18,7 +15,6 @@ use Rattle.inflight.specs.declared.Claimed.{Claimed}
 use Rattle.inflight.specs.declared.Answer.{Answer}
 use Rattle.inflight.specs.declared.Answer.the-variants.{Freed, Moved, NotWaiting}
 use Rattle.inflight.specs.declared.Answered.{Answered}
-use Rattle.inflight.specs.declared.FromCodes.{FromCodes}
 
 -- P11, "free 0, PubAck 1, PubRec 2, PubComp 3"
 abbrev pub codeOf : Wait → ℕ
@@ -55,11 +51,7 @@ afterClaim r = record { table = waitsOf (r .table); says = claimOf (r .claim) }
 abbrev pub afterAnswer : Answered → Left
 afterAnswer r = record { table = waitsOf (r .table); says = answerOf (r .answer) }
 
--- the table of those bytes, or a fresh one if they are none
-pub record TakenFrom (b : List ℕ) (r : FromCodes) : Type 0 where
-  pub fine : r .fine ≡ isTable b
-  pub table : waitsOf (r .table) ≡ cond (isTable b) b (replicate limit free)
-
--- a table stored from index 0 on, if all of it fits
-unfoldable pub stored : List ℕ → List ℕ → List ℕ
-stored t out = cond (leb limit (length out)) (sets out 0 t) out
+-- no place before i is free: what a walk to the first free one knows there
+pub record Ahead (t : List ℕ) (i : ℕ) : Type 0 where
+  pub within : i ≤ length t
+  pub rest : firstFree t ≡ i + firstFree (drop i t)

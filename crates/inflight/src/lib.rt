@@ -4,11 +4,9 @@ use records::ack_record::Ack;
 use records::ack_record::AckKind;
 use records::qos::QoS;
 ghost use mathlib.Core.Path.{_≡_};
-ghost use Prim.Native.Nat.{_<_, _≤_};
-ghost use lib.ListN.{length, replicate};
-ghost use lib.Seq.{sets};
+ghost use lib.ListN.{replicate};
 ghost use Rattle.inflight.specs.Rules.{limit, free, firstFree, claimFor, claimed, waitOf, put, settled, becameOf, oneIfWaits, waiting, call, pubAck, pubRec, pubComp, answerBy};
-ghost use Rattle.inflight.specs.Told.{codeOf, waitsOf, answerOf, afterClaim, afterAnswer, TakenFrom, stored};
+ghost use Rattle.inflight.specs.Told.{codeOf, waitsOf, answerOf, afterClaim, afterAnswer};
 ghost use Rattle.records.specs.Told.{toldQoS, toldAckKind};
 
 // Identifiers are 1 to LIMIT; `limit` of specs/Rules.antt is the same number.
@@ -213,32 +211,15 @@ impl InFlight {
         let id = ack.pkid;
         let reason = ack.reason;
         match kind {
-            AckKind::PubAck => self.puback(id),
-            AckKind::PubRec => self.pubrec(id, reason),
-            AckKind::PubRel => Answered {
-                table: self,
-                answer: Answer::NotWaiting,
-            },
-            AckKind::PubComp => self.pubcomp(id),
-        }
-    }
-
-    // The same by the number of the kind, for C; a kind that is no answer is refused like a PubRel.
-    pub fn acked_by(self, kind: u8, id: u16, reason: u8) -> Answered
-        ensures { λ r. ⌜ afterAnswer r ≡ call (answerBy kind id reason) (waitsOf self) ⌝ }
-    {
-        if kind == 4 {
-            return self.puback(id);
-        }
-        if kind == 5 {
-            return self.pubrec(id, reason);
-        }
-        if kind == 7 {
-            return self.pubcomp(id);
-        }
-        Answered {
-            table: self,
-            answer: Answer::NotWaiting,
+            AckKind::PubAck => return self.puback(id),
+            AckKind::PubRec => return self.pubrec(id, reason),
+            AckKind::PubRel => {
+                return Answered {
+                    table: self,
+                    answer: Answer::NotWaiting,
+                };
+            }
+            AckKind::PubComp => return self.pubcomp(id),
         }
     }
 
@@ -262,85 +243,18 @@ impl InFlight {
 fn one_if_waits(w: Wait) -> usize
     ensures { λ r. ⌜ r ≡ oneIfWaits (codeOf w) ⌝ }
 {
-    match w {
-        Wait::Free => 0,
-        Wait::PubAck => 1,
-        Wait::PubRec => 1,
-        Wait::PubComp => 1,
+    if code(w) == 0 {
+        return 0;
     }
+    1
 }
 
 // What an identifier that went on to `w` says of itself.
 fn became(w: Wait) -> Answer
     ensures { λ r. ⌜ answerOf r ≡ becameOf (codeOf w) ⌝ }
 {
-    match w {
-        Wait::Free => Answer::Freed,
-        Wait::PubAck => Answer::Moved,
-        Wait::PubRec => Answer::Moved,
-        Wait::PubComp => Answer::Moved,
+    if code(w) == 0 {
+        return Answer::Freed;
     }
-}
-
-// ---- a table as bytes, one for each identifier
-
-// The table of those bytes, if they are one; else a fresh one.
-pub struct FromCodes {
-    pub fine: bool,
-    pub table: InFlight,
-}
-
-fn wait_of(code: u8) -> Wait
-    requires { ⌜ code < 4 ⌝ }
-    ensures { λ r. ⌜ codeOf r ≡ code ⌝ }
-{
-    match code {
-        0 => Wait::Free,
-        1 => Wait::PubAck,
-        2 => Wait::PubRec,
-        _ => Wait::PubComp,
-    }
-}
-
-pub fn from_codes(codes: &[u8]) -> FromCodes
-    ensures { λ r. ⌜ TakenFrom (now (codes .entry)) r ⌝ }
-{
-    let mut table = InFlight::new();
-    if codes.len() != LIMIT {
-        return FromCodes { fine: false, table };
-    }
-    let mut i: usize = 0;
-    while i < LIMIT {
-        let x = codes[i];
-        if 3 < x {
-            let table = InFlight::new();
-            return FromCodes { fine: false, table };
-        }
-        let p = Place { wait: wait_of(x) };
-        table.places[i] = p;
-        i += 1;
-    }
-    FromCodes { fine: true, table }
-}
-
-// What each identifier waits for, from index 0 on; nothing is stored if not all fit.
-pub fn put_codes(table: InFlight, out: &mut [u8])
-    ensures { λ r. ⌜ now (out .exit) ≡ stored (waitsOf table) (now (out .entry)) ⌝ }
-{
-    if LIMIT <= out.len() {
-        put_all(table, &mut *out);
-    }
-}
-
-fn put_all(table: InFlight, out: &mut [u8])
-    requires { ⌜ limit ≤ length (now out) ⌝ }
-    ensures { λ r. ⌜ now (out .exit) ≡ sets (now (out .entry)) 0 (waitsOf table) ⌝ }
-{
-    let mut i: usize = 0;
-    while i < LIMIT {
-        let p = table.places[i];
-        let w = p.wait;
-        out[i] = code(w);
-        i += 1;
-    }
+    Answer::Moved
 }

@@ -8,6 +8,7 @@ pub mod Life
 pub mod Limits
 pub mod Places
 pub mod Raised
+pub mod Stores
 pub mod Theorems
 pub mod Turns
 pub mod Told

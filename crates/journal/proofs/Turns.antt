@@ -1,26 +1,26 @@
 -- What the functions of src/ use: one law for each way that a turn of a loop can go.
 -- Assumes nothing.
-use mathlib.Core.Path.{_≡_, refl, sym, ap, ap₂, _∙_, subst}
-use mathlib.Core.Bool.{Bool, true, false, not, _&&_}
+use mathlib.Core.Path.{_≡_, refl, sym, ap, ap₂, _∙_}
+use mathlib.Core.Bool.{Bool, true, false}
 use mathlib.Core.List.{List, [], _∷_, _++_, append-nil}
 use Prim.Native.Nat.{ℕ, zero, suc, _+_, _*_, _-_, _/_, _%_, _^_, _<_, _≤_}
-use native.Mathlib.Nat.{not-suc-le-zero, pow-suc, pow-le-pow-right, mod-lt, zero-lt-suc}
+use native.Mathlib.Nat.{pow-suc, pow-le-pow-right, mod-lt, zero-lt-suc}
 use native.Mathlib.Numerals.{add-one}
 use native.Mathlib.Omega.{arith}
 use borrow.Author.Fill.{fill-none, fill-more}
-use borrow.Author.Tests.{eq-eqb, ne-eqb, lt-leb, le-leb}
-use lib.Dec.{eqb, leb}
-use lib.ListN.{length, getD, take, drop, set, replicate, length-take, length-drop, length-append, drop-of-length-le, length-map, length-set}
-use lib.Seq.{sets, length-sets, drop-cons, take-suc, take-suc-set, take-all, length-take-le}
+use borrow.Author.Tests.{ne-eqb}
+use lib.Dec.{eqb}
+use lib.ListN.{length, getD, take, drop, set, replicate, length-drop, drop-of-length-le, length-set}
+use lib.Seq.{sets, length-sets, drop-cons, take-suc-set, take-all, length-take-le}
 use Rattle.inflight.specs.Rules.{limit}
 use Rattle.inflight.specs.Told.{codeOf, waitsOf}
-use Rattle.inflight.proofs.Laws.{waits-length, wait-set}
+use Rattle.inflight.proofs.Laws.{waits-length, wait-at, wait-set}
 use Rattle.inflight.specs.declared.Wait.{Wait}
+use Rattle.inflight.specs.declared.Place.{Place}
 use Rattle.inflight.specs.declared.InFlight.{InFlight}
-use Rattle.inflight.proofs.Stores.{sets-more}
-use Rattle.journal.specs.Block.{each, bytesOf, bigEndianFrom, bigEndian, allZero, packedAt, waitIn, tableIn, numberOf, good}
+use Rattle.journal.proofs.Stores.{sets-more}
+use Rattle.journal.specs.Block.{each, bigEndianFrom, bigEndian, allZero, packedAt, waitIn, numberOf, good}
 use Rattle.crc32.specs.Crc.{crcOf}
-use Rattle.journal.specs.Area.{whole}
 use Rattle.journal.specs.Told.{BlockAt}
 use Rattle.journal.proofs.Bytes.{length-each}
 
@@ -174,6 +174,14 @@ code-small Wait.Free = omega arith
 code-small Wait.PubAck = omega arith
 code-small Wait.PubRec = omega arith
 code-small Wait.PubComp = omega arith
+
+-- the byte of four places
+pub four-places : (t : InFlight) (j : ℕ) (a b c d : Place) {x : ℕ} → 4 * j + 4 ≤ length (t .places)
+    → x ≡ codeOf (getD (t .places) (4 * j) a .wait) + 4 * codeOf (getD (t .places) (4 * j + 1) b .wait) + 16 * codeOf (getD (t .places) (4 * j + 2) c .wait) + 64 * codeOf (getD (t .places) (4 * j + 3) d .wait)
+    → x ≡ packedAt (waitsOf t) j
+unfolding packedAt
+four-places t j a b c d h e =
+    e ∙ rw (wait-at t (4 * j) a (omega arith), wait-at t (4 * j + 1) b (omega arith), wait-at t (4 * j + 2) c (omega arith), wait-at t (4 * j + 3) d (omega arith))
 
 -- ---- zeroing
 

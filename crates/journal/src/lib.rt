@@ -272,37 +272,23 @@ fn four(a: Wait, b: Wait, c: Wait, d: Wait) -> u8
     code(a) + 4 * code(b) + 16 * code(c) + 64 * code(d)
 }
 
-// What identifier i + 1 waits for.
-fn place(table: InFlight, i: usize) -> Wait
-    requires { ⌜ i < limit ⌝ }
-    ensures { λ r. ⌜ codeOf r ≡ getD (waitsOf table) i 0 ⌝ }
-{
-    let p = table.places[i];
-    p.wait
-}
-
-// The byte of identifiers 4 j + 1 to 4 j + 4.
-fn packed_at(table: InFlight, j: usize) -> u8
-    requires { ⌜ 4 * j + 4 ≤ limit ⌝ }
-    ensures { λ r. ⌜ r ≡ packedAt (waitsOf table) j ⌝ }
-{
-    let i = 4 * j;
-    four(
-        place(table, i),
-        place(table, i + 1),
-        place(table, i + 2),
-        place(table, i + 3),
-    )
-}
-
-// The marks of the table, behind the number.
+// The marks of the table, behind the number: four identifiers to a byte.
 fn put_marks(out: &mut [u8], table: InFlight)
     requires { ⌜ length (now out) ≡ 512 ⌝ }
     ensures { λ r. ⌜ now (out .exit) ≡ sets (now (out .entry)) 8 (each (packedAt (waitsOf table)) 0 (limit / 4)) ⌝ }
 {
     let mut j = 0;
     while j < LIMIT / 4 {
-        out[8 + j] = packed_at(table, j);
+        let i = 4 * j;
+        let p = table.places[i];
+        let q = table.places[i + 1];
+        let r = table.places[i + 2];
+        let s = table.places[i + 3];
+        let first = p.wait;
+        let second = q.wait;
+        let third = r.wait;
+        let fourth = s.wait;
+        out[8 + j] = four(first, second, third, fourth);
         j += 1;
     }
 }

@@ -1,50 +1,54 @@
 -- `c_inflight::claims` is right since each way to end is one of the definition's. Assumes nothing.
-use mathlib.Core.Path.{_≡_, refl, sym, ap, _∙_}
-use Prim.Native.Nat.{ℕ}
-use native.Mathlib.Omega.{arith}
 use borrow.Author.Needs.{needs}
+use mathlib.Core.Path.{refl, sym, _∙_}
+use mathlib.Core.List.{_∷_, []}
+use native.Mathlib.Omega.{arith}
 use borrow.Author.Tests.{not-true, not-false}
-use lib.ListN.{length}
-use Rattle.inflight.specs.Rules.{limit}
-use Rattle.inflight.specs.Told.{waitsOf}
-use Rattle.inflight.proofs.Laws.{waits-length, unmapped}
-use Rattle.c_inflight.proofs.Laws.{no-table, claim-none, bad-qos, claim-ends, is-taken}
+use Rattle.c_inflight.proofs.Laws.{refuses, named, claim-none, claim-zero, claim-odd, claim-some}
 use Rattle.c_inflight.proofs.claims.Statement.{statement}
 use Rattle.c_inflight.proofs.claims.Tie as tie
 
-from-codes-requires : tie.Need-from-codes-requires
-from-codes-requires c κs = search needs
+is-table-requires : tie.Need-is-table-requires
+is-table-requires c κs = search needs
+
+same-length : tie.Need-same-length
+same-length c = search needs
 
 returns : tie.Need-returns
-returns c = no-table _ _ _ (claim-none _ _ (sym (c .before .before .before .from-codes .ensures .fine) ∙ not-true _ (c .if1 .taken)))
+returns c = refuses 39 [] (claim-none _ _ (sym (c .before .is-table .ensures) ∙ not-true _ (c .if1 .taken))) refl
+
+same-length-2 : tie.Need-same-length-2
+same-length-2 c = search needs
 
 returns-2 : tie.Need-returns-2
-returns-2 c = bad-qos _ _ _ (sym (c .before .before .before .before .from-codes .ensures .fine) ∙ not-false _ (c .before .if1 .left)) (omega arith)
+returns-2 c = refuses 30 [] (claim-zero _ _ (sym (c .before .before .is-table .ensures) ∙ not-false _ (c .before .if1 .left)) (c .if2 .taken)) refl
 
-qos-of-requires : tie.Need-qos-of-requires
-qos-of-requires c κs = search needs
-
-claim-requires : tie.Need-claim-requires
-claim-requires c κs = search needs
-
-claim-number-requires : tie.Need-claim-number-requires
-claim-number-requires c κs = search needs
-
-claim-value-requires : tie.Need-claim-value-requires
-claim-value-requires c κs = search needs
+same-length-3 : tie.Need-same-length-3
+same-length-3 c = search needs
 
 returns-3 : tie.Need-returns-3
-returns-3 c = claim-ends _ _ _ _ _ _ (sym (c .before .before .before .before .before .before .before .before .before .from-codes .ensures .fine) ∙ not-false _ (c .before .before .before .before .before .before .if1 .left)) (is-taken (c .before .before .before .before .before .before .before .before .before .from-codes .ensures) (sym (c .before .before .before .before .before .before .before .before .before .from-codes .ensures .fine) ∙ not-false _ (c .before .before .before .before .before .before .if1 .left))) (c .before .before .before .before .qos-of .ensures) (omega arith) (c .before .before .before .claim .ensures) (c .before .claim-number .ensures) (c .claim-value .ensures)
+returns-3 c = refuses 11 (c .before .before .before .before .before .before .args .qos ∷ []) (claim-odd _ _ (sym (c .before .before .before .is-table .ensures) ∙ not-false _ (c .before .before .if1 .left)) (omega arith)) refl
+
+claim-for-requires : tie.Need-claim-for-requires
+claim-for-requires c κs = search needs
+
+same-length-4 : tie.Need-same-length-4
+same-length-4 c = search needs
+
+returns-4 : tie.Need-returns-4
+returns-4 c = named (c .before .before .claim-for .ensures) (claim-some _ _ (sym (c .before .before .before .before .before .before .before .is-table .ensures) ∙ not-false _ (c .before .before .before .before .before .before .if1 .left)) (c .before .before .before .before .before .if2 .left) (omega arith))
 
 pub claims-spec : {M : Type 1} → statement M
 claims-spec =
     tie.close
     (tie.spec
-    from-codes-requires
+    is-table-requires
+    same-length
     returns
+    same-length-2
     returns-2
-    qos-of-requires
-    claim-requires
-    claim-number-requires
-    claim-value-requires
-    returns-3)
+    same-length-3
+    returns-3
+    claim-for-requires
+    same-length-4
+    returns-4)

@@ -1,25 +1,24 @@
--- `c_inflight::ecch_inflight_waiting` is right since the bytes are the table, or a fresh one. Assumes nothing.
-use mathlib.Core.Path.{_≡_, refl, sym, ap, _∙_}
-use Prim.Native.Nat.{ℕ}
-use native.Mathlib.Omega.{arith}
+-- `c_inflight::ecch_inflight_waiting` is right since what is stored is what `waits` says. Assumes nothing.
 use borrow.Author.Needs.{needs}
-use borrow.Author.Tests.{not-true, not-false}
-use lib.ListN.{length}
-use Rattle.inflight.specs.Rules.{limit}
-use Rattle.inflight.specs.Told.{waitsOf}
-use Rattle.inflight.proofs.Laws.{waits-length, unmapped}
-use Rattle.c_inflight.proofs.Laws.{counted}
+use mathlib.Core.Path.{_∙_}
 use Rattle.c_inflight.proofs.ecch_inflight_waiting.Statement.{statement}
 use Rattle.c_inflight.proofs.ecch_inflight_waiting.Tie as tie
 
-from-codes-requires : tie.Need-from-codes-requires
-from-codes-requires c κs = search needs
+waits-requires : tie.Need-waits-requires
+waits-requires c κs = search needs
 
-waiting-requires : tie.Need-waiting-requires
-waiting-requires c κs = search needs
+slice-aggregate-store : tie.Need-slice-aggregate-store
+slice-aggregate-store c = search needs
+
+store-requires : tie.Need-store-requires
+store-requires c κs = search needs
+
+same-length : tie.Need-same-length
+same-length c = search needs
 
 returns : tie.Need-returns
-returns c = counted _ (c .before .before .from-codes .ensures) (c .waiting .ensures)
+returns c = (c .before .before .before .before .before .waits .ensures .0, c .before .before .store .ensures ∙ rw (c .before .before .before .before .before .waits .ensures .1))
 
 pub ecch-inflight-waiting-spec : {M : Type 1} → statement M
-ecch-inflight-waiting-spec = tie.close (tie.spec from-codes-requires waiting-requires returns)
+ecch-inflight-waiting-spec =
+    tie.close (tie.spec waits-requires slice-aggregate-store store-requires same-length returns)

@@ -1,5 +1,5 @@
 -- `c_journal::ecch_journal_save` is right since what is stored is what `saves` says. Assumes nothing.
-use mathlib.Core.Path.{refl, sym, _∙_}
+use mathlib.Core.Path.{_∙_}
 use borrow.Author.Needs.{needs}
 use Rattle.c_journal.proofs.Laws.{done-ends}
 use Rattle.c_journal.proofs.ecch_journal_save.Statement.{statement}

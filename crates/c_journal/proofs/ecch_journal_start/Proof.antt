@@ -1,12 +1,5 @@
 -- `c_journal::ecch_journal_start` is right since it answers as `start` does. Assumes nothing.
-use mathlib.Core.Path.{_≡_, refl, sym, ap, _∙_}
-use mathlib.Core.List.{List, [], _∷_}
-use Prim.Native.Nat.{ℕ}
-use native.Mathlib.Omega.{arith}
 use borrow.Author.Needs.{needs}
-use lib.Seq.{sets}
-use Rattle.inflight.specs.Told.{waitsOf, stored}
-use Rattle.c_journal.specs.Given.{numberOf, firstOf, blockOf, tableOf, roomNumber}
 use Rattle.c_journal.proofs.Laws.{ends-by}
 use Rattle.c_journal.proofs.ecch_journal_start.Statement.{statement}
 use Rattle.c_journal.proofs.ecch_journal_start.Tie as tie

@@ -1,12 +1,4 @@
 -- `c_journal::with_room` is right since each test is the definition's. Assumes nothing.
-use mathlib.Core.Path.{_≡_, refl, sym, ap, _∙_}
-use mathlib.Core.List.{List, [], _∷_}
-use Prim.Native.Nat.{ℕ}
-use native.Mathlib.Omega.{arith}
-use borrow.Author.Needs.{needs}
-use lib.Seq.{sets}
-use Rattle.inflight.specs.Told.{waitsOf, stored}
-use Rattle.c_journal.specs.Given.{numberOf, firstOf, blockOf, tableOf, roomNumber}
 use Rattle.c_journal.proofs.Laws.{room-bad, room-short, room-fine}
 use Rattle.c_journal.proofs.with_room.Statement.{statement}
 use Rattle.c_journal.proofs.with_room.Tie as tie

@@ -1,38 +1,18 @@
--- `became` is right case by case. Assumes nothing.
+-- `inflight::became` is right since the one state that is free has the number 0. Assumes nothing.
+use mathlib.Core.Path.{sym, _∙_}
 use borrow.Author.Needs.{needs}
-use Rattle.inflight.specs.Rules.{becameOf}
+use Rattle.inflight.proofs.Laws.{became-free, became-on}
 use Rattle.inflight.proofs.became.Statement.{statement}
 use Rattle.inflight.proofs.became.Tie as tie
 
-enum-told : tie.Need-enum-told
-enum-told c = search needs
-
-enum-told-2 : tie.Need-enum-told-2
-enum-told-2 c = search needs
-
-enum-told-3 : tie.Need-enum-told-3
-enum-told-3 c = search needs
-
-enum-told-4 : tie.Need-enum-told-4
-enum-told-4 c = search needs
+code-requires : tie.Need-code-requires
+code-requires c κs = search needs
 
 returns : tie.Need-returns
-unfolding becameOf
-returns c = rw (c .enum-told .given .1)
+returns c = became-free _ (sym (c .before .code .ensures) ∙ c .if1 .taken)
 
 returns-2 : tie.Need-returns-2
-unfolding becameOf
-returns-2 c = rw (c .enum-told2 .given .1)
-
-returns-3 : tie.Need-returns-3
-unfolding becameOf
-returns-3 c = rw (c .enum-told3 .given .1)
-
-returns-4 : tie.Need-returns-4
-unfolding becameOf
-returns-4 c = rw (c .enum-told4 .given .1)
+returns-2 c = became-on _ (λ e. c .if1 .left (c .before .code .ensures ∙ e))
 
 pub became-spec : {M : Type 1} → statement M
-became-spec =
-    tie.close
-    (tie.spec enum-told enum-told-2 enum-told-3 enum-told-4 returns returns-2 returns-3 returns-4)
+became-spec = tie.close (tie.spec code-requires returns returns-2)

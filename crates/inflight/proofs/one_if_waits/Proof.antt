@@ -1,33 +1,18 @@
--- `inflight::one_if_waits` is right case by case. Assumes nothing.
+-- `inflight::one_if_waits` is right since the one state that does not wait has the number 0. Assumes nothing.
+use mathlib.Core.Path.{sym, _∙_}
 use borrow.Author.Needs.{needs}
+use Rattle.inflight.proofs.Laws.{one-taken, none-taken}
 use Rattle.inflight.proofs.one_if_waits.Statement.{statement}
 use Rattle.inflight.proofs.one_if_waits.Tie as tie
 
-enum-told : tie.Need-enum-told
-enum-told c = search needs
-
-enum-told-2 : tie.Need-enum-told-2
-enum-told-2 c = search needs
-
-enum-told-3 : tie.Need-enum-told-3
-enum-told-3 c = search needs
-
-enum-told-4 : tie.Need-enum-told-4
-enum-told-4 c = search needs
+code-requires : tie.Need-code-requires
+code-requires c κs = search needs
 
 returns : tie.Need-returns
-returns c = rw (c .enum-told .given .1)
+returns c = none-taken _ (sym (c .before .code .ensures) ∙ c .if1 .taken)
 
 returns-2 : tie.Need-returns-2
-returns-2 c = rw (c .enum-told2 .given .1)
-
-returns-3 : tie.Need-returns-3
-returns-3 c = rw (c .enum-told3 .given .1)
-
-returns-4 : tie.Need-returns-4
-returns-4 c = rw (c .enum-told4 .given .1)
+returns-2 c = one-taken _ (λ e. c .if1 .left (c .before .code .ensures ∙ e))
 
 pub one-if-waits-spec : {M : Type 1} → statement M
-one-if-waits-spec =
-    tie.close
-    (tie.spec enum-told enum-told-2 enum-told-3 enum-told-4 returns returns-2 returns-3 returns-4)
+one-if-waits-spec = tie.close (tie.spec code-requires returns returns-2)

@@ -1,7 +1,7 @@
 use Prim.Native.Nat.{_-_}
 use native.Mathlib.Omega.{arith}
 use lib.ListN.{length}
-use Rattle.inflight.proofs.Stores.{Put, put-none, put-long, put-more, put-all}
+use Rattle.journal.proofs.Stores.{Put, put-none, put-long, put-more, put-all}
 use Rattle.journal.proofs.put.Statement.{statement}
 use Rattle.journal.proofs.put.Tie as tie
 

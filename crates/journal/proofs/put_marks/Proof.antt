@@ -1,9 +1,14 @@
+-- `journal::put_marks` is right since each byte is that of its four places. Assumes nothing.
+use mathlib.Core.Path.{_≡_}
 use Prim.Native.Nat.{_-_}
 use native.Mathlib.Omega.{arith}
+use borrow.Author.Needs.{needs}
+use lib.ListN.{length}
 use Rattle.inflight.specs.Rules.{limit}
 use Rattle.inflight.specs.Told.{waitsOf}
+use Rattle.inflight.proofs.Laws.{unmapped}
 use Rattle.journal.specs.Block.{packedAt}
-use Rattle.journal.proofs.Turns.{Marked, mark-none, mark-long, mark-more, mark-all}
+use Rattle.journal.proofs.Turns.{Marked, mark-none, mark-long, mark-more, mark-all, four-places}
 use Rattle.journal.proofs.put_marks.Statement.{statement}
 use Rattle.journal.proofs.put_marks.Tie as tie
 
@@ -16,14 +21,38 @@ abbrev μ-loop : tie.MeasureT-loop
 loop-holds : tie.Need-loop-holds Inv-loop μ-loop
 loop-holds c = mark-none _ _
 
-packed-at-requires : tie.Need-packed-at-requires Inv-loop μ-loop
-packed-at-requires c κs = omega arith
+mul-i : tie.Need-mul-i Inv-loop μ-loop
+mul-i c = omega arith
+
+element-copy-out-p : tie.Need-element-copy-out-p Inv-loop μ-loop
+element-copy-out-p c = omega arith
+
+add-q : tie.Need-add-q Inv-loop μ-loop
+add-q c = omega arith
+
+element-copy-out-q : tie.Need-element-copy-out-q Inv-loop μ-loop
+element-copy-out-q c = omega arith
+
+add-r : tie.Need-add-r Inv-loop μ-loop
+add-r c = omega arith
+
+element-copy-out-r : tie.Need-element-copy-out-r Inv-loop μ-loop
+element-copy-out-r c = omega arith
+
+add-s : tie.Need-add-s Inv-loop μ-loop
+add-s c = omega arith
+
+element-copy-out-s : tie.Need-element-copy-out-s Inv-loop μ-loop
+element-copy-out-s c = omega arith
+
+four-requires : tie.Need-four-requires Inv-loop μ-loop
+four-requires c κs = search needs
 
 add-out : tie.Need-add-out Inv-loop μ-loop
 add-out c = omega arith
 
 slice-write-out : tie.Need-slice-write-out Inv-loop μ-loop
-slice-write-out c = omega (arith, mark-long (c .before .before .loop .inv), c .before .before .before .before .pre)
+slice-write-out c = omega (arith, mark-long (c .before .before .before .before .before .before .loop .inv), c .before .before .before .before .before .before .before .before .pre)
 
 add-j : tie.Need-add-j Inv-loop μ-loop
 add-j c = omega arith
@@ -32,7 +61,9 @@ loop-less : tie.Need-loop-less Inv-loop μ-loop
 loop-less c = omega arith
 
 loop-again : tie.Need-loop-again Inv-loop μ-loop
-loop-again c = mark-more (c .before .before .loop .inv) (omega arith) (c .packed-at .ensures)
+loop-again c =
+    let l : length (c .before .before .before .before .before .before .before .before .args .t2 .places) ≡ limit = search (needs, unmapped) in
+    mark-more (c .before .before .before .before .before .before .loop .inv) (omega arith) (four-places (c .before .before .before .before .before .before .before .before .args .t2) _ _ _ _ _ (omega (arith, l)) (c .four .ensures))
 
 same-length : tie.Need-same-length Inv-loop μ-loop
 same-length c = mark-long (c .before .loop .inv)
@@ -47,7 +78,15 @@ put-marks-spec =
     Inv-loop
     μ-loop
     loop-holds
-    packed-at-requires
+    mul-i
+    element-copy-out-p
+    add-q
+    element-copy-out-q
+    add-r
+    element-copy-out-r
+    add-s
+    element-copy-out-s
+    four-requires
     add-out
     slice-write-out
     add-j

@@ -10,32 +10,32 @@ enum-told c = search needs
 puback-requires : tie.Need-puback-requires
 puback-requires c κs = search needs
 
+returns : tie.Need-returns
+unfolding answerBy
+returns c = rw (c .before .enum-told .given .1) (c .puback .ensures)
+
 enum-told-2 : tie.Need-enum-told-2
 enum-told-2 c = search needs
 
 pubrec-requires : tie.Need-pubrec-requires
 pubrec-requires c κs = search needs
 
+returns-2 : tie.Need-returns-2
+unfolding answerBy
+returns-2 c = rw (c .before .enum-told2 .given .1) (c .pubrec .ensures)
+
 enum-told-3 : tie.Need-enum-told-3
 enum-told-3 c = search needs
+
+returns-3 : tie.Need-returns-3
+unfolding answerBy call
+returns-3 c = rw (c .enum-told3 .given .1)
 
 enum-told-4 : tie.Need-enum-told-4
 enum-told-4 c = search needs
 
 pubcomp-requires : tie.Need-pubcomp-requires
 pubcomp-requires c κs = search needs
-
-returns : tie.Need-returns
-unfolding answerBy
-returns c = rw (c .before .enum-told .given .1) (c .puback .ensures)
-
-returns-2 : tie.Need-returns-2
-unfolding answerBy
-returns-2 c = rw (c .before .enum-told2 .given .1) (c .pubrec .ensures)
-
-returns-3 : tie.Need-returns-3
-unfolding answerBy call
-returns-3 c = rw (c .enum-told3 .given .1)
 
 returns-4 : tie.Need-returns-4
 unfolding answerBy
@@ -47,12 +47,12 @@ acked-spec =
     (tie.spec
     enum-told
     puback-requires
+    returns
     enum-told-2
     pubrec-requires
+    returns-2
     enum-told-3
+    returns-3
     enum-told-4
     pubcomp-requires
-    returns
-    returns-2
-    returns-3
     returns-4)

@@ -1,0 +1,20 @@
+-- A table as the lent bytes of c_inflight, taken and stored.
+use mathlib.Core.Path.{_≡_}
+use mathlib.Core.Bool.{cond}
+use mathlib.Core.List.{List}
+use Prim.Native.Nat.{ℕ}
+use lib.Dec.{leb}
+use lib.ListN.{length, replicate}
+use lib.Seq.{sets}
+use Rattle.inflight.specs.Rules.{limit, isTable, free}
+use Rattle.inflight.specs.Told.{waitsOf}
+use Rattle.c_journal.specs.declared.FromCodes.{FromCodes}
+
+-- the table of those bytes, or a fresh one if they are none
+pub record TakenFrom (b : List ℕ) (r : FromCodes) : Type 0 where
+  pub fine : r .fine ≡ isTable b
+  pub table : waitsOf (r .table) ≡ cond (isTable b) b (replicate limit free)
+
+-- a table stored from index 0 on, if all of it fits
+unfoldable pub stored : List ℕ → List ℕ → List ℕ
+stored t out = cond (leb limit (length out)) (sets out 0 t) out
