@@ -58,10 +58,10 @@ put-behind t xs at n {b = b} h e i =
     let l : length (drop at t) ≡ length t - at = length-drop at t in
     let z : 0 + length xs ≡ length xs = omega arith in
     let p : b ≡ xs ++ drop (at + length xs) t =
-        i ∙ ap (λ (u : List ℕ). sets u 0 xs) (take-all (n - at) (drop at t) (omega (arith, l, e)))
-        ∙ sets-eq xs (drop at t) 0 (omega (arith, l, h))
-        ∙ ap (λ (k : ℕ). xs ++ drop k (drop at t)) z
-        ∙ ap (λ (u : List ℕ). xs ++ u) (drop-drop (length xs) at t) in
+    i ∙ ap (λ (u : List ℕ). sets u 0 xs) (take-all (n - at) (drop at t) (omega (arith, l, e)))
+    ∙ sets-eq xs (drop at t) 0 (omega (arith, l, h))
+    ∙ ap (λ (k : ℕ). xs ++ drop k (drop at t)) z
+    ∙ ap (λ (u : List ℕ). xs ++ u) (drop-drop (length xs) at t) in
     ap (λ (u : List ℕ). take at t ++ (b ++ u)) (drop-of-length-le (drop at t) {i = n - at} (omega (arith, l, e)))
     ∙ ap (λ (u : List ℕ). take at t ++ u) (append-nil b ∙ p)
     ∙ sym (append-assoc (take at t) xs (drop (at + length xs) t))

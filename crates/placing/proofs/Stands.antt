@@ -18,22 +18,6 @@ use Rattle.placing.specs.Placing.{GramAt, placeOf, ThenAt, both, SizedAt
 use Rattle.placing.specs.Stands.{blockPlace, StandsAt, present, absent, unsent}
 use Rattle.placing.proofs.Placed.{read-placed}
 
--- ---- bytes before them, and behind them
-
-module _ (at : ℕ) (a f : List ℕ) where
-  -- what stands in f behind a stands in a and f together
-  further : {o : Option Span} {z : ℕ × ℕ} → StandsAt (at + length a) f o z → StandsAt at (a ++ f) o z
-  further (present h c b t e n place ps m) =
-      let s : at + length a + length h + length c ≡ at + length (a ++ h) + length c = omega (arith, length-append a h) in
-      subst (λ (i : ℕ). StandsAt at (a ++ f) (some (placeOf i b)) (i, i + length b)) (sym s)
-      (present (a ++ h) c b t (ap (λ (l : List ℕ). a ++ l) e ∙ sym (append-assoc a h (c ++ (b ++ t)))) n place ps (subst (λ (i : ℕ). ManyAt (PropertyAt place) i ps b) s m))
-  further (absent h c t e n) =
-      let s : at + length a + length h + length c ≡ at + length (a ++ h) + length c = omega (arith, length-append a h) in
-      subst (λ (i : ℕ). StandsAt at (a ++ f) none (i, i)) (sym s) (absent (a ++ h) c t (ap (λ (l : List ℕ). a ++ l) e ∙ sym (append-assoc a h (c ++ t))) n)
-  further unsent =
-      let s : at + length a + length f ≡ at + length (a ++ f) = omega (arith, length-append a f) in
-      subst (λ (i : ℕ). StandsAt at (a ++ f) none (i, i)) (sym s) unsent
-
 -- ---- the block
 
 -- properties that come to none fill no bytes
@@ -57,6 +41,22 @@ module _ {X : Type 0} (place : Place) (g : Span → List (PropOf Span) → X) (u
     where
       pair-is : {x y : Span} {i j : ℕ} → x ≡ y → i ≡ j → _≡_ {A = Span × ℕ} (x, i) (y, j)
       pair-is a b = rw (a, b)
+
+-- ---- bytes before it
+
+module _ (at : ℕ) (a f : List ℕ) where
+  -- what stands in f behind a stands in a and f together
+  further : {o : Option Span} {z : ℕ × ℕ} → StandsAt (at + length a) f o z → StandsAt at (a ++ f) o z
+  further (present h c b t e n place ps m) =
+      let s : at + length a + length h + length c ≡ at + length (a ++ h) + length c = omega (arith, length-append a h) in
+      subst (λ (i : ℕ). StandsAt at (a ++ f) (some (placeOf i b)) (i, i + length b)) (sym s)
+      (present (a ++ h) c b t (ap (λ (l : List ℕ). a ++ l) e ∙ sym (append-assoc a h (c ++ (b ++ t)))) n place ps (subst (λ (i : ℕ). ManyAt (PropertyAt place) i ps b) s m))
+  further (absent h c t e n) =
+      let s : at + length a + length h + length c ≡ at + length (a ++ h) + length c = omega (arith, length-append a h) in
+      subst (λ (i : ℕ). StandsAt at (a ++ f) none (i, i)) (sym s) (absent (a ++ h) c t (ap (λ (l : List ℕ). a ++ l) e ∙ sym (append-assoc a h (c ++ t))) n)
+  further unsent =
+      let s : at + length a + length f ≡ at + length (a ++ f) = omega (arith, length-append a f) in
+      subst (λ (i : ℕ). StandsAt at (a ++ f) none (i, i)) (sym s) unsent
 
 -- the blocks of the two shapes of records
 publish-block : (at : ℕ) (t : List ℕ) {o : Option (PublishProps Span (λ A. Span))} {b : List ℕ} → BlockAt publishPlace publishFrom at o b → StandsAt at (b ++ t) (onSome (λ ps. ps .user) o) (endingAt (λ ps. ps .user) (at + length b) o)
