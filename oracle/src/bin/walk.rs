@@ -92,12 +92,11 @@ fn differ(what: &str, s: &[u8]) -> ! {
 #[derive(Default)]
 struct Counts {
     accepted: u64,
-    refused: u64,
     pairs: u64,
-    steps: u64,
     filled: u64,
     full: u64,
     others: u64,
+    refused: u64,
 }
 
 /// "holds the frame and yields user properties one after another"; "the walker yields nothing on a frame the reader refuses": from what ecch_read
@@ -107,31 +106,22 @@ fn walk(s: &[u8], c: &mut Counts) {
     let accepted = model::read(s, None, &Switches::of(0), &mut lists).0.is_ok();
     unsafe { ecch_read(s.as_ptr(), s.len(), 0, 0, r.as_mut_ptr(), r.len()) };
     let (kind, mut at, end) = (r[3] as u8, r[16] as usize, (r[16] + r[17]) as usize);
-    let users = if accepted { &lists.users[..] } else { &[] };
-    for (key, value) in users {
+    for (key, value) in &lists.users {
+        let got = port_next(kind, s, at, end);
         at = value.start + value.len;
-        let got = port_next(kind, s, if *key == users[0].0 { r[16] as usize } else { c.steps as usize }, end);
         if got != numbers((Some((*key, *value)), at)) {
             differ("a user property", s);
         }
-        c.steps = at as u64;
         c.pairs += 1;
     }
-    // behind the last, wherever the walk stands
-    let mut here = if users.is_empty() { r[16] as usize } else { at };
-    for turn in 0..3 {
-        let (number, n) = port_next(kind, s, here, end);
-        let stands = if turn > 0 { here } else { n[0] as usize };
-        if number != 21 || n != [stands as u64, 0, 0, 0, 0] || accepted && stands != end {
+    // other properties may stand behind the last: the walk ends with the block
+    for _ in 0..3 {
+        if port_next(kind, s, at, end) != numbers((None, end)) {
             differ("behind the last user property", s);
         }
-        here = stands;
+        at = end;
     }
-    if accepted {
-        c.accepted += 1
-    } else {
-        c.refused += 1
-    }
+    c.accepted += accepted as u64;
 }
 
 /// Any kind, index and end over any bytes.
@@ -201,9 +191,14 @@ fn fill(s: &[u8], d: &mut Dice, c: &mut Counts) {
 
 // ---- the inputs
 
-/// A frame, good or damaged, with bytes behind it now and then; or bytes.
+/// A frame, good or damaged, with bytes behind it now and then; or bytes. Half are Subscribes.
 fn stream(d: &mut Dice) -> Vec<u8> {
-    let f = frames::well_formed(d);
+    let mut f = frames::well_formed(d);
+    if one_in(d, 2) {
+        while f.first >> 4 != 8 {
+            f = frames::well_formed(d);
+        }
+    }
     match d.below(8) {
         0 => frames::bytes(d, 40),
         1..=3 => frames::damaged(&f, d),
@@ -229,6 +224,6 @@ fn main() {
         fill(&s, &mut d, &mut c);
     }
     println!("{count} streams, {} accepted; {} user properties yielded", c.accepted, c.pairs);
-    println!("tables: {} filled, {} full, {} of another kind", c.filled, c.full, c.others);
+    println!("tables: {} filled, {} too small, {} of another kind, {} of a refused frame", c.filled, c.full, c.others, c.refused);
     println!("no difference");
 }
