@@ -550,12 +550,37 @@ enum ecch_next_user_layout {
  * refused all of these are 0, and there is none. Other properties are passed over; bytes that are no property end the walk. */
 uint32_t ecch_next_user(const uint8_t *frame, size_t frame_len, uint8_t kind, size_t at, size_t end, uint64_t *item, size_t item_len);
 
-/* The filters of a Subscribe in a table, three numbers for an entry (P7 of 02), are Rattle's alone so far (crate filter_table); the numbers and
- * names of its refusals: */
+/* ---- the filters of a Subscribe in a table that is lent as an array of numbers, three for an entry (P7 of 02). */
 enum ecch_table_refusal {
     ECCH_FILTER_TABLE_FULL = 37, /* value 1: how many places are needed */
     ECCH_NOT_SUBSCRIBE = 38
 };
+
+/* An entry of `table`: where the text stands in the stream, and the options byte with bits 6 and 7 clear. */
+enum ecch_filter_entry_layout {
+    ECCH_ENTRY_START = 0,
+    ECCH_ENTRY_LEN = 1,
+    ECCH_ENTRY_OPTIONS = 2,
+    ECCH_ENTRY_NUMBERS = 3
+};
+
+/* `answer` of ecch_filter_table. */
+enum ecch_table_layout {
+    ECCH_TABLE_TAKEN = 0,   /* bytes of the stream used up, as ECCH_TAKEN; F if the frame is accepted, whatever the answer */
+    ECCH_TABLE_VALUE_1 = 1, /* the refusal's values */
+    ECCH_TABLE_VALUE_2 = 2,
+    ECCH_TABLE_FILLED = 3,  /* how many entries were filled; 0 if refused */
+    ECCH_TABLE_NUMBERS = 4
+};
+
+/* The filters of the Subscribe at the start of the stream, read with no limit, in order: 0, or the refusal's number: 37 if there are more of
+ * them than places, and only then; 38 for an accepted frame of another kind; else the reader's. `table` has a place for each three numbers;
+ * one or two numbers behind the last place are never touched. Places past the last filter keep what they held, and a refused call leaves all
+ * of `table` as it was. */
+uint32_t ecch_filter_table(
+    const uint8_t *stream, size_t stream_len,
+    uint64_t *table, size_t table_len,
+    uint64_t *answer, size_t answer_len);
 
 /* ---- the client's record of outgoing messages that await an answer (P4 of 02). The table is `table`, a lent byte for each identifier from 1
    to ECCH_IDENTIFIERS: table[n - 1] is 0 if identifier n is free, 1, 2 or 3 if it waits for PubAck, PubRec or PubComp. Bytes of another

@@ -4,7 +4,8 @@
 //! `write`, `size`, and the records with `Bytes` that share the stream's memory. Where the answers differ from the crate's is listed in
 //! docs/DIFFERENCES.md, and what is not there in bindings/README.md.
 //! `places` is the thinner one: the records as they are read, with no copy at all. `pieces` reads a stream that arrives in pieces, over either.
-//! `Aliases` keeps the topics of a connection by their aliases.
+//! `Aliases` keeps the topics of a connection by their aliases. `walk` yields the user properties of a frame, `filters` fills a table with a
+//! Subscribe's filters.
 //!
 //! ```
 //! use bytes::BytesMut;
@@ -21,6 +22,7 @@
 //! What is proved ends at the C interface; this crate is tested.
 mod alias;
 mod error;
+pub mod filters;
 mod frame;
 pub mod inflight;
 pub mod journal;

@@ -32,6 +32,8 @@ layout! {
     ECCH_NEXT_FILTER_NO_LOCAL = 4, ECCH_NEXT_FILTER_PRESERVE_RETAIN = 5, ECCH_NEXT_FILTER_RULE = 6, ECCH_NEXT_FILTER_NUMBERS = 7,
     ECCH_NEXT_USER_NEXT = 0, ECCH_NEXT_USER_KEY_START = 1, ECCH_NEXT_USER_KEY_LEN = 2, ECCH_NEXT_USER_VALUE_START = 3,
     ECCH_NEXT_USER_VALUE_LEN = 4, ECCH_NEXT_USER_NUMBERS = 5,
+    ECCH_FILTER_TABLE_FULL = 37, ECCH_NOT_SUBSCRIBE = 38, ECCH_ENTRY_START = 0, ECCH_ENTRY_LEN = 1, ECCH_ENTRY_OPTIONS = 2, ECCH_ENTRY_NUMBERS = 3,
+    ECCH_TABLE_TAKEN = 0, ECCH_TABLE_VALUE_1 = 1, ECCH_TABLE_VALUE_2 = 2, ECCH_TABLE_FILLED = 3, ECCH_TABLE_NUMBERS = 4,
     ECCH_NEXT_TOPIC_NEXT = 0, ECCH_NEXT_TOPIC_START = 1, ECCH_NEXT_TOPIC_LEN = 2, ECCH_NEXT_TOPIC_NUMBERS = 7,
     ECCH_ALIAS_TABLE_BAD = 24, ECCH_ALIAS_INVALID = 25, ECCH_TOPIC_MISSING = 26, ECCH_ALIAS_UNKNOWN = 27, ECCH_ALIAS_NO_ROOM = 28,
     ECCH_ALIAS_TABLE_LEN = 2064, ECCH_FORCE_SLICE = 0, ECCH_FORCE_START = 1, ECCH_FORCE_LEN = 2, ECCH_FORCE_NUMBERS = 3, ECCH_IN_STREAM = 1,
@@ -237,6 +239,11 @@ extern "C" {
         item: *mut u64, item_len: usize,
     ) -> u32;
     pub fn ecch_next_user(frame: *const u8, frame_len: usize, kind: u8, at: usize, end: usize, item: *mut u64, item_len: usize) -> u32;
+    pub fn ecch_filter_table(
+        stream: *const u8, stream_len: usize,
+        table: *mut u64, table_len: usize,
+        answer: *mut u64, answer_len: usize,
+    ) -> u32;
     pub fn ecch_inflight_start(table: *mut u8, table_len: usize) -> u32;
     pub fn ecch_inflight_claim(qos: u8, table: *mut u8, table_len: usize, answer: *mut u64, answer_len: usize) -> u32;
     pub fn ecch_inflight_acked(kind: u8, id: u16, reason: u8, table: *mut u8, table_len: usize, answer: *mut u64, answer_len: usize) -> u32;

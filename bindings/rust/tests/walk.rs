@@ -1,4 +1,6 @@
-//! Where the properties of a record stand (02's P7), of every layout: present, of length 0, and not sent; and the walker over user properties.
+//! Where the properties of a record stand (02's P7), of every layout: present, of length 0, and not sent; the walker over user properties; and the
+//! table of a Subscribe's filters.
+use ecchjulmina::filters::{fill_filters, filters, FilterEntry, NoTable};
 use ecchjulmina::{places, walk::Walker};
 
 /// Start and end of the properties of the frame at the start of the stream.
@@ -55,4 +57,49 @@ fn nothing_to_walk() {
     for stream in [&b""[..], b"\x30\x04\0\x01t\0", b"\xC0\0", b"\x40\x02\0\x01", refused, b"\x10\x01\0"] {
         assert!(walked(stream).is_empty());
     }
+}
+
+/// Three filters: `a`, `b/c` with every option and bits 6 and 7 set, and an empty one; and a byte behind the frame.
+const THREE: &[u8] = b"\x82\x10\0\x01\0\0\x01a\x01\0\x03b/c\xEE\0\0\x02\x99";
+
+fn shown(table: &[FilterEntry]) -> Vec<(usize, &[u8], u8)> {
+    table.iter().map(|e| (e.start(), e.text(THREE), e.options())).collect()
+}
+
+#[test]
+fn filters_in_a_vec() {
+    let table = filters(THREE).unwrap();
+    assert_eq!(shown(&table), [(7, &b"a"[..], 1), (11, b"b/c", 0x2E), (17, b"", 2)]);
+    // as the records give them
+    let record = places::read(THREE, None).0.unwrap();
+    let walked: Vec<_> = record.filters().map(|f| f.path).collect();
+    assert_eq!(walked, table.iter().map(|e| e.text(THREE)).collect::<Vec<_>>());
+    assert!(matches!(filters(b"\xC0\0"), Err(NoTable::NotSubscribe)));
+    assert!(matches!(filters(b"\x82\x03\0\x01\0"), Err(NoTable::Refused(e)) if e.number() == 13));
+}
+
+#[test]
+fn filters_in_a_lent_table() {
+    let old = filters(b"\x82\x09\0\x01\0\0\x03x/y\x20").unwrap()[0];
+    assert_eq!((old.start(), old.len(), old.options()), (7, 3, 0x20));
+    for places in 0..6 {
+        let mut table = vec![old; places];
+        match fill_filters(THREE, &mut table) {
+            Ok(n) => {
+                assert!(places >= 3 && n == 3);
+                assert_eq!(table[..3], filters(THREE).unwrap()[..]);
+                assert!(table[3..].iter().all(|e| *e == old));
+            }
+            Err(e) => {
+                assert!(places < 3 && matches!(e, NoTable::FilterTableFull(3)) && e.number() == 37);
+                assert!(table.iter().all(|e| *e == old));
+            }
+        }
+    }
+    let mut table = [old; 4];
+    let number = |stream: &[u8], table: &mut [FilterEntry]| fill_filters(stream, table).unwrap_err().number();
+    assert_eq!(number(b"\x30\x04\0\x01t\0", &mut table), 38);
+    assert_eq!(number(b"", &mut table), 1);
+    assert_eq!(number(b"\x82\x07\0\x01\0\0\x01a\x03", &mut table), 11);
+    assert_eq!(table, [old; 4]);
 }

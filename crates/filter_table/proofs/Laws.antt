@@ -27,6 +27,7 @@ use Rattle.positions.proofs.Walk.{Less}
 use Rattle.positions.proofs.Less.{filter-less}
 use Rattle.positions.proofs.Run.{Passed, none-passed, passed-end, passed-bad, passed-next}
 use Rattle.positions.proofs.Trails.{trails-filter}
+use Rattle.packet.specs.Told.{takenIn}
 use Rattle.records.specs.Told.{toldError, toldBool, toldQoS, toldRule, toldSpan}
 use Rattle.records.specs.Said.{toldFilter, toldSubscribe, toldPacket}
 use Rattle.records.specs.declared.error.Error.{Error}
@@ -36,9 +37,10 @@ use Rattle.records.specs.declared.subscribe_record.RetainForwardRule.{RetainFor
 use Rattle.records.specs.declared.subscribe_record.RetainForwardRule.the-variants.{OnEverySubscribe, OnNewSubscribe, Never}
 use Rattle.records.specs.declared.subscribe_record.Filter as said
 use Rattle.filters.proofs.Laws.{filter-ahead}
-use Rattle.filter_table.specs.Table.{tableFull, notSubscribe, toldTable, optionsOf, entryOf, runOf, entriesOf, tableOf, tableAfter, Fills, front, entryOr, entryAt, fillFrom, entriesFrom, filledOf, EntryIs, PlanIs, CountIs, RunIs, RunPlanIs}
+use Rattle.filter_table.specs.Table.{tableFull, notSubscribe, toldTable, optionsOf, entryOf, runOf, entriesOf, tableOf, tableAfter, Fills, front, entryOr, entryAt, fillFrom, entriesFrom, filledOf, EntryIs, PlanIs, spanned, Planned, CountIs, RunIs, RunPlanIs}
 use Rattle.filter_table.specs.declared.FilterEntry.{FilterEntry}
 use Rattle.filter_table.specs.declared.FilterTable.{FilterTable}
+use Rattle.filter_table.specs.declared.Plan.{Plan}
 use Rattle.filter_table.specs.declared.FilterTable.the-variants.{Filled, FilterTableFull, NotSubscribe, Refused}
 
 -- ---- options
@@ -232,6 +234,20 @@ module _ (s : List ℕ) (p : Span) (fs : List (Filter Span)) (r : again (filters
       let b : leb (length (map entryOf fs)) places ≡ false = lt-leb (length (map entryOf fs)) places (omega (arith, l)) in
       record { answer = rw (es, b, l); room = omega arith; listed = rw (es, b); fills = λ ys q. rw (es, b) }
 
+  pub stands-fits : n ≤ places → (p .start, (p .start + p .len, n)) ≡ spanned (got p) (tableOf s places)
+  unfolding tableOf
+  stands-fits h =
+      let l : length (map entryOf fs) ≡ n = length-map fs entryOf ∙ sym c in
+      let b : leb (length (map entryOf fs)) places ≡ true = le-leb (length (map entryOf fs)) places (omega (arith, l)) in
+      rw (es, b) (ap (λ (k : ℕ). (p .start, (p .start + p .len, k))) (sym l))
+
+  pub stands-full : places < n → (0, (0, 0)) ≡ spanned (got p) (tableOf s places)
+  unfolding tableOf
+  stands-full h =
+      let l : length (map entryOf fs) ≡ n = length-map fs entryOf ∙ sym c in
+      let b : leb (length (map entryOf fs)) places ≡ false = lt-leb (length (map entryOf fs)) places (omega (arith, l)) in
+      rw (es, b)
+
 -- ---- the frame
 
 -- where the entries are refused, the answer is that refusal, and nothing is filled
@@ -239,16 +255,20 @@ entries-bad : (s : List ℕ) (places : ℕ) (k : Refusal) (r : FilterTable) → 
 unfolding tableOf
 entries-bad s places k r e t = record { answer = t ∙ rw e; room = omega arith; listed = rw e; fills = λ ys q. rw e }
 
-pub plan-refused : (s : List ℕ) (places : ℕ) (e : Error) (n : ℕ) → refusedAs (toldError e) n ≡ readPlacedOf none s → PlanIs s places (Refused e) 0 0 0
+-- the plan that fills nothing in, where the reader took n bytes
+abbrev pub unfilled : FilterTable → ℕ → Plan
+unfilled r n = record { answer = r; at = 0; end = 0; count = 0; taken = n }
+
+pub plan-refused : (s : List ℕ) (places : ℕ) (e : Error) (n : ℕ) → refusedAs (toldError e) n ≡ readPlacedOf none s → Planned s places (unfilled (Refused e) n)
 unfolding entriesOf
 plan-refused s places e n i = go (toldError e) i refl
   where
-    go : (k : Refusal) → refusedAs k n ≡ readPlacedOf none s → toldError e ≡ k → PlanIs s places (Refused e) 0 0 0
-    go (nr k vs) i j = entries-bad s places (nr k vs) (Refused e) (rw (← i)) (ap bad j)
+    go : (k : Refusal) → refusedAs k n ≡ readPlacedOf none s → toldError e ≡ k → Planned s places (unfilled (Refused e) n)
+    go (nr k vs) i j = record { plan = entries-bad s places (nr k vs) (Refused e) (rw (← i)) (ap bad j); stands = rw (← i); taken = rw (← i) }
 
-pub plan-other : (s : List ℕ) (places : ℕ) (v : Placed) (n : ℕ) → accepted v n ≡ readPlacedOf none s → runOf (accepted v n) ≡ bad notSubscribe → PlanIs s places NotSubscribe 0 0 0
+pub plan-other : (s : List ℕ) (places : ℕ) (v : Placed) (n : ℕ) → accepted v n ≡ readPlacedOf none s → runOf (accepted v n) ≡ bad notSubscribe → Planned s places (unfilled NotSubscribe n)
 unfolding entriesOf
-plan-other s places v n i j = entries-bad s places notSubscribe NotSubscribe (rw (← i, j)) refl
+plan-other s places v n i j = record { plan = entries-bad s places notSubscribe NotSubscribe (rw (← i, j)) refl; stands = rw (← i, j); taken = rw (← i) }
 
 -- where the second is a value, so is the first
 like-there : {A B : Type 0} {R : A → B → Type 0} (m : Fit A) (m′ : Fit B) (b : B) → Like R m m′ → m′ ≡ got b → (a : A) × (m ≡ got a)
@@ -274,25 +294,27 @@ module _ (s : List ℕ) where
   unfolding entriesOf
   entries-got v n p fs i j f = rw (← i, j, f)
 
-  pub plan-subscribe : {places at end c : ℕ} {r : FilterTable} (v : Placed) (n : ℕ) (p : Span) → accepted v n ≡ readPlacedOf none s → runOf (accepted v n) ≡ got p → RunPlanIs s p places r at end c → PlanIs s places r at end c
+  pub plan-subscribe : {places : ℕ} {r : Plan} (v : Placed) (n : ℕ) (p : Span) → accepted v n ≡ readPlacedOf none s → runOf (accepted v n) ≡ got p → RunPlanIs s p places n r → Planned s places r
   plan-subscribe v n p i j q =
       let (fs, f) = read-run v n p (sym i) j in
-      q .plans fs f (entries-got v n p fs i j f)
+      let e = entries-got v n p fs i j f in
+      record { plan = q .plans fs f e; stands = q .stands fs f e ∙ rw (← i, j); taken = q .took ∙ rw (← i) }
 
 -- the contract of `fill_filters`, from those of `plan_of` and `put_entries`
 pub filled-is : {s : List ℕ} {xs ys : List FilterEntry} {r : FilterTable} {at end n : ℕ} → PlanIs s (length xs) r at end n → ys ≡ fillFrom s end n at 0 xs → Fills s xs r ys
 filled-is {xs = xs} p e = record { answer = p .answer; table = e ∙ p .fills xs refl }
 
 -- the plan at a run whose filters are n
-module _ {s : List ℕ} {p : Span} {places n : ℕ} (c : RunIs s p n) where
-  pub plan-fits : n ≤ places → RunPlanIs s p places (Filled n) (p .start) (p .start + p .len) n
-  plan-fits h = record { plans = λ fs r es. run-fits s p fs r es places n (c .counts fs r) h }
+module _ {s : List ℕ} {p : Span} {places n taken : ℕ} (c : RunIs s p n) where
+  pub plan-fits : n ≤ places → RunPlanIs s p places taken (record { answer = Filled n; at = p .start; end = p .start + p .len; count = n; taken = taken })
+  plan-fits h = record { plans = λ fs r es. run-fits s p fs r es places n (c .counts fs r) h; stands = λ fs r es. stands-fits s p fs r es places n (c .counts fs r) h; took = refl }
 
-  pub plan-full : places < n → RunPlanIs s p places (FilterTableFull n) 0 0 0
-  plan-full h = record { plans = λ fs r es. run-full s p fs r es places n (c .counts fs r) h }
+  pub plan-full : places < n → RunPlanIs s p places taken (unfilled (FilterTableFull n) taken)
+  plan-full h = record { plans = λ fs r es. run-full s p fs r es places n (c .counts fs r) h; stands = λ fs r es. stands-full s p fs r es places n (c .counts fs r) h; took = refl }
 
-pub plan-outside : {s : List ℕ} {p : Span} {places n : ℕ} → length s < p .start + p .len → RunPlanIs s p places (FilterTableFull n) 0 0 0
-plan-outside {s = s} {p = p} h = record { plans = λ fs r es. absurd (omega (arith, h, run-lies s p fs r)) }
+pub plan-outside : {s : List ℕ} {p : Span} {places n taken : ℕ} → length s < p .start + p .len → RunPlanIs s p places taken (unfilled (FilterTableFull n) taken)
+plan-outside {s = s} {p = p} h =
+    record { plans = λ fs r es. absurd (omega (arith, h, run-lies s p fs r)); stands = λ fs r es. absurd (omega (arith, h, run-lies s p fs r)); took = refl }
 
 -- 01: "the covered n-th filter function": the k-th entry is the k-th filter of the run at its place
 nth-map : {A B : Type 0} (f : A → B) (k : ℕ) (vs : List A) → nthOf k (map f vs) ≡ onGot f (nthOf k vs)

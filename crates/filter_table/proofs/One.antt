@@ -12,9 +12,10 @@ use Rattle.records.specs.Told.{toldError, rowOf}
 use Rattle.records.proofs.Laws.{injective-by}
 use Rattle.records.proofs.Told.{backError, back-error}
 use Rattle.records.specs.declared.error.Error.{Error}
-use Rattle.filter_table.specs.Table.{toldTable, Fills}
+use Rattle.filter_table.specs.Table.{toldTable, Fills, Planned}
 use Rattle.filter_table.specs.declared.FilterEntry.{FilterEntry}
 use Rattle.filter_table.specs.declared.FilterTable.{FilterTable}
+use Rattle.filter_table.specs.declared.Plan.{Plan}
 use Rattle.filter_table.specs.declared.FilterTable.the-variants.{Filled, FilterTableFull, NotSubscribe, Refused}
 
 -- by its number: 37, 38, or one of the reader's
@@ -63,3 +64,16 @@ table-injective = injective-by toldTable backTable back-table
 -- demand 1: a frame and a table admit one answer, and one table afterwards
 pub fills-one : {s : List ℕ} {before a b : List FilterEntry} {r q : FilterTable} → Fills s before r a → Fills s before q b → (r ≡ q) × (a ≡ b)
 fills-one f g = (table-injective (f .answer ∙ sym (g .answer)), f .table ∙ sym (g .table))
+
+-- demand 1: a frame and a number of places admit one plan
+pub planned-one : {s : List ℕ} {places : ℕ} {p q : Plan} → Planned s places p → Planned s places q → p ≡ q
+planned-one {p = p} {q = q} f g =
+    plan-same p q (table-injective (f .plan .answer ∙ sym (g .plan .answer))) (f .stands ∙ sym (g .stands)) (f .taken ∙ sym (g .taken))
+  where
+    plan-same : (p q : Plan) → p .answer ≡ q .answer → _≡_ {A = ℕ × (ℕ × ℕ)} (p .at, (p .end, p .count)) (q .at, (q .end, q .count)) → p .taken ≡ q .taken → p ≡ q
+    plan-same p q a b c =
+        let s : p .at ≡ q .at = ap (λ (z : ℕ × (ℕ × ℕ)). z .0) b in
+        let e : p .end ≡ q .end = ap (λ (z : ℕ × (ℕ × ℕ)). z .1 .0) b in
+        let n : p .count ≡ q .count = ap (λ (z : ℕ × (ℕ × ℕ)). z .1 .1) b in
+        let same : _≡_ {A = Plan} (record { answer = p .answer; at = p .at; end = p .end; count = p .count; taken = p .taken }) (record { answer = q .answer; at = q .at; end = q .end; count = q .count; taken = q .taken }) = rw (a, s, e, n, c) in
+        same

@@ -12,11 +12,13 @@ use Rattle.reading.specs.Reader.{Fit, got, bad, _>>=_, _>>_, guard, manyFit}
 use Rattle.reading.specs.Read.{filterOf, filtersFit}
 use Rattle.reading.specs.Place.{Span, heldOf, asPlaces, Placed, readPlacedOf, again, onGot}
 use Rattle.positions.specs.Position.{fromAt}
+use Rattle.packet.specs.Told.{takenIn}
 use Rattle.records.specs.Told.{toldError}
 use Rattle.records.specs.declared.error.Error.{Error}
 use Rattle.filter_table.specs.declared.FilterEntry.{FilterEntry}
 use Rattle.filter_table.specs.declared.FilterTable.{FilterTable}
 use Rattle.filter_table.specs.declared.FilterTable.the-variants.{Filled, FilterTableFull, NotSubscribe, Refused}
+use Rattle.filter_table.specs.declared.Plan.{Plan}
 
 -- ---- answers; their numbers are 37 and 38 (DECISIONS 29)
 
@@ -113,12 +115,24 @@ filledOf (bad k) = []
 pub record EntryIs (s : List ℕ) (at end : ℕ) (e : FilterEntry) (next : ℕ) : Type 0 where
   pub is : (e, next) ≡ entryAt s at end
 
--- the contract of `plan_of`: n entries from `at` on are those to fill in, and make a table of so many places what it is to be
+-- n entries from `at` on are those to fill in, and make a table of so many places what it is to be
 pub record PlanIs (s : List ℕ) (places : ℕ) (r : FilterTable) (at end n : ℕ) : Type 0 where
   pub answer : toldTable r ≡ onGot length (tableOf s places)
   pub room : n ≤ places
   pub listed : entriesFrom s end n at ≡ filledOf (tableOf s places)
   pub fills : (ys : List FilterEntry) → length ys ≡ places → fillFrom s end n at 0 ys ≡ tableAfter (tableOf s places) ys
+
+-- from where on, before which index and how many entries are read to be filled in: the run of filters, and nothing where the table stays
+abbrev pub spanned : Fit Span → Fit (List FilterEntry) → ℕ × (ℕ × ℕ)
+spanned (got p) (got es) = (p .start, (p .start + p .len, length es))
+spanned (got p) (bad k) = (0, (0, 0))
+spanned (bad k) t = (0, (0, 0))
+
+-- the contract of `plan_of`, which fixes each of its numbers; the last is how many bytes the reader takes
+pub record Planned (s : List ℕ) (places : ℕ) (p : Plan) : Type 0 where
+  pub plan : PlanIs s places (p .answer) (p .at) (p .end) (p .count)
+  pub stands : (p .at, (p .end, p .count)) ≡ spanned (runOf (readPlacedOf none s)) (tableOf s places)
+  pub taken : p .taken ≡ takenIn (readPlacedOf none s)
 
 -- how many filters stand from index `at` of s to its end, where all that stands there are filters
 pub record CountIs (s : List ℕ) (at n : ℕ) : Type 0 where
@@ -128,6 +142,8 @@ pub record CountIs (s : List ℕ) (at n : ℕ) : Type 0 where
 pub record RunIs (s : List ℕ) (p : Span) (n : ℕ) : Type 0 where
   pub counts : (fs : List (Filter Span)) → again (filtersFit asPlaces) s p ≡ got fs → n ≡ length fs
 
--- the same plan where the filters stand at p, if there they are
-pub record RunPlanIs (s : List ℕ) (p : Span) (places : ℕ) (r : FilterTable) (at end n : ℕ) : Type 0 where
-  pub plans : (fs : List (Filter Span)) → again (filtersFit asPlaces) s p ≡ got fs → entriesOf s ≡ got (map entryOf fs) → PlanIs s places r at end n
+-- the plan where the filters stand at p, if there they are
+pub record RunPlanIs (s : List ℕ) (p : Span) (places taken : ℕ) (r : Plan) : Type 0 where
+  pub plans : (fs : List (Filter Span)) → again (filtersFit asPlaces) s p ≡ got fs → entriesOf s ≡ got (map entryOf fs) → PlanIs s places (r .answer) (r .at) (r .end) (r .count)
+  pub stands : (fs : List (Filter Span)) → again (filtersFit asPlaces) s p ≡ got fs → entriesOf s ≡ got (map entryOf fs) → (r .at, (r .end, r .count)) ≡ spanned (got p) (tableOf s places)
+  pub took : r .taken ≡ taken

@@ -17,7 +17,7 @@ ghost use Prim.Native.Nat.{_≤_};
 ghost use lib.ListN.{length};
 ghost use Rattle.records.specs.Told.{toldBool, toldSpan};
 ghost use Rattle.records.specs.Said.{toldFilter};
-ghost use Rattle.filter_table.specs.Table.{entryOf, EntryIs, CountIs, RunIs, RunPlanIs, PlanIs, fillFrom, Fills};
+ghost use Rattle.filter_table.specs.Table.{entryOf, EntryIs, CountIs, RunIs, RunPlanIs, Planned, fillFrom, Fills};
 
 // A filter: where its text stands, and its options with bits 6 and 7 clear.
 pub struct FilterEntry {
@@ -49,6 +49,8 @@ pub struct Plan {
     pub at: usize,
     pub end: usize,
     pub count: usize,
+    // how many bytes the reader took
+    pub taken: usize,
 }
 
 // A truth value as a bit.
@@ -132,8 +134,8 @@ fn count_at(s: &[u8], p: Span) -> usize
 }
 
 // The plan for a run of filters at a place.
-fn plan_run(s: &[u8], p: Span, places: usize) -> Plan
-    ensures { λ r. ⌜ RunPlanIs (now (s .entry)) (toldSpan p) places (r .answer) (r .at) (r .end) (r .count) ⌝ }
+fn plan_run(s: &[u8], p: Span, places: usize, taken: usize) -> Plan
+    ensures { λ r. ⌜ RunPlanIs (now (s .entry)) (toldSpan p) places taken r ⌝ }
 {
     let count = count_at(s, p);
     if string::within(s, p) {
@@ -147,6 +149,7 @@ fn plan_run(s: &[u8], p: Span, places: usize) -> Plan
                 at: start,
                 end,
                 count,
+                taken,
             };
         }
     }
@@ -156,26 +159,28 @@ fn plan_run(s: &[u8], p: Span, places: usize) -> Plan
         at: 0,
         end: 0,
         count: 0,
+        taken,
     }
 }
 
 // The plan for the frame at the start of s, read with no limit, and a table of so many places.
-fn plan_of(s: &[u8], places: usize) -> Plan
-    ensures { λ r. ⌜ PlanIs (now (s .entry)) places (r .answer) (r .at) (r .end) (r .count) ⌝ }
+pub fn plan_of(s: &[u8], places: usize) -> Plan
+    ensures { λ r. ⌜ Planned (now (s .entry)) places r ⌝ }
 {
     match packet::read(s, Limit::Unlimited) {
-        Read::Refused(e, _) => {
+        Read::Refused(e, taken) => {
             let answer = FilterTable::Refused(e);
             return Plan {
                 answer,
                 at: 0,
                 end: 0,
                 count: 0,
+                taken,
             };
         }
-        Read::Packet(p, _, _) => {
+        Read::Packet(p, _, taken) => {
             match p {
-                Packet::Subscribe(m) => return plan_run(s, m.filters, places),
+                Packet::Subscribe(m) => return plan_run(s, m.filters, places, taken),
                 Packet::Publish(_) => {}
                 Packet::Ack(_, _) => {}
                 Packet::Reply(_, _) => {}
@@ -189,6 +194,7 @@ fn plan_of(s: &[u8], places: usize) -> Plan
                 at: 0,
                 end: 0,
                 count: 0,
+                taken,
             };
         }
     }

@@ -1,3 +1,4 @@
 pub mod Laws
 pub mod Lies
 pub mod Theorem
+pub mod Calls

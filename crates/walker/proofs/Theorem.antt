@@ -28,16 +28,16 @@ use Rattle.walker.specs.Walk.{propertyAt, Next, here, other, done, block
 use Rattle.walker.proofs.Lies.{again-got, read-block}
 
 -- o is the first of vs, and ws the rest; or 21, and there is none
-data Takes : Fit (Val Span) → List (Val Span) → List (Val Span) → Type 0 where
+pub data Takes : Fit (Val Span) → List (Val Span) → List (Val Span) → Type 0 where
   took : {v : Val Span} {ws : List (Val Span)} → Takes (got v) (v ∷ ws) ws
   ended : Takes (bad noItem) [] []
 
 module _ (row : Place) (t : List ℕ) where
-  abbrev P : Reader (PropOf Span)
+  abbrev pub P : Reader (PropOf Span)
   P = propertyOf asPlaces row (length t)
 
   -- after o the walk stands at m, and what is left of the user properties vs is read there
-  abbrev After : Fit (Val Span) → ℕ → List (Val Span) → Type 0
+  abbrev pub After : Fit (Val Span) → ℕ → List (Val Span) → Type 0
   After o m vs = (ws : List (PropOf Span)) × (manyFit P (drop m t) ≡ got ws) × Takes o vs (allOf 38 ws)
 
   past : (at : ℕ) → length t ≤ at → propertyAt row t at ≡ bad cut
@@ -60,7 +60,7 @@ module _ (row : Place) (t : List ℕ) where
       from-bind (manyFit P (drop m t)) _ (λ ws j. from-got (λ (qs : List (PropOf Span)). (ws : List (PropOf Span)) × (manyFit P (drop m t) ≡ got ws) × (qs ≡ a ∷ ws)) (a ∷ ws) (ws, j, refl)) ps
       (sym (passed-next t L (none-passed t L at) (trails-property asPlaces (length t) row) (inside at (a, m) e) e .rest) ∙ i)
 
-  next-after : {at m : ℕ} {o : Fit (Val Span)} → Next row t at o m → (ps : List (PropOf Span)) → manyFit P (drop at t) ≡ got ps → After o m (allOf 38 ps)
+  pub next-after : {at m : ℕ} {o : Fit (Val Span)} → Next row t at o m → (ps : List (PropOf Span)) → manyFit P (drop at t) ≡ got ps → After o m (allOf 38 ps)
   unfolding allOf
   next-after (here {at = at} {m = m} {v = v} e) ps i =
       let (ws, j, q) = peel at m (38, v) e ps i in
@@ -94,10 +94,10 @@ module _ (row : Place) (t : List ℕ) where
   yields-nth (later {k = k} w y) ps i = let (ws, j, q) = next-after w ps i in yields-nth y ws j ∙ later-of k q
 
 -- the bytes before index `end`
-abbrev front : List ℕ → ℕ → List ℕ
+abbrev pub front : List ℕ → ℕ → List ℕ
 front s end = heldOf s (record { start = 0; len = end })
 
-front-is : (s : List ℕ) (end : ℕ) → end ≤ length s → front s end ≡ take end s
+pub front-is : (s : List ℕ) (end : ℕ) → end ≤ length s → front s end ≡ take end s
 unfolding heldOf
 front-is s end h =
     let e : 0 + end ≡ end = omega arith in

@@ -39,7 +39,7 @@ use denote.Triple.Statement.{Contract, Triple}
 use denote.Triple.Table.{entered, cited}
 use denote.Triple.Walked.{says, Stays, stay-none-slice, gave-slice, walkOf, goes-none-slice, goes-gave-slice, Walks, ends-at, walked, walk-meets}
 use denote.Exit.{yes}
-use Rattle.filter_table.specs.Table.{fillFrom, PlanIs}
+use Rattle.filter_table.specs.Table.{fillFrom, Planned}
 use Rattle.filter_table.specs.declared.FilterEntry.{FilterEntry}
 use Rattle.filter_table.specs.declared.Plan.{Plan}
 use Rattle.filter_table.proofs.Laws.{filled-is}
@@ -104,7 +104,7 @@ module _ {M : Type 1} (𝓤 : URA M) (H : Heap 𝓤) (A : Atoms 𝓤) (W : Given
     to-plan = (((κ, tt), (q, tt), tt, (s, (length xs, tt)), (v ∷ [], (vint w64 (length xs) ∷ [], tt))), tt)
 
     abbrev planned : Plan → Type 0
-    planned p = PlanIs (now s) (length xs) (p .answer) (p .at) (p .end) (p .count)
+    planned p = Planned (now s) (length xs) p
 
     goes-plan : ent 𝓤 (⋆ 𝓤 H A (‵ Own ∷ (‵ (flft κ q) ⊛ ‵ ftrue) ∷ [])) (sep 𝓤 (PlanOf 𝓤 H A mem run .pre to-plan) (sem 𝓤 H A Own))
     goes-plan =
@@ -151,7 +151,7 @@ module _ {M : Type 1} (𝓤 : URA M) (H : Heap 𝓤) (A : Atoms 𝓤) (W : Given
           → ent 𝓤 (⋆ 𝓤 H A ((‵ (flft κ q) ⊛ ‵ (flft κ′ q′) ⊛ ‵ ftrue) ∷ ‵ Own ∷ ‵ (finally R γ zs) ∷ [])) (Post (EL.val N.the-type N′.the-laws (p .answer)))
       exits zs l e e′ =
           qed W ((‵ (flft κ q) ⊛ ‵ (flft κ′ q′) ⊛ ‵ ftrue) ∷ ‵ Own ∷ ‵ (finally R γ zs) ∷ []) ∵
-          suffices ! _ (ends-at 𝓤 H A fill.ended stayed (fill.clauses 𝓤 H A mem run) W (((κ, (κ′, tt)), (q, (q′, tt)), tt, (s, (table, tt)), vals), tt) (EL.val N.the-type N′.the-laws (p .answer)) (p .answer) (tt, (zs, tt)) (tt, (l, tt))) $ says ! (filled-is e e′) $
+          suffices ! _ (ends-at 𝓤 H A fill.ended stayed (fill.clauses 𝓤 H A mem run) W (((κ, (κ′, tt)), (q, (q′, tt)), tt, (s, (table, tt)), vals), tt) (EL.val N.the-type N′.the-laws (p .answer)) (p .answer) (tt, (zs, tt)) (tt, (l, tt))) $ says ! (filled-is (e .plan) e′) $
           frame ! $ nothing ! $ move ! (2 ∷ 0 ∷ []) $ fjoin ! $ move ! (1 ∷ 0 ∷ []) $ fjoin ! $
           owned ! N.the-row (Is N.the-row) (EL.makes N.the-type N′.the-plain 𝓤 H A) (p .answer) _ shown $ move ! (1 ∷ 0 ∷ []) $ done !
 
@@ -175,7 +175,7 @@ module _ {M : Type 1} (𝓤 : URA M) (H : Heap 𝓤) (A : Atoms 𝓤) (W : Given
           assigns ! (addr ! (from ! (fld ! refl (hop ! (look-in ! 15 (sub ! 0 refl (whole !))) (stop !))))) (from ! (stop !)) (init ! 7 refl (tt, tt)) $
           assigns ! (agg ! (and-then ! (load ! (from ! (stop !)) (look ! 7 refl)) (and-then ! (load ! (from ! (fld ! refl (stop !))) (look-in ! 15 (sub ! 1 refl (whole !)))) (no-more !)))) (from ! (stop !)) (init ! 5 refl (tt, (tt, (record { fits = room .0 }, tt)))) $
           split ! $ move ! (3 ∷ 1 ∷ []) $ join ! $ move ! (1 ∷ 0 ∷ []) $ join ! $
-          use3 W (raw (Put 𝓤 H A mem run .pre (to-put p u is)) ⊛ ‵ Own) (goes-put p u is (e .room)) $ split ! $
+          use3 W (raw (Put 𝓤 H A mem run .pre (to-put p u is)) ⊛ ‵ Own) (goes-put p u is (e .plan .room)) $ split ! $
           -- [what the callee asks; what s owns; true; _7; …; _6; …; _5; …; _4; …; _3; …; _2; …; _1; …; room for _0; …]
           calls-at ! fm (Put 𝓤 H A mem run) known-put (to-put p u is) (and-then ! (load ! (from ! (stop !)) (look ! 15 refl)) (and-then ! (load ! (from ! (fld ! refl (stop !))) (look-in ! 11 (sub ! 1 refl (whole !)))) (and-then ! (load ! (from ! (fld ! refl (stop !))) (look-in ! 11 (sub ! 2 refl (whole !)))) (and-then ! (load ! (from ! (fld ! refl (stop !))) (look-in ! 11 (sub ! 3 refl (whole !)))) (and-then ! (load ! (from ! (stop !)) (look ! 3 refl)) (no-more !)))))) (λ y.
           use1 W (later (some (λ (r : Unit {0}). ((‵ (flft κ q) ⊛ ‵ (flft κ′ q′) ⊛ ‵ ftrue) ⊛ ‵ (Nothing .own r (y ∷ []))) ⊛ raw (ensured 𝓤 H A put.ended (put.clauses 𝓤 H A mem run) (κ, (κ′, tt)) (given-put p u is) tt r)))) (id⊢ 𝓤 _) $ await ! tt $ pick ! (λ r.

@@ -1,0 +1,75 @@
+-- The answers to calls one after the other are the user properties of the record in order, and then nothing for ever. Assumes nothing.
+use mathlib.Core.Path.{_≡_, refl, sym, ap, _∙_, subst}
+use mathlib.Core.Option.{Option, none, some}
+use mathlib.Core.List.{List, [], _∷_, map}
+use Prim.Native.Nat.{ℕ, zero, suc, _+_, _≤_}
+use native.Mathlib.Omega.{arith}
+use lib.ListN.{length, take, drop}
+use lib.Seq.{length-take-le}
+use denote.Ref.{now}
+use Rattle.grammar.specs.Record.{Val, PropOf, allOf}
+use Rattle.grammar.specs.Tables.{Place, publishPlace}
+use Rattle.reading.specs.Reader.{Fit, got, bad, manyFit}
+use Rattle.reading.specs.Read.{propertyOf, propertiesFit}
+use Rattle.reading.specs.Place.{Span, partOf, heldOf, asPlaces, noItem, again, valuesAt, readPlacedOf}
+use Rattle.positions.proofs.At.{part-slice}
+use Rattle.positions.proofs.Less.{property-less, once-many}
+use Rattle.positions.proofs.Run.{none-passed, passed-end}
+use Rattle.records.specs.Answered.{toldUser}
+use Rattle.records.specs.declared.answer.UserItem.{UserItem}
+use Rattle.tables.specs.Property.{placeOf}
+use Rattle.tables.specs.declared.property.PropertyPlace.{PropertyPlace}
+use Rattle.walker.specs.Walk.{Next, blockOf, spread, Begins, Moves}
+use Rattle.walker.specs.Calls.{Calls, uncalled, called, answersOf, usersIn}
+use Rattle.walker.specs.declared.Walker.{Walker}
+use Rattle.walker.proofs.Lies.{again-got, read-block}
+use Rattle.walker.proofs.Theorem.{Takes, took, ended, next-after, front, front-is}
+
+cons-answers : {o : Fit (Val Span)} {vs ws : List (Val Span)} (k : ℕ) → Takes o vs ws → o ∷ answersOf k ws ≡ answersOf (suc k) vs
+cons-answers k took = refl
+cons-answers k ended = refl
+
+-- from a walker w on, over the bytes before `end` of s, in the row of a place, where the properties ps stand from its index on
+module _ (s : List ℕ) (end : ℕ) (place : PropertyPlace) where
+  abbrev t : List ℕ
+  t = front s end
+
+  calls-list : {w v : Walker} {rs : List UserItem} → Calls w rs v → now (w .frame) ≡ s → w .end ≡ end → w .place ≡ place
+      → (ps : List (PropOf Span)) → manyFit (propertyOf asPlaces (placeOf place) (length t)) (drop (w .at) t) ≡ got ps → map toldUser rs ≡ answersOf (length rs) (allOf 38 ps)
+  calls-list uncalled i j k ps e = refl
+  calls-list {w = w} (called {v = v} {r = r} {rs = rs} (fr, (en, (pl, g))) c) i j k ps e =
+      let n : Next (placeOf place) t (w .at) (toldUser r) (v .at) = rw (i, j, k) at g in
+      let (ws, f, q) = next-after (placeOf place) t n ps e in
+      ap (λ (l : List (Fit (Val Span))). toldUser r ∷ l) (calls-list c (ap now fr ∙ i) (en ∙ j) (pl ∙ k) ws f) ∙ cons-answers (length rs) q
+
+module _ (s : List ℕ) (w v : Walker) (rs : List UserItem) (c : Calls w rs v) (h : now (w .frame) ≡ s) where
+  -- the answers are those of the user properties that u says
+  abbrev Lists : Option (Place × Span) → Type 0
+  Lists u = (vs : List (Val Span)) × (usersIn s u ≡ got vs) × (map toldUser rs ≡ answersOf (length rs) vs)
+
+  over-none : _≡_ {A = ℕ × (ℕ × Place)} (w .at, (w .end, placeOf (w .place))) (0, (0, publishPlace)) → Lists none
+  unfolding allOf
+  over-none e =
+      let t : List ℕ = front s (w .end) in
+      let z : w .end ≡ 0 = ap (λ (q : ℕ × (ℕ × Place)). q .1 .0) e in
+      let l : length t ≡ 0 = ap (λ (k : ℕ). length (front s k)) z ∙ ap length (front-is s 0 (omega arith)) in
+      let L = property-less (placeOf (w .place)) (length t) in
+      ([], refl, calls-list s (w .end) (w .place) c h refl refl [] (passed-end t L (none-passed t L (w .at)) (omega (arith, l))))
+
+  over-block : (row : Place) (p : Span) → _≡_ {A = ℕ × (ℕ × Place)} (w .at, (w .end, placeOf (w .place))) (p .start, (p .start + p .len, row)) → (ps : List (PropOf Span)) × (again (propertiesFit asPlaces row) s p ≡ got ps) → Lists (some (row, p))
+  unfolding valuesAt propertiesFit
+  over-block row p e (ps, j) =
+      let (i, f) = again-got (propertiesFit asPlaces row) s p ps j in
+      let end : ℕ = p .start + p .len in
+      let n : length (take end s) ≡ end = length-take-le end s i in
+      let g : manyFit (propertyOf asPlaces row (length (take end s))) (drop (p .start) (take end s)) ≡ got ps = rw (n, sym (part-slice s (p .len) (p .start) i)) (once-many asPlaces row end [] (partOf s p) ps f) in
+      let k : manyFit (propertyOf asPlaces row (length (front s end))) (drop (p .start) (front s end)) ≡ got ps = subst (λ (t : List ℕ). manyFit (propertyOf asPlaces row (length t)) (drop (p .start) t) ≡ got ps) (sym (front-is s end i)) g in
+      (allOf 38 ps, rw j, calls-list s (w .end) (w .place) c h refl refl ps (subst (λ (z : ℕ × (ℕ × Place)). manyFit (propertyOf asPlaces (z .1 .1) (length (front s (z .1 .0)))) (drop (z .0) (front s (z .1 .0))) ≡ got ps) (sym e) k))
+
+  -- 02, P7: "yields user properties one after another", "nothing on a frame the reader refuses": of a walker over the frame at the start of s, k calls give the first k user properties of its record, in order, and then nothing for ever
+  pub calls-yield : Begins s (w .at) (w .end) (w .place) → Lists (blockOf (readPlacedOf none s))
+  calls-yield b = go (blockOf (readPlacedOf none s)) refl b
+    where
+      go : (u : Option (Place × Span)) → blockOf (readPlacedOf none s) ≡ u → (w .at, (w .end, placeOf (w .place))) ≡ spread u → Lists u
+      go none i e = over-none e
+      go (some (row, p)) i e = over-block row p e (read-block s (readPlacedOf none s) refl row p i)
