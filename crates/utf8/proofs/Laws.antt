@@ -115,12 +115,12 @@ unfolding textAfter isText thenFit followOf noneOf
 after-none s = then-got _ (manyFit charOf s)
 
 module _ (r : Range) (rs : List Range) where
-  after-end : textAfter (r ∷ rs) [] ≡ false
+  pub after-end : textAfter (r ∷ rs) [] ≡ false
   unfolding textAfter thenFit followOf mapOf thenOf onlyOf byteOf
   after-end = refl
 
   module _ (b : ℕ) (s : List ℕ) where
-    after-out : inRange r b ≡ false → textAfter (r ∷ rs) (b ∷ s) ≡ false
+    pub after-out : inRange r b ≡ false → textAfter (r ∷ rs) (b ∷ s) ≡ false
     unfolding textAfter thenFit followOf mapOf thenOf onlyOf byteOf
     after-out e = rw e
 
@@ -129,7 +129,7 @@ module _ (r : Range) (rs : List Range) where
     after-go e (got z) f = rw (e, f) (then-got _ (manyFit charOf (z .1)) ∙ sym (then-got _ (manyFit charOf (z .1))))
     after-go e (bad k) f = rw (e, f)
 
-    after-in : inRange r b ≡ true → textAfter (r ∷ rs) (b ∷ s) ≡ textAfter rs s
+    pub after-in : inRange r b ≡ true → textAfter (r ∷ rs) (b ∷ s) ≡ textAfter rs s
     after-in e = after-go e (followOf rs s) refl
 
 -- too few bytes for what is due
@@ -182,24 +182,18 @@ module _ {s : List ℕ} {at n low high lo hi i : ℕ} (f : Following s at n low 
         let j : suc (at + i) ≡ at + (i + 1) = omega arith in
         f .rest ∙ rw (due-more (n - i) lo hi (omega arith), e, drop-cons s (at + i) 0 (omega (arith, f .room)), j)
 
-    out : inRange (lo, hi) (getD s (at + i) 0) ≡ false → Followed s at n low high false
-    out e = record {
+    pub follow-out : inRange (lo, hi) (getD s (at + i) 0) ≡ false → Followed s at n low high false
+    follow-out e = record {
       within = λ e. absurd (false≢true e);
       yes = λ e. absurd (false≢true e);
       no = λ _. next-due ∙ after-out (lo, hi) (dueOf (n - (i + 1)) 0x80 0xBF) (getD s (at + i) 0) (drop (at + (i + 1)) s) e;
     }
 
-    pub follow-low : getD s (at + i) 0 < lo → Followed s at n low high false
-    follow-low b = out (rw (lt-leb lo (getD s (at + i) 0) b))
-
-    pub follow-high : hi < getD s (at + i) 0 → Followed s at n low high false
-    follow-high b = out (not-in (lo, hi) (getD s (at + i) 0) b)
-
-    pub follow-next : lo ≤ getD s (at + i) 0 → getD s (at + i) 0 ≤ hi → Following s at n low high 0x80 0xBF (i + 1)
-    follow-next l u = record {
+    pub follow-in : inRange (lo, hi) (getD s (at + i) 0) ≡ true → Following s at n low high 0x80 0xBF (i + 1)
+    follow-in e = record {
       room = f .room;
       within = omega arith;
-      rest = next-due ∙ after-in (lo, hi) (dueOf (n - (i + 1)) 0x80 0xBF) (getD s (at + i) 0) (drop (at + (i + 1)) s) (rw (le-leb lo (getD s (at + i) 0) l, le-leb (getD s (at + i) 0) hi u));
+      rest = next-due ∙ after-in (lo, hi) (dueOf (n - (i + 1)) 0x80 0xBF) (getD s (at + i) 0) (drop (at + (i + 1)) s) e;
     }
 
   pub follow-end : n ≤ i → Followed s at n low high true
@@ -211,6 +205,26 @@ module _ {s : List ℕ} {at n low high lo hi i : ℕ} (f : Following s at n low 
         yes = λ _. f .rest ∙ rw (e, j) (after-none (drop (at + n) s));
         no = λ e. absurd (true≢false e);
       }
+
+-- the last of them
+pub follow-last : {s : List ℕ} {at n low high lo hi i : ℕ} → Following s at n low high lo hi i → (r : Bool) → i + 1 ≡ n → r ≡ inRange (lo, hi) (getD s (at + i) 0) → Followed s at n low high r
+follow-last f true h e = follow-end (follow-in f (omega arith) (sym e)) (omega arith)
+follow-last f false h e = follow-out f (omega arith) (sym e)
+
+-- the first of them
+module _ (s : List ℕ) (at n low high : ℕ) (h : at ≤ length s) (l : n ≤ length s - at) (p : 0 < n) where
+  pub follow-low : getD s at 0 < low → Followed s at n low high false
+  follow-low b = follow-out (follow-start s at n low high h l) p (rw (add-zero at, lt-leb low (getD s at 0) b))
+
+  pub follow-high : high < getD s at 0 → Followed s at n low high false
+  follow-high b = follow-out (follow-start s at n low high h l) p (rw (add-zero at) (not-in (low, high) (getD s at 0) b))
+
+  pub follow-first : low ≤ getD s at 0 → getD s at 0 ≤ high → Following s at n low high 0x80 0xBF 1
+  follow-first b c = follow-in (follow-start s at n low high h l) p (rw (add-zero at, le-leb low (getD s at 0) b, le-leb (getD s at 0) high c))
+
+-- the only one
+pub follow-only : (s : List ℕ) (at low high : ℕ) → at ≤ length s → 1 ≤ length s - at → (r : Bool) → r ≡ inRange (low, high) (getD s at 0) → Followed s at 1 low high r
+follow-only s at low high h l r e = follow-last (follow-start s at 1 low high h l) r refl (rw (add-zero at) e)
 
 -- ---- what is passed at once
 
@@ -273,7 +287,7 @@ pub and-both : (a b : Bool) → (a && b) ≡ true → (a ≡ true) × (b ≡ tru
 and-both true b e = (refl, e)
 and-both false b e = absurd (false≢true e)
 
-ascii-append : (xs ys : List ℕ) → allAscii (xs ++ ys) ≡ (allAscii xs && allAscii ys)
+pub ascii-append : (xs ys : List ℕ) → allAscii (xs ++ ys) ≡ (allAscii xs && allAscii ys)
 ascii-append [] ys = refl
 ascii-append (x ∷ xs) ys = rw (ascii-append xs ys) (sym (and-assoc (plain x) (allAscii xs) (allAscii ys)))
 

@@ -1,7 +1,6 @@
 -- What the steps of the validator tell of the text that is left. Assumes nothing.
 use mathlib.Core.Path.{_≡_}
 use mathlib.Core.Bool.{Bool, true, false, _&&_}
-use mathlib.Core.Option.{Option, none, some}
 use mathlib.Core.List.{List, [], _∷_}
 use Prim.Native.Nat.{ℕ, zero, suc, _+_, _≤_, _<_}
 use lib.Dec.{ltb}
@@ -10,18 +9,11 @@ use Rattle.grammar.specs.Choice.{all}
 use Rattle.grammar.specs.Text.{Range}
 use Rattle.reading.specs.Reader.{thenFit, manyFit, isGot}
 use Rattle.reading.specs.Read.{followOf, charOf, isText}
-use Rattle.utf8.specs.declared.Lead.{Lead}
-use Rattle.utf8.specs.declared.Lead.the-variants.{More, Nowhere}
 
 -- n bytes, the first of them from low to high, and the others any that continue a character
 abbrev pub dueOf : ℕ → ℕ → ℕ → List Range
 dueOf zero low high = []
 dueOf (suc n) low high = (low, high) ∷ replicate n (0x80, 0xBF)
-
--- a row of the Unicode table, its first byte aside
-abbrev pub toldLead : Lead → Option (List Range)
-toldLead (More n low high) = some (dueOf n low high)
-toldLead Nowhere = none
 
 -- the bytes that are due, and then characters to the end
 unfoldable pub textAfter : List Range → List ℕ → Bool

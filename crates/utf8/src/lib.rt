@@ -1,64 +1,92 @@
-// UTF-8: the validator in place of `String::from_utf8` of v5/mod.rs, after the Unicode table of well-formed sequences. It goes by
-// chunks: one whose bytes are all ASCII is passed at once, any other character by character.
+// UTF-8: the validator in place of `String::from_utf8` of v5/mod.rs, after the Unicode table of well-formed sequences. Chunks whose bytes are
+// all ASCII are passed at once; in any other, each byte is held against the three before it, sixteen at a time and with no branch. Less than
+// sixteen bytes go character by character.
 use std::num;
 ghost use mathlib.Core.Path.{_≡_};
-ghost use mathlib.Core.Bool.{true, false};
+ghost use mathlib.Core.Bool.{true, false, not, cond};
 ghost use Prim.Native.Nat.{_+_, _-_, _≤_, _<_};
-ghost use lib.Dec.{ltb};
+ghost use lib.Dec.{ltb, eqb};
 ghost use lib.ListN.{length, take, drop};
-ghost use Rattle.grammar.specs.Text.{rows, rowAt};
 ghost use Rattle.reading.specs.Read.{isText};
-ghost use Rattle.utf8.specs.Text.{toldLead, Followed, Passed, plain, allAscii};
+ghost use Rattle.utf8.specs.Text.{Followed, Passed, plain, allAscii};
+ghost use Rattle.utf8.specs.Window.{due, continues, onlyIf, second, fits, used, lowOf, highOf, dueAt, Fit, Fitted, FitTo, AsciiTo};
 
-// What is to follow a byte that begins a character.
-enum Lead {
-    // So many bytes, the first of them from the second number to the third.
-    More(usize, u8, u8),
-    // No character begins so.
-    Nowhere,
-}
-
-fn begin(b: u8) -> Lead
-    ensures { λ r. ⌜ toldLead r ≡ rowAt rows b ⌝ }
+// The least and the greatest byte that may follow one that begins a character of three bytes or more.
+fn low_of(b: u8) -> u8
+    ensures { λ r. ⌜ r ≡ lowOf b ⌝ }
 {
     match b {
-        0x01..=0x7F => Lead::More(0, 0x80, 0xBF),
-        0xC2..=0xDF => Lead::More(1, 0x80, 0xBF),
-        0xE0 => Lead::More(2, 0xA0, 0xBF),
-        0xE1..=0xEC => Lead::More(2, 0x80, 0xBF),
-        0xED => Lead::More(2, 0x80, 0x9F),
-        0xEE..=0xEF => Lead::More(2, 0x80, 0xBF),
-        0xF0 => Lead::More(3, 0x90, 0xBF),
-        0xF1..=0xF3 => Lead::More(3, 0x80, 0xBF),
-        0xF4 => Lead::More(3, 0x80, 0x8F),
-        0 | 0x80..=0xC1 | 0xF5..=0xFF => Lead::Nowhere,
+        0xE0 => 0xA0,
+        0xF0 => 0x90,
+        _ => 0x80,
     }
 }
 
-// Do n bytes follow from index `at` on, the first of them from low to high?
-fn follows(s: &[u8], at: usize, n: usize, low: u8, high: u8) -> bool
-    requires { ⌜ at ≤ length (now s) ⌝ }
-    ensures { λ r. ⌜ Followed (now (s .entry)) at n low high r ⌝ }
+fn high_of(b: u8) -> u8
+    ensures { λ r. ⌜ r ≡ highOf b ⌝ }
 {
-    if s.len() - at < n {
+    match b {
+        0xED => 0x9F,
+        0xF4 => 0x8F,
+        _ => 0xBF,
+    }
+}
+
+// Does a byte continue a character?
+fn goes_on(b: u8) -> bool
+    ensures { λ r. ⌜ r ≡ continues b ⌝ }
+{
+    num::wrapping_sub_u8(b, 0x80) < 0x40
+}
+
+// Does one byte follow at index `at` that continues a character?
+fn follows_one(s: &[u8], at: usize) -> bool
+    requires { ⌜ at ≤ length (now s) ⌝ }
+    ensures { λ r. ⌜ Followed (now (s .entry)) at 1 0x80 0xBF r ⌝ }
+{
+    if s.len() - at < 1 {
         return false;
     }
-    let mut lo = low;
-    let mut hi = high;
-    let mut i: usize = 0;
-    while i < n {
-        let b = s[at + i];
-        if b < lo {
-            return false;
-        }
-        if hi < b {
-            return false;
-        }
-        lo = 0x80;
-        hi = 0xBF;
-        i = i + 1;
+    goes_on(s[at])
+}
+
+// Do two, the first of them from low to high?
+fn follow_two(s: &[u8], at: usize, low: u8, high: u8) -> bool
+    requires { ⌜ at ≤ length (now s) ⌝ }
+    ensures { λ r. ⌜ Followed (now (s .entry)) at 2 low high r ⌝ }
+{
+    if s.len() - at < 2 {
+        return false;
     }
-    true
+    let b = s[at];
+    if b < low {
+        return false;
+    }
+    if high < b {
+        return false;
+    }
+    goes_on(s[at + 1])
+}
+
+// Do three?
+fn follow_three(s: &[u8], at: usize, low: u8, high: u8) -> bool
+    requires { ⌜ at ≤ length (now s) ⌝ }
+    ensures { λ r. ⌜ Followed (now (s .entry)) at 3 low high r ⌝ }
+{
+    if s.len() - at < 3 {
+        return false;
+    }
+    let b = s[at];
+    if b < low {
+        return false;
+    }
+    if high < b {
+        return false;
+    }
+    if goes_on(s[at + 1]) {
+        return goes_on(s[at + 2]);
+    }
+    false
 }
 
 // The index after the character at `at`; `at` if none stands there.
@@ -66,32 +94,46 @@ fn next_char(s: &[u8], at: usize) -> usize
     requires { ⌜ at < length (now s) ⌝ }
     ensures { λ r. ⌜ Passed (now (s .entry)) at r ⌝ }
 {
-    match begin(s[at]) {
-        Lead::Nowhere => at,
-        Lead::More(n, low, high) => {
-            if follows(s, at + 1, n, low, high) {
-                at + 1 + n
-            } else {
-                at
-            }
+    let b = s[at];
+    if flaw(b) < 128 {
+        return at + 1;
+    }
+    if b < 0xC2 {
+        return at;
+    }
+    if b < 0xE0 {
+        if follows_one(s, at + 1) {
+            return at + 2;
+        }
+        return at;
+    }
+    if b < 0xF0 {
+        if follow_two(s, at + 1, low_of(b), high_of(b)) {
+            return at + 3;
+        }
+        return at;
+    }
+    if b < 0xF5 {
+        if follow_three(s, at + 1, low_of(b), high_of(b)) {
+            return at + 4;
         }
     }
+    at
 }
 
-// The index after the characters that begin before `end`; `at` if they break off.
-fn pass_chars(s: &[u8], at: usize, end: usize) -> usize
-    requires { ⌜ (at < end) × (end ≤ length (now s)) ⌝ }
-    ensures { λ r. ⌜ Passed (now (s .entry)) at r ⌝ }
+// Is `s` well-formed UTF-8? Character by character.
+fn by_chars(s: &[u8]) -> bool
+    ensures { λ r. ⌜ r ≡ isText (now (s .entry)) ⌝ }
 {
-    let mut i = at;
-    while i < end {
+    let mut i: usize = 0;
+    while i < s.len() {
         let next = next_char(s, i);
         if next == i {
-            return at;
+            return false;
         }
         i = next;
     }
-    i
+    true
 }
 
 // A byte whose top bit is set just where b is 0 or not ASCII. b is in 1..=127 just where b - 1, wrapped, is below 127: one comparison,
@@ -119,8 +161,18 @@ fn is_ascii(s: &[u8], at: usize, end: usize) -> bool
     all < 128
 }
 
-// Two chunks, of 16 bytes or of 8, that cover `s` and may overlap: is each byte of them ASCII, and none of them 0? No, if `s` is shorter or
-// longer than two such chunks cover.
+// Two chunks of n bytes, which cover `s` and may overlap: is each byte of them ASCII, and none of them 0?
+fn is_twice(s: &[u8], n: usize) -> bool
+    requires { ⌜ (n ≤ length (now s)) × (length (now s) ≤ n + n) ⌝ }
+    ensures { λ r. ⌜ (r ≡ true → isText (now (s .entry)) ≡ true) ⌝ }
+{
+    if is_ascii(s, 0, n) {
+        return is_ascii(s, s.len() - n, s.len());
+    }
+    false
+}
+
+// The same with chunks of 8 to 64 bytes; no, if `s` is shorter or longer than two such chunks cover.
 fn is_two_chunks(s: &[u8]) -> bool
     ensures { λ r. ⌜ (r ≡ true → isText (now (s .entry)) ≡ true) ⌝ }
 {
@@ -129,22 +181,23 @@ fn is_two_chunks(s: &[u8]) -> bool
         return false;
     }
     if end < 16 {
-        if is_ascii(s, 0, 8) {
-            return is_ascii(s, end - 8, end);
-        }
-        return false;
+        return is_twice(s, 8);
     }
     if end <= 32 {
-        if is_ascii(s, 0, 16) {
-            return is_ascii(s, end - 16, end);
-        }
+        return is_twice(s, 16);
+    }
+    if end <= 64 {
+        return is_twice(s, 32);
+    }
+    if end <= 128 {
+        return is_twice(s, 64);
     }
     false
 }
 
 // The index after the chunks of 64 bytes, from the first on, that are ASCII.
 fn pass_ascii(s: &[u8]) -> usize
-    ensures { λ r. ⌜ (r ≤ length (now (s .entry))) × (isText (now (s .entry)) ≡ isText (drop r (now (s .entry)))) ⌝ }
+    ensures { λ r. ⌜ AsciiTo (now (s .entry)) r ⌝ }
 {
     let mut i: usize = 0;
     while 64 <= s.len() - i {
@@ -156,50 +209,270 @@ fn pass_ascii(s: &[u8]) -> usize
     i
 }
 
-// The index after the next chunk, and after the character that crosses its end; `at` if it is no text. A chunk has 64 bytes if they are
-// ASCII, else 16, else what is left: where the count is a constant, the compiler makes one straight line of it. The last 16 bytes may overlap
-// the chunk before them.
-fn pass_chunk(s: &[u8], at: usize) -> usize
-    requires { ⌜ at < length (now s) ⌝ }
-    ensures { λ r. ⌜ Passed (now (s .entry)) at r ⌝ }
+// Where the bytes before index `at` are ASCII: are the others, if less than 64 are left? The last 64 may overlap the chunk before them.
+fn is_rest_ascii(s: &[u8], at: usize) -> bool
+    requires { ⌜ AsciiTo (now s) at ⌝ }
+    ensures { λ r. ⌜ (r ≡ true → isText (now (s .entry)) ≡ true) ⌝ }
 {
-    let left = s.len() - at;
-    if 64 <= left {
-        if is_ascii(s, at, at + 64) {
-            return at + 64;
-        }
+    if at < 64 {
+        return false;
     }
-    if 16 <= left {
-        if is_ascii(s, at, at + 16) {
-            return at + 16;
-        }
-        return pass_chars(s, at, at + 16);
+    if 64 <= s.len() - at {
+        return false;
     }
-    let end = s.len();
-    if 16 <= end {
-        if is_ascii(s, end - 16, end) {
-            return end;
-        }
-    }
-    pass_chars(s, at, end)
+    is_ascii(s, s.len() - 64, s.len())
 }
 
-// Is `s` well-formed UTF-8? Chunk by chunk.
+// ---- a byte and the three before it; 'marked' is a byte with its top bit set
+
+// Marked just where b is n + 128 or more.
+fn over(b: u8, n: u8) -> u8
+    ensures { λ r. ⌜ ltb r 128 ≡ ltb b (n + 128) ⌝ }
+{
+    if b < n {
+        return 0;
+    }
+    b - n
+}
+
+// v if a is b, else 0.
+fn when(a: u8, b: u8, v: u8) -> u8
+    ensures { λ r. ⌜ ltb r 128 ≡ onlyIf (eqb a b) (ltb v 128) ⌝ }
+{
+    if a == b {
+        return v;
+    }
+    0
+}
+
+// Marked just where a byte that continues a character is due after r, q and p.
+fn owed(r: u8, q: u8, p: u8) -> u8
+    ensures { λ x. ⌜ ltb x 128 ≡ not (due r q p) ⌝ }
+{
+    over(p, 0x40) | over(q, 0x60) | over(r, 0x70)
+}
+
+// Marked just where b continues a character and none is due, or the other way round; `owes` is marked where one is due.
+fn astray(owes: u8, b: u8) -> u8
+    ensures { λ r. ⌜ ltb r 128 ≡ cond (ltb owes 128) (not (continues b)) (continues b) ⌝ }
+{
+    if goes_on(b) {
+        if owes < 128 {
+            return 255;
+        }
+        return 0;
+    }
+    if owes < 128 {
+        return 0;
+    }
+    255
+}
+
+// Marked just where b is in no text: 0, C0, C1, F5 and above.
+fn unused(b: u8) -> u8
+    ensures { λ r. ⌜ ltb r 128 ≡ used b ⌝ }
+{
+    over(num::wrapping_sub_u8(b, 1), 0x74) | when(b, 0xC0, 255) | when(b, 0xC1, 255)
+}
+
+// Marked just where b is outside of the narrower second cell that p asks for: E0 from A0 on, ED below it, F0 from 90 on, F4 below it.
+fn outside(p: u8, b: u8) -> u8
+    ensures { λ r. ⌜ ltb r 128 ≡ second p b ⌝ }
+{
+    let x = over(b, 0x20);
+    let y = over(b, 0x10);
+    when(p, 0xE0, 255 - x) | when(p, 0xED, x) | when(p, 0xF0, 255 - y) | when(p, 0xF4, y)
+}
+
+// Marked just where b does not fit behind r, q and p.
+fn misfit(r: u8, q: u8, p: u8, b: u8) -> u8
+    ensures { λ x. ⌜ ltb x 128 ≡ fits r q p b ⌝ }
+{
+    astray(owed(r, q, p), b) | unused(b) | outside(p, b)
+}
+
+// Does b fit behind r, q and p? With a way out: for single bytes.
+fn is_fitting(r: u8, q: u8, p: u8, b: u8) -> bool
+    ensures { λ x. ⌜ x ≡ fits r q p b ⌝ }
+{
+    if 128 <= owed(r, q, p) {
+        if b < low_of(p) {
+            return false;
+        }
+        return b <= high_of(p);
+    }
+    if b < 0x80 {
+        return 0 < b;
+    }
+    if b < 0xC2 {
+        return false;
+    }
+    b < 0xF5
+}
+
+// Do the first three bytes fit?
+fn fit_three(s: &[u8]) -> bool
+    requires { ⌜ 3 ≤ length (now s) ⌝ }
+    ensures { λ r. ⌜ Fitted (now (s .entry)) 0 3 r ⌝ }
+{
+    let b = s[0];
+    let c = s[1];
+    if !is_fitting(0, 0, 0, b) {
+        return false;
+    }
+    if !is_fitting(0, 0, b, c) {
+        return false;
+    }
+    is_fitting(0, b, c, s[2])
+}
+
+// Does each of the n bytes from index `at` + 3 on fit behind the three before it?
+fn fit_run(s: &[u8], at: usize, n: usize) -> bool
+    requires { ⌜ at + 3 + n ≤ length (now s) ⌝ }
+    ensures { λ r. ⌜ Fitted (now (s .entry)) (at + 3) (at + 3 + n) r ⌝ }
+{
+    let mut all: u8 = 0;
+    let mut k: usize = 0;
+    while k < n {
+        all = all | misfit(s[at + k], s[at + k + 1], s[at + k + 2], s[at + k + 3]);
+        k = k + 1;
+    }
+    all < 128
+}
+
+// Is every character before index `at` whole?
+fn is_whole(s: &[u8], at: usize) -> bool
+    requires { ⌜ (3 ≤ at) × (at ≤ length (now s)) ⌝ }
+    ensures { λ r. ⌜ r ≡ not (dueAt (now (s .entry)) at) ⌝ }
+{
+    if 0xC0 <= s[at - 1] {
+        return false;
+    }
+    if 0xE0 <= s[at - 2] {
+        return false;
+    }
+    s[at - 3] < 0xF0
+}
+
+// Do the 64 bytes from index `at` on fit? They do if they are ASCII, and no byte is due before them.
+fn fit_chunk(s: &[u8], at: usize) -> bool
+    requires { ⌜ (3 ≤ at) × (at + 64 ≤ length (now s)) ⌝ }
+    ensures { λ r. ⌜ Fitted (now (s .entry)) at (at + 64) r ⌝ }
+{
+    if is_ascii(s, at, at + 64) {
+        return is_whole(s, at);
+    }
+    fit_run(s, at - 3, 64)
+}
+
+// The index after the chunks of 64 bytes from index `at` on, where those before it fit; 0 if one does not fit.
+fn pass_fitting(s: &[u8], at: usize) -> usize
+    requires { ⌜ (3 ≤ at) × (at ≤ length (now s)) × Fit (now s) 0 at ⌝ }
+    ensures { λ r. ⌜ FitTo (now (s .entry)) at r ⌝ }
+{
+    let mut i = at;
+    while 64 <= s.len() - i {
+        if !fit_chunk(s, i) {
+            return 0;
+        }
+        i = i + 64;
+    }
+    i
+}
+
+// Do the bytes from index `at` on fit, which are less than sixteen? The last sixteen are tested, if there are any from `at` on.
+fn fit_last(s: &[u8], at: usize) -> bool
+    requires { ⌜ (19 ≤ length (now s)) × (length (now s) ≤ at + 16) × (at ≤ length (now s)) ⌝ }
+    ensures { λ r. ⌜ Fitted (now (s .entry)) at (length (now (s .entry))) r ⌝ }
+{
+    if at < s.len() {
+        return fit_run(s, s.len() - 19, 16);
+    }
+    true
+}
+
+// Where the bytes before index `at` fit: is `s` text?
+fn by_sixteens(s: &[u8], at: usize) -> bool
+    requires { ⌜ (3 ≤ at) × (at ≤ length (now s)) × (19 ≤ length (now s)) × Fit (now s) 0 at ⌝ }
+    ensures { λ r. ⌜ r ≡ isText (now (s .entry)) ⌝ }
+{
+    let end = s.len();
+    let mut i = at;
+    while 16 <= end - i {
+        if !fit_run(s, i - 3, 16) {
+            return false;
+        }
+        i = i + 16;
+    }
+    if !fit_last(s, i) {
+        return false;
+    }
+    is_whole(s, end)
+}
+
+// The same, by 64 bytes first.
+fn by_windows(s: &[u8], at: usize) -> bool
+    requires { ⌜ (3 ≤ at) × (at ≤ length (now s)) × (19 ≤ length (now s)) × Fit (now s) 0 at ⌝ }
+    ensures { λ r. ⌜ r ≡ isText (now (s .entry)) ⌝ }
+{
+    let next = pass_fitting(s, at);
+    if next == 0 {
+        return false;
+    }
+    by_sixteens(s, next)
+}
+
+// Where the bytes before index `at` are ASCII: is `s` text?
+fn by_rest(s: &[u8], at: usize) -> bool
+    requires { ⌜ (19 ≤ length (now s)) × AsciiTo (now s) at ⌝ }
+    ensures { λ r. ⌜ r ≡ isText (now (s .entry)) ⌝ }
+{
+    if 3 <= at {
+        return by_windows(s, at);
+    }
+    if fit_three(s) {
+        return by_windows(s, 3);
+    }
+    false
+}
+
+// Is `s`, of 11 to 19 bytes, text? The last eight may overlap those before them.
+fn by_eights(s: &[u8]) -> bool
+    requires { ⌜ (11 ≤ length (now s)) × (length (now s) ≤ 19) ⌝ }
+    ensures { λ r. ⌜ r ≡ isText (now (s .entry)) ⌝ }
+{
+    let end = s.len();
+    if !fit_three(s) {
+        return false;
+    }
+    if !fit_run(s, 0, 8) {
+        return false;
+    }
+    if !fit_run(s, end - 11, 8) {
+        return false;
+    }
+    is_whole(s, end)
+}
+
+// Is `s` well-formed UTF-8? Chunks that are ASCII are passed at once, and what stands behind them is tested by windows.
 fn by_chunks(s: &[u8]) -> bool
     ensures { λ r. ⌜ r ≡ isText (now (s .entry)) ⌝ }
 {
     if is_two_chunks(s) {
         return true;
     }
-    let mut i = pass_ascii(s);
-    while i < s.len() {
-        let next = pass_chunk(s, i);
-        if next == i {
-            return false;
-        }
-        i = next;
+    let end = s.len();
+    if end < 16 {
+        return by_chars(s);
     }
-    true
+    if end < 19 {
+        return by_eights(s);
+    }
+    let at = pass_ascii(s);
+    if is_rest_ascii(s, at) {
+        return true;
+    }
+    by_rest(s, at)
 }
 
 // Is each byte of a few ASCII, and none of them 0? Byte by byte, with a way out: so few are not folded faster.

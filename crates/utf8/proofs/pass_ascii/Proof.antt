@@ -1,21 +1,24 @@
--- `utf8::pass_ascii` meets its contract. The loop's invariant: the text goes on at `i`. Assumes nothing.
-use mathlib.Core.Path.{_≡_, refl, _∙_}
-use Prim.Native.Nat.{_≤_, _-_}
+-- `utf8::pass_ascii` is right since the bytes before `i` are ASCII, the loop's invariant. Assumes nothing.
+use mathlib.Core.Path.{_≡_, sym, _∙_}
+use Prim.Native.Nat.{_+_, _-_}
 use native.Mathlib.Omega.{arith}
-use lib.ListN.{length, drop}
+use lib.ListN.{length}
+use borrow.Author.Needs.{needs}
+use denote.Ref.{now}
 use borrow.Author.Tests.{not-false}
-use Rattle.reading.specs.Read.{isText}
+use Rattle.utf8.specs.Window.{AsciiTo}
+use Rattle.utf8.proofs.Runs.{ascii-none, ascii-more}
 use Rattle.utf8.proofs.pass_ascii.Statement.{statement}
 use Rattle.utf8.proofs.pass_ascii.Tie as tie
 
 abbrev Inv-loop : tie.InvT-loop
-Inv-loop s i₀ i = (i ≤ length s) × (isText s ≡ isText (drop i s))
+Inv-loop s i₀ i = AsciiTo s i
 
 abbrev μ-loop : tie.MeasureT-loop
 μ-loop s i₀ i = length s - i
 
 loop-holds : tie.Need-loop-holds Inv-loop μ-loop
-loop-holds c = (omega arith, refl)
+loop-holds c = ascii-none (now (c .before .args .s))
 
 sub-loop : tie.Need-sub-loop Inv-loop μ-loop
 sub-loop c = omega arith
@@ -36,7 +39,10 @@ loop-less : tie.Need-loop-less Inv-loop μ-loop
 loop-less c = omega arith
 
 loop-again : tie.Need-loop-again Inv-loop μ-loop
-loop-again c = (omega arith, c .before .before .before .loop .inv .1 ∙ c .before .is-ascii .ensures .0 (not-false _ (c .if1 .left)))
+loop-again c =
+    let l = c .before .before .before .loop in
+    let e : l .i + (l .i + 64 - l .i) ≡ l .i + 64 = omega arith in
+    rw e at (ascii-more (l .inv) (l .i + 64 - l .i) (omega arith) (sym (c .before .is-ascii .ensures .1) ∙ not-false _ (c .if1 .left)))
 
 returns-2 : tie.Need-returns-2 Inv-loop μ-loop
 returns-2 c = c .before .loop .inv
