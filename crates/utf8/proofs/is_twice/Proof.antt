@@ -6,7 +6,7 @@ use native.Mathlib.Omega.{arith}
 use lib.ListN.{length}
 use borrow.Author.Needs.{needs}
 use denote.Ref.{now}
-use Rattle.utf8.proofs.Laws.{last-text}
+use Rattle.text_chars.proofs.Laws.{last-text}
 use Rattle.utf8.proofs.is_twice.Statement.{statement}
 use Rattle.utf8.proofs.is_twice.Tie as tie
 
