@@ -8,7 +8,7 @@ use lib.Dec.{ltb}
 use borrow.Author.Tests.{le-leb, lt-leb, ne-eqb}
 use Rattle.grammar.specs.Text.{rows, rowAt}
 use Rattle.text_chars.specs.Text.{dueOf, plain, continues, lowOf, highOf}
-use Rattle.text_chars.proofs.Laws.{either, in-range, below-range, over-range, Above, Below, Here, row-at, no-row}
+use Rattle.text_chars.proofs.Laws.{either, in-range, below-range, over-range, row-at, no-row}
 
 -- x is b - 128, wrapped
 pub goes-on : (b x : ℕ) → (x + 128) % 256 ≡ b → x < 256 → ltb x 64 ≡ continues b

@@ -1,18 +1,15 @@
 -- What the code computes of single bytes, where a mark is a top bit: a byte is below 128 just where a test holds. Assumes nothing.
 use mathlib.Core.Path.{_≡_, refl, ap, sym, _∙_}
-use mathlib.Core.Bool.{Bool, true, false, not, cond, _&&_, _||_, true≢false, and-assoc, and-true}
-use mathlib.Core.Option.{none, some}
-use mathlib.Core.List.{[], _∷_}
+use mathlib.Core.Bool.{Bool, true, false, not, cond, _&&_, _||_, and-assoc, and-true}
 use Prim.Native.Nat.{ℕ, suc, _+_, _-_, _≤_, _<_, _%_}
 use native.Mathlib.Omega.{arith}
 use lib.Bits.{bitOr}
 use lib.Dec.{leb, ltb, eqb, leb·suc-suc}
-use borrow.Author.Tests.{leb-true, leb-false, le-leb, lt-leb, ne-eqb, eq-eqb, eqb-true, eqb-false, not-true, not-false}
-use Rattle.grammar.specs.Text.{inRange, rows, rowAt}
-use Rattle.text_chars.specs.Text.{dueOf, plain}
+use borrow.Author.Tests.{le-leb, lt-leb, ne-eqb, eqb-true, eqb-false, not-true, not-false}
+use Rattle.grammar.specs.Text.{inRange}
 use Rattle.text_windows.specs.Window.{due, begins, onlyIf, second, fits, used}
 use Rattle.text_chars.specs.Text.{continues, lowOf, highOf}
-use Rattle.text_chars.proofs.Laws.{Above, Below, Here, row-at, no-row, or-low}
+use Rattle.text_chars.proofs.Laws.{or-low}
 use Rattle.text_chars.proofs.Laws.{either, in-range, below-range, over-range}
 use Rattle.text_windows.proofs.Windows.{Cell, cell-any, cell-E0, cell-ED, cell-F0, cell-F4, due-closed, begins-low, begins-high, begins-zero, begins-middle, begins-over, second-any}
 

@@ -1,20 +1,18 @@
 -- Runs of bytes that fit: how they are joined, gathered by marks, and passed where they are ASCII. Assumes nothing.
 use mathlib.Core.Path.{_≡_, refl, ap, sym, _∙_}
-use mathlib.Core.Bool.{Bool, true, false, not, cond, _&&_, true≢false, false≢true}
+use mathlib.Core.Bool.{Bool, true, false, not, _&&_, true≢false, false≢true}
 use mathlib.Core.List.{List, [], _∷_}
 use Prim.Native.Nat.{ℕ, zero, suc, _+_, _-_, _≤_, _<_}
 use native.Mathlib.Omega.{arith}
-use native.Mathlib.Numerals.{add-one}
 use native.Mathlib.Nat.{add-zero, add-suc}
 use lib.Bits.{bitOr}
-use lib.Dec.{leb, ltb, eqb}
+use lib.Dec.{ltb, eqb}
 use lib.ListN.{length, take, drop, getD, length-drop}
-use lib.Seq.{getD-drop, take-add, drop-drop}
-use borrow.Author.Tests.{leb-true, leb-false, le-leb, lt-leb, eqb-true, eqb-false}
+use lib.Seq.{getD-drop, take-add}
+use borrow.Author.Tests.{leb-true, le-leb, lt-leb, eqb-true, eqb-false}
 use Rattle.reading.specs.Read.{isText}
 use Rattle.text_chars.specs.Text.{plain, allAscii}
-use Rattle.text_windows.specs.Window.{due, begins, second, fits, padded, dueAt, fitsAt, Fit, Fitted, FitTo, AsciiTo}
-use Rattle.text_chars.specs.Text.{continues}
+use Rattle.text_windows.specs.Window.{due, fits, padded, dueAt, fitsAt, Fit, Fitted, FitTo, AsciiTo}
 use Rattle.text_chars.proofs.Laws.{or-low, and-both, ascii-append, plain-front, last-text}
 use Rattle.text_chars.proofs.Laws.{either, below-range}
 use Rattle.text_windows.proofs.Windows.{due-none, due-two, due-three, due-four, due-closed, begins-low, text-windows, no-text, no-end}

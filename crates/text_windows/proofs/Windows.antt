@@ -1,19 +1,19 @@
 -- Text by windows: that it is the grammar's, and how a text is tested by them from one index to another. Assumes nothing.
-use mathlib.Core.Path.{_≡_, refl, ap, sym, _∙_}
-use mathlib.Core.Bool.{Bool, true, false, not, cond, _&&_, _||_, true≢false, false≢true, and-true, and-false, or-true}
+use mathlib.Core.Path.{_≡_, refl, sym, _∙_}
+use mathlib.Core.Bool.{Bool, true, false, not, cond, _&&_, true≢false, false≢true, and-true, and-false, or-true}
 use mathlib.Core.List.{List, [], _∷_}
-use mathlib.Core.Option.{Option, none, some}
-use Prim.Native.Nat.{ℕ, zero, suc, _+_, _-_, _≤_, _<_}
+use mathlib.Core.Option.{none, some}
+use Prim.Native.Nat.{ℕ, zero, suc, _≤_, _<_}
 use native.Mathlib.Omega.{arith}
-use lib.Dec.{leb, eqb}
+use lib.Dec.{leb}
 use lib.ListN.{length, getD}
-use borrow.Author.Tests.{not-true, leb-true, leb-false, le-leb, lt-leb, ne-eqb, eq-eqb, eqb-true, eqb-false}
+use borrow.Author.Tests.{not-true, leb-true, le-leb, lt-leb, ne-eqb}
 use Rattle.grammar.specs.Text.{Range, inRange, rows, rowAt}
 use Rattle.reading.specs.Read.{isText}
 use Rattle.text_chars.specs.Text.{textAfter}
-use Rattle.text_windows.specs.Window.{due, begins, onlyIf, second, fits, used, padded, dueAt, fitsAt, Fit, Fitted, FitTo, AsciiTo}
-use Rattle.text_chars.specs.Text.{continues, lowOf, highOf}
-use Rattle.text_chars.proofs.Laws.{either, in-range, below-range, over-range, Above, Below, Here, row-at, no-row, text-first, text-end, after-none, after-end, after-in, after-out, and-both}
+use Rattle.text_windows.specs.Window.{due, begins, second, fits, dueAt, fitsAt, Fit}
+use Rattle.text_chars.specs.Text.{continues}
+use Rattle.text_chars.proofs.Laws.{either, in-range, below-range, over-range, row-at, no-row, text-first, text-end, after-none, after-end, after-in, after-out, and-both}
 
 -- ---- tests of a byte
 

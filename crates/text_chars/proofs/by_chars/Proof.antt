@@ -3,7 +3,6 @@ use mathlib.Core.Path.{sym}
 use Prim.Native.Nat.{_-_}
 use native.Mathlib.Omega.{arith}
 use lib.ListN.{length}
-use borrow.Author.Needs.{needs}
 use denote.Ref.{now}
 use Rattle.text_chars.proofs.Laws.{Going, going-start, going-next, going-stuck, going-end}
 use Rattle.text_chars.proofs.by_chars.Statement.{statement}

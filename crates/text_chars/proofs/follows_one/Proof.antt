@@ -1,7 +1,6 @@
 -- `text_chars::follows_one` is right since the only byte that is due is tested. Assumes nothing.
 use borrow.Author.Needs.{needs}
 use native.Mathlib.Omega.{arith}
-use denote.Ref.{now}
 use Rattle.text_chars.proofs.Laws.{follow-short, follow-only}
 use Rattle.text_chars.proofs.follows_one.Statement.{statement}
 use Rattle.text_chars.proofs.follows_one.Tie as tie

@@ -8,7 +8,7 @@ use lib.ListN.{getD}
 use denote.Ref.{now}
 use Rattle.grammar.specs.Text.{rows, rowAt}
 use Rattle.text_chars.specs.Text.{dueOf}
-use Rattle.text_chars.proofs.Laws.{stuck, went, no-char, char-whole, char-broken, plain-at}
+use Rattle.text_chars.proofs.Laws.{went, no-char, char-whole, char-broken, plain-at}
 use Rattle.text_chars.proofs.Rows.{plain-so, plain-not, row-none, row-one, row-two, row-three, row-over}
 use Rattle.text_chars.proofs.next_char.Statement.{statement}
 use Rattle.text_chars.proofs.next_char.Tie as tie

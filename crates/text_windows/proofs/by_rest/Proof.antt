@@ -1,8 +1,7 @@
 -- `text_windows::by_rest` is right since ASCII bytes fit, and so do the first three where they are tested. Assumes nothing.
 use borrow.Author.Needs.{needs}
-use mathlib.Core.Path.{_≡_, sym, _∙_}
+use mathlib.Core.Path.{sym}
 use native.Mathlib.Omega.{arith}
-use denote.Ref.{now}
 use Rattle.text_windows.proofs.Runs.{ascii-to-fit}
 use Rattle.text_windows.proofs.by_rest.Statement.{statement}
 use Rattle.text_windows.proofs.by_rest.Tie as tie

@@ -1,6 +1,6 @@
 -- `text_windows::by_sixteens` is right since the bytes before `i` fit, the loop's invariant, and at the end all do. Assumes nothing.
 use borrow.Author.Needs.{needs}
-use mathlib.Core.Path.{_≡_, sym, _∙_}
+use mathlib.Core.Path.{_≡_, sym}
 use Prim.Native.Nat.{_≤_, _+_, _-_}
 use native.Mathlib.Omega.{arith}
 use lib.ListN.{length}

@@ -1,6 +1,6 @@
 -- `text_windows::by_windows` is right since what was passed fits, and the rest is tested by sixteens. Assumes nothing.
 use borrow.Author.Needs.{needs}
-use mathlib.Core.Path.{_≡_, sym, _∙_}
+use mathlib.Core.Path.{sym}
 use native.Mathlib.Omega.{arith}
 use Rattle.text_windows.proofs.by_windows.Statement.{statement}
 use Rattle.text_windows.proofs.by_windows.Tie as tie

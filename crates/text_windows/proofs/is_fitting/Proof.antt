@@ -1,7 +1,5 @@
 -- `text_windows::is_fitting` is right since what may stand behind the three is one cell where a byte is due, and the first bytes of the rows where none is. Assumes nothing.
 use borrow.Author.Needs.{needs}
-use Prim.Native.Nat.{_≤_, _<_}
-use native.Mathlib.Omega.{arith}
 use Rattle.text_windows.proofs.Bytes.{marked-due, unmarked-due, fits-low, fits-cell, fits-ascii, fits-no, fits-lead}
 use Rattle.text_windows.proofs.is_fitting.Statement.{statement}
 use Rattle.text_windows.proofs.is_fitting.Tie as tie

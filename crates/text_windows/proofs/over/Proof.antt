@@ -1,6 +1,4 @@
 -- `text_windows::over` is right since b - n is below 128 just where b is below n + 128. Assumes nothing.
-use borrow.Author.Needs.{needs}
-use native.Mathlib.Omega.{arith}
 use Rattle.text_windows.proofs.Bytes.{over-low, over-rest}
 use Rattle.text_windows.proofs.over.Statement.{statement}
 use Rattle.text_windows.proofs.over.Tie as tie

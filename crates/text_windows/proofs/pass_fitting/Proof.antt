@@ -1,6 +1,4 @@
 -- `text_windows::pass_fitting` is right since the bytes before `i` fit, the loop's invariant. Assumes nothing.
-use borrow.Author.Needs.{needs}
-use mathlib.Core.Path.{_≡_, sym, _∙_}
 use Prim.Native.Nat.{_≤_, _+_, _-_}
 use native.Mathlib.Omega.{arith}
 use lib.ListN.{length}

@@ -1,6 +1,5 @@
 -- `utf8::is_two_chunks` is right since the size is chosen so that two chunks cover the text. Assumes nothing.
 use mathlib.Core.Bool.{false≢true}
-use native.Mathlib.Omega.{arith}
 use borrow.Author.Needs.{needs}
 use Rattle.utf8.proofs.is_two_chunks.Statement.{statement}
 use Rattle.utf8.proofs.is_two_chunks.Tie as tie
