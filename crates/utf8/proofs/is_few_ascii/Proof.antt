@@ -8,7 +8,7 @@ use borrow.Author.Needs.{needs}
 use borrow.Author.Tests.{le-leb}
 use denote.Ref.{now}
 use Rattle.reading.specs.Read.{isText}
-use Rattle.utf8.proofs.Laws.{plain-at, text-over}
+use Rattle.text_chars.proofs.Laws.{plain-at, text-over}
 use Rattle.utf8.proofs.is_few_ascii.Statement.{statement}
 use Rattle.utf8.proofs.is_few_ascii.Tie as tie
 
