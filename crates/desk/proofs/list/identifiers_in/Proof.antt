@@ -1,20 +1,19 @@
--- `desk::list::values` ends since a property that is found ends further on. Assumes nothing.
+-- `desk::list::identifiers_in` ends since a property that is found ends further on. Assumes nothing.
 use mathlib.Core.Path.{_≡_}
 use Prim.Native.Nat.{_-_}
 use native.Mathlib.Omega.{arith}
 use borrow.Author.Needs.{needs}
 use lib.ListN.{length}
 use denote.Ref.{now}
-use Rattle.tables.specs.Property.{placeOf}
 use Rattle.property_value.proofs.Laws.{property-ahead}
-use Rattle.desk.proofs.list.values.Statement.{statement}
-use Rattle.desk.proofs.list.values.Tie as tie
+use Rattle.desk.proofs.list.identifiers_in.Statement.{statement}
+use Rattle.desk.proofs.list.identifiers_in.Tie as tie
 
 abbrev Inv-loop : tie.InvT-loop
-Inv-loop out₀ at place s is-user next₀ i₀ out next i = length out ≡ length out₀
+Inv-loop out₀ at s next₀ i₀ out next i = length out ≡ length out₀
 
 abbrev μ-loop : tie.MeasureT-loop
-μ-loop out₀ at place s is-user next₀ i₀ out next i = length s - i
+μ-loop out₀ at s next₀ i₀ out next i = length s - i
 
 loop-holds : tie.Need-loop-holds Inv-loop μ-loop
 loop-holds c = search needs
@@ -34,15 +33,15 @@ returns c = search needs
 enum-known-v : tie.Need-enum-known-v Inv-loop μ-loop
 enum-known-v c = search needs
 
-value-if-requires : tie.Need-value-if-requires Inv-loop μ-loop
-value-if-requires c κs = search needs
+identifier-if-requires : tie.Need-identifier-if-requires Inv-loop μ-loop
+identifier-if-requires c κs = search needs
 
 loop-less : tie.Need-loop-less Inv-loop μ-loop
 loop-less c =
     let b = c .before .before .before .before .before .before .before in
     let r = rw (c .before .before .before .before .before .v .given .1) at (b .read-property .ensures) in
     let a = b .before .before .before .before .before .args in
-    let h = property-ahead (placeOf (a .place)) (now (a .s)) (b .before .before .loop .i) _ _ (r .says) in
+    let h = property-ahead _ (now (a .s)) (b .before .before .loop .i) _ _ (r .says) in
     omega (arith, b .before .loop-test .taken, h)
 
 loop-again : tie.Need-loop-again Inv-loop μ-loop
@@ -54,8 +53,8 @@ same-length-2 c = search needs
 returns-2 : tie.Need-returns-2 Inv-loop μ-loop
 returns-2 c = search needs
 
-pub values-spec : {M : Type 1} → statement M
-values-spec =
+pub identifiers-in-spec : {M : Type 1} → statement M
+identifiers-in-spec =
     tie.close
     (tie.spec
     Inv-loop
@@ -66,7 +65,7 @@ values-spec =
     same-length
     returns
     enum-known-v
-    value-if-requires
+    identifier-if-requires
     loop-less
     loop-again
     same-length-2
