@@ -20,7 +20,7 @@ use Rattle.reading.specs.Read.{byteOf, followOf, restOf, charOf, isText}
 use Rattle.reading.proofs.Reading.{less, solid-map, solid-then}
 use Rattle.reading.proofs.Fields.{byte-solid, reads-char}
 use Rattle.positions.proofs.Walk.{Less, chain-nil, chain-bad, chain-next}
-use Rattle.text_chars.specs.Text.{plain, dueOf, textAfter, Followed, Passed, allAscii}
+use Rattle.text_chars.specs.Text.{plain, flawOf, dueOf, textAfter, Followed, Passed, allAscii}
 
 -- ---- tests of a byte
 
@@ -400,12 +400,19 @@ ascii-all s at end all e j h o =
     (λ t. rw (drop-drop (end - at) at s, n) at (plain-front (end - at) (drop at s) (rw length-drop (omega arith)) (sym f ∙ t)), f)
 
 -- x is b - 1, wrapped
-pub flaw-none : (b x : ℕ) → (x + 1) % 256 ≡ b → x < 127 → true ≡ plain b
+pub flaw-none : (b x : ℕ) → (x + 1) % 256 ≡ b → x < 127 → 0 ≡ flawOf b
 flaw-none b x e h = let i : b ≡ x + 1 = omega arith in rw (le-leb 1 b (omega arith), le-leb (suc b) 128 (omega arith))
 
-pub flaw-some : (b x : ℕ) → (x + 1) % 256 ≡ b → x < 256 → 127 ≤ x → false ≡ plain b
+pub flaw-some : (b x : ℕ) → (x + 1) % 256 ≡ b → x < 256 → 127 ≤ x → 128 ≡ flawOf b
 flaw-some b x e l h = go (ltb b 128) refl
   where
-    go : (t : Bool) → ltb b 128 ≡ t → false ≡ (ltb 0 b && t)
+    go : (t : Bool) → ltb b 128 ≡ t → _≡_ {A = ℕ} 128 (cond (ltb 0 b && t) 0 128)
     go true m = let i : b ≡ 0 = omega (arith, leb-true (suc b) 128 m) in rw i
-    go false m = sym (and-false (ltb 0 b))
+    go false m = rw (and-false (ltb 0 b))
+
+pub flaw-low : (b x : ℕ) → x ≡ flawOf b → ltb x 128 ≡ plain b
+flaw-low b x e = rw e (go (plain b))
+  where
+    go : (t : Bool) → ltb (cond {A = ℕ} t 0 128) 128 ≡ t
+    go true = refl
+    go false = refl

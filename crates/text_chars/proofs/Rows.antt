@@ -7,8 +7,8 @@ use native.Mathlib.Omega.{arith}
 use lib.Dec.{ltb}
 use borrow.Author.Tests.{le-leb, lt-leb, ne-eqb}
 use Rattle.grammar.specs.Text.{rows, rowAt}
-use Rattle.text_chars.specs.Text.{dueOf, plain, continues, lowOf, highOf}
-use Rattle.text_chars.proofs.Laws.{either, in-range, below-range, over-range, row-at, no-row}
+use Rattle.text_chars.specs.Text.{dueOf, plain, flawOf, continues, lowOf, highOf}
+use Rattle.text_chars.proofs.Laws.{flaw-low, either, in-range, below-range, over-range, row-at, no-row}
 
 -- x is b - 128, wrapped
 pub goes-on : (b x : ℕ) → (x + 128) % 256 ≡ b → x < 256 → ltb x 64 ≡ continues b
@@ -54,8 +54,8 @@ module _ (b : ℕ) where
       either 0x80 b (λ l. absurd (true≢false (sym (rw (le-leb 1 b l1, le-leb (suc b) 128 l)) ∙ e))) λ l2.
       no-row 1 b (omega arith) (omega arith)
 
-pub plain-not : (b x : ℕ) → ltb x 128 ≡ plain b → 128 ≤ x → plain b ≡ false
-plain-not b x e h = sym e ∙ lt-leb (suc x) 128 (omega arith)
+pub plain-not : (b x : ℕ) → x ≡ flawOf b → 128 ≤ x → plain b ≡ false
+plain-not b x e h = sym (flaw-low b x e) ∙ lt-leb (suc x) 128 (omega arith)
 
-pub plain-so : (b x : ℕ) → ltb x 128 ≡ plain b → x < 128 → plain b ≡ true
-plain-so b x e h = sym e ∙ le-leb (suc x) 128 h
+pub plain-so : (b x : ℕ) → x ≡ flawOf b → x < 128 → plain b ≡ true
+plain-so b x e h = sym (flaw-low b x e) ∙ le-leb (suc x) 128 h

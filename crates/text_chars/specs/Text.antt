@@ -47,6 +47,10 @@ pub record Passed (s : List ℕ) (at r : ℕ) : Type 0 where
 abbrev pub plain : ℕ → Bool
 plain b = ltb 0 b && ltb b 128
 
+-- a mark, the top bit, where it is not
+abbrev pub flawOf : ℕ → ℕ
+flawOf b = cond (plain b) 0 128
+
 -- whether every byte is so
 abbrev pub allAscii : List ℕ → Bool
 allAscii = all plain

@@ -2,10 +2,9 @@
 use std::num;
 ghost use mathlib.Core.Path.{_≡_};
 ghost use Prim.Native.Nat.{_≤_, _<_};
-ghost use lib.Dec.{ltb};
 ghost use lib.ListN.{length};
 ghost use Rattle.reading.specs.Read.{isText};
-ghost use Rattle.text_chars.specs.Text.{continues, lowOf, highOf, plain, Followed, Passed};
+ghost use Rattle.text_chars.specs.Text.{continues, lowOf, highOf, flawOf, Followed, Passed};
 
 // The least and the greatest byte that may follow one that begins a character of three bytes or more.
 pub fn low_of(b: u8) -> u8
@@ -38,7 +37,7 @@ pub fn goes_on(b: u8) -> bool
 // A byte whose top bit is set just where b is 0 or not ASCII. b is in 1..=127 just where b - 1, wrapped, is below 127: one comparison,
 // which the compiler makes for sixteen bytes at once.
 pub fn flaw(b: u8) -> u8
-    ensures { λ r. ⌜ ltb r 128 ≡ plain b ⌝ }
+    ensures { λ r. ⌜ r ≡ flawOf b ⌝ }
 {
     if num::wrapping_sub_u8(b, 1) < 127 {
         return 0;

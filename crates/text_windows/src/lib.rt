@@ -51,7 +51,7 @@ fn is_rest_ascii(s: &[u8], at: usize) -> bool
     is_ascii(s, s.len() - 64, s.len())
 }
 
-// Marked just where b is n + 128 or more.
+// A byte is marked if its top bit is set. This one just where b is n + 128 or more.
 fn over(b: u8, n: u8) -> u8
     ensures { λ r. ⌜ ltb r 128 ≡ ltb b (n + 128) ⌝ }
 {

@@ -9,7 +9,7 @@ use lib.ListN.{take, drop, getD}
 use borrow.Author.Needs.{needs}
 use denote.Ref.{now}
 use Rattle.text_chars.specs.Text.{allAscii, plain}
-use Rattle.text_chars.proofs.Laws.{or-low, ascii-more, ascii-all}
+use Rattle.text_chars.proofs.Laws.{flaw-low, or-low, ascii-more, ascii-all}
 use Rattle.text_windows.proofs.is_ascii.Statement.{statement}
 use Rattle.text_windows.proofs.is_ascii.Tie as tie
 
@@ -44,7 +44,7 @@ loop-again c =
       omega arith,
       omega arith,
       or-low (l .all) (c .flaw .result)
-          ∙ rw (c .flaw .ensures) (ap (λ (t : Bool). t && plain (getD s (l .i) 0)) (l .inv .2))
+          ∙ rw (flaw-low (getD s (l .i) 0) (c .flaw .result) (c .flaw .ensures)) (ap (λ (t : Bool). t && plain (getD s (l .i) 0)) (l .inv .2))
           ∙ sym (ascii-more s (a .at) (l .i) (omega arith) (omega arith)),
     )
 
