@@ -5,4 +5,5 @@ pub mod Blocks
 pub mod Good
 pub mod Tidy
 pub mod Form
+pub mod Order
 pub mod Worked
