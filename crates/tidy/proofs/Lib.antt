@@ -6,4 +6,5 @@ pub mod Good
 pub mod Tidy
 pub mod Form
 pub mod Order
+pub mod Layouts
 pub mod Worked

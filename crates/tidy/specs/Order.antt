@@ -1,12 +1,16 @@
 -- The properties of a block in the order of its place's row, as bytes (02, P14). Assumes nothing.
 use mathlib.Core.Path.{_≡_}
-use mathlib.Core.Bool.{cond}
-use mathlib.Core.List.{List, [], _∷_}
+use mathlib.Core.Bool.{Bool, _||_, cond}
+use mathlib.Core.List.{List, [], _∷_, _++_}
 use Prim.Native.Nat.{ℕ}
-use lib.Dec.{eqb}
+use lib.Dec.{eqb, leb}
+use lib.ListN.{length, getD}
 use Rattle.grammar.specs.Tables.{Place, Forms}
-use Rattle.grammar.specs.Sentence.{Prop, Property}
+use Rattle.grammar.specs.Gram.{Only, Then}
+use Rattle.grammar.specs.Number.{Byte}
+use Rattle.grammar.specs.Sentence.{Prop, Property, Text, qosFine, ruleFine}
 use Rattle.writing.specs.Lists.{flat}
+use Rattle.writing.specs.Spell.{string}
 use Rattle.tidy.specs.Form.{propertyBytes}
 
 -- 01, grammar: ".. are lists kept in order": the properties with identifier i
@@ -30,3 +34,20 @@ orderedBytes place ps = rowsBytes place ps (place .row)
 pub record Exact (place : Place) (p : Prop) (b : List ℕ) : Type 0 where
   pub spelt : Property place p b
   pub bytes : b ≡ propertyBytes place p
+
+-- 01, grammar, Subscribe: "text, then an options byte"
+abbrev pub FilterSpelt : List ℕ × ℕ → List ℕ → Type 0
+FilterSpelt = Then Text (λ _. Only qosFine (Only ruleFine Byte))
+
+-- a filter's text and its options byte, in the bytes that are written for the text; bits 6-7 of the options byte are as they were sent
+pub record ExactFilter (z : List ℕ × ℕ) (b : List ℕ) : Type 0 where
+  pub spelt : FilterSpelt z b
+  pub bytes : b ≡ string (z .0) ++ (z .1 ∷ [])
+
+-- 01, grammar: "A successful PubAck with properties absent is 4 bytes": a frame of 4 bytes, or the reason 0
+abbrev pub successIn : List ℕ → Bool
+successIn c = leb (length c) 4 || eqb (getD c 4 0) 0
+
+-- 02, P14, and DECISIONS 30: the tidy form of an acknowledgement with no properties, from its first byte and its frame c; else "a reason and a block", which is empty
+unfoldable pub shortAck : ℕ → List ℕ → List ℕ
+shortAck first c = cond (successIn c) (first ∷ 2 ∷ getD c 2 0 ∷ getD c 3 0 ∷ []) (first ∷ 4 ∷ getD c 2 0 ∷ getD c 3 0 ∷ getD c 4 0 ∷ 0 ∷ [])
