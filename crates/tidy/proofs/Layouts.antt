@@ -38,7 +38,7 @@ use Rattle.writing.proofs.Shortest.{one-spelling}
 use Rattle.writing.proofs.Once.{value-once}
 use Rattle.tidy.specs.Tidy.{optionsByte, runOf, publishFrom, ackFrom, subscribeFrom, replyFrom, unsubscribeFrom, noPublish, noProps, withSet, handedOf}
 use Rattle.tidy.specs.Form.{propertyBytes}
-use Rattle.tidy.specs.Order.{orderedBytes, Exact, ExactFilter, shortAck}
+use Rattle.tidy.specs.Order.{orderedBytes, Exact, ExactFilter, shortAck, AsIs, Masked, FrameLaid}
 use Rattle.tidy.proofs.Has.{SuitsIn, has-property}
 use Rattle.tidy.proofs.Rows.{many, RowGiven, run-back}
 use Rattle.tidy.proofs.Blocks.{Distinct, with-list}
@@ -137,10 +137,6 @@ pub record Laid (place : Place) (T : List ℕ → List ℕ → Type 0) (h : Hand
 record LaidAt (place : Place) (T : List ℕ → List ℕ → Type 0) (h : Handed) (l : Layout) (x : ℕ) (b : List ℕ) : Type 0 where
   laid : Laid place T h b
   bounds : (end : ℕ) → fieldBounds l x end b ≡ got (end - length (laid .props ++ laid .tail), end - length (laid .tail))
-
--- the rest as it stands
-abbrev pub AsIs : List ℕ → List ℕ → Type 0
-AsIs t o = o ≡ t
 
 two-form : (n : ℕ) (b : List ℕ) → Big 2 n b → Octets b → b ≡ wide 2 n
 unfolding value numeral
@@ -276,12 +272,6 @@ unsubscribe-laid x _ _ (mapped (both {a = i} {b = b₁} {d = d₁} k₁ (both {a
     (λ end. rw (reads-big cut 2 .whole i b₁ (b₃ ++ d₃) k₁))
 
 -- ---- Subscribe
-
--- 01, "What must change shape": "bits 6-7 written as 0": the filters, their options bytes without these bits
-pub record Masked (t o : List ℕ) : Type 0 where
-  pub list : List (List ℕ × ℕ)
-  pub exact : Many ExactFilter list t
-  pub bytes : o ≡ flat filterBytes list
 
 filters-exact : {fs : List (Filter (List ℕ))} {b : List ℕ} → Many FilterOf fs b → Octets b → (zs : List (List ℕ × ℕ)) × (fs ≡ map mkFilter zs) × Many ExactFilter zs b
 unfolding value
@@ -461,23 +451,6 @@ ack-laid rs x _ _ (mapped (both {a = i} {b = b₁} k₁ (full {c} {ps = a} {b = 
     full-of rs x i k₁ (each-left b₁ (c ∷ b₃) o) c a b₃ ps e w
 
 -- ---- the frame
-
--- 02, P14: the frame c, whose properties stand from `start` to `end`, and its tidy form, in which `first` is the first byte
-pub record FrameLaid (place : Place) (T : List ℕ → List ℕ → Type 0) (h : Handed) (first : ℕ) (c : List ℕ) (start end : ℕ) : Type 0 where
-  pub byte : ℕ
-  pub head : List ℕ
-  pub props : List ℕ
-  pub tail : List ℕ
-  pub other : List ℕ
-  pub list : List Prop
-  pub whole : c ≡ byte ∷ (head ++ (props ++ tail))
-  pub starts : start ≡ suc (length head)
-  pub ends : end ≡ suc (length head + length props)
-  pub exact : Many (Exact place) list props
-  pub light : length (orderedBytes place list) ≡ length props
-  pub kept : T tail other
-  pub even : length other ≡ length tail
-  pub form : frameBytes h ≡ first ∷ (head ++ (orderedBytes place list ++ other))
 
 -- a frame whose fields are laid out
 module _ (x : ℕ) (n b : List ℕ) (k : Spells (length b) n) (o : Octets n) where

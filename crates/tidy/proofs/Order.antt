@@ -24,7 +24,7 @@ use Rattle.writing.proofs.Each.{each-imp, each-both, each-left, each-right, fla
 use Rattle.writing.proofs.Tests.{and-left, and-right}
 use Rattle.writing.proofs.Once.{property-once}
 use Rattle.tidy.specs.Form.{valueIn, propertyBytes}
-use Rattle.tidy.specs.Order.{ofId, idBytes, rowsBytes, orderedBytes, Exact}
+use Rattle.tidy.specs.Order.{ofId, idBytes, rowsBytes, orderedBytes, Exact, idsOf, Runs, none-left, run}
 use Rattle.tidy.proofs.Has.{SuitsIn}
 use Rattle.tidy.proofs.Rows.{many, RowGiven}
 use Rattle.tidy.proofs.Blocks.{others, Distinct}
@@ -125,11 +125,6 @@ ordered-length place d (_&_ {a = p} {l = ps} (f, (e, s)) ss) =
 
 -- ---- in order already
 
--- runs of properties, each of the identifier of its row
-pub data Runs : Forms → List Prop → Type 0 where
-  none-left : Runs [] []
-  run : {r : ℕ × Form} {rs : Forms} (qs : List Prop) {ps : List Prop} → Each (λ p. p .0 ≡ r .0) qs → Runs rs ps → Runs (r ∷ rs) (qs ++ ps)
-
 of-append : (i : ℕ) (qs ps : List Prop) → ofId i (qs ++ ps) ≡ ofId i qs ++ ofId i ps
 of-append i [] ps = refl
 of-append i (q ∷ qs) ps = go (eqb (q .0) i) (of-append i qs ps)
@@ -147,12 +142,12 @@ of-other i j h nil = refl
 of-other i j h (_&_ {a = q} e es) = rw (e, h) (of-other i j h es)
 
 -- an identifier of none of the rows stands in none of their runs
-of-runs : (i : ℕ) {rs : Forms} {ps : List Prop} → others i rs ≡ true → Runs rs ps → ofId i ps ≡ []
-of-runs i d none-left = refl
-of-runs i d (run {r = r} {rs = rs} qs {ps = ps} es w) =
+of-runs : (i : ℕ) (rs : Forms) {ps : List Prop} → others i rs ≡ true → Runs (idsOf rs) ps → ofId i ps ≡ []
+of-runs i [] d none-left = refl
+of-runs i (r ∷ rs) d (run qs {ps = ps} es w) =
     let a = not-true (eqb i (r .0)) (and-left (not (eqb i (r .0))) (others i rs) d) in
     let b : eqb (r .0) i ≡ false = ne-eqb (r .0) i (λ e. eqb-false i (r .0) a (sym e)) in
-    of-append i qs ps ∙ rw (of-other i (r .0) b es) (of-runs i (and-right (not (eqb i (r .0))) (others i rs) d) w)
+    of-append i qs ps ∙ rw (of-other i (r .0) b es) (of-runs i rs (and-right (not (eqb i (r .0))) (others i rs) d) w)
 
 -- a run of another identifier in front bears on no row
 front-bytes : (place : Place) (j : ℕ) {qs : List Prop} → Each (λ p. p .0 ≡ j) qs → (ps : List Prop) (rs : Forms) → others j rs ≡ true → rowsBytes place (qs ++ ps) rs ≡ rowsBytes place ps rs
@@ -162,18 +157,23 @@ front-bytes place j {qs} es ps (r ∷ rs) d =
     rw (of-append (r .0) qs ps, of-other (r .0) j a es, front-bytes place j es ps rs (and-right (not (eqb j (r .0))) (others j rs) d))
 
 -- 02, P14: properties that stand in the order of the row are written as they stand
-pub runs-ordered : (place : Place) {rs : Forms} {ps : List Prop} → Distinct rs → Runs rs ps → rowsBytes place ps rs ≡ flat (propertyBytes place) ps
-runs-ordered place d none-left = refl
-runs-ordered place d (run {r = r} {rs = rs} qs {ps = ps} es w) =
+pub runs-ordered : (place : Place) (rs : Forms) {ps : List Prop} → Distinct rs → Runs (idsOf rs) ps → rowsBytes place ps rs ≡ flat (propertyBytes place) ps
+runs-ordered place [] d none-left = refl
+runs-ordered place (r ∷ rs) d (run qs {ps = ps} es w) =
     rw (
       of-append (r .0) qs ps,
       of-own (r .0) es,
-      of-runs (r .0) (d .0) w,
+      of-runs (r .0) rs (d .0) w,
       append-nil qs,
       front-bytes place (r .0) es ps rs (d .0),
-      runs-ordered place (d .1) w,
+      runs-ordered place rs (d .1) w,
       flat-append (propertyBytes place) qs ps,
     )
+
+-- the rows by their identifiers
+pub rows-by-ids : (place : Place) (ps : List Prop) (rs : Forms) → flat (idBytes place ps) (idsOf rs) ≡ rowsBytes place ps rs
+rows-by-ids place ps [] = refl
+rows-by-ids place ps (r ∷ rs) = ap (λ (l : List ℕ). idBytes place ps (r .0) ++ l) (rows-by-ids place ps rs)
 
 -- ---- the bytes that were read are those of the properties
 
