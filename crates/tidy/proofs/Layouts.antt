@@ -73,16 +73,20 @@ record BlockRead (place : Place) (ps : List Prop) (b : List ℕ) : Type 0 where
   single : noneTwice place ps ≡ true
 
 block-read : {A : Type 0} (place : Place) (f : List Prop → A) (a : A) (b : List ℕ) → Block place f a b → Octets b → (ps : List Prop) × (a ≡ f ps) × BlockRead place ps b
-block-read place f _ _ (sized {b = b} {c = c} k (mapped {a = ps} (only t m))) o = (ps, refl, record {
-  number = c;
-  props = b;
-  whole = refl;
-  spelt = k;
-  octets = each-left c b o;
-  exact = properties-exact place m (each-right c b o);
-  suits = suits-of place m (each-right c b o);
-  single = t;
-})
+block-read place f _ _ (sized {b = b} {c = c} k (mapped {a = ps} (only t m))) o = (
+  ps,
+  refl,
+  record {
+    number = c;
+    props = b;
+    whole = refl;
+    spelt = k;
+    octets = each-left c b o;
+    exact = properties-exact place m (each-right c b o);
+    suits = suits-of place m (each-right c b o);
+    single = t;
+  },
+)
 
 module _ {place : Place} (t : Table place) {ps : List Prop} {b : List ℕ} (w : BlockRead place ps b) where
   as-many : length (orderedBytes place ps) ≡ length (w .props)
@@ -267,7 +271,7 @@ unsubscribe-laid x _ _ (mapped (both {a = i} {b = b₁} {d = d₁} k₁ (both {a
     let p : Unsubscribe (List ℕ) List = record { ident = i; props = a; topics = ts } in
     let f : block unsubscribePlace (unsubscribeGiven (userIt ps)) ≡ w .number ++ orderedBytes unsubscribePlace ps = block-laid unsubscribe-table w (unsubscribeGiven (userIt ps)) (unsubscribe-rows ps (w .suits)) (unsubscribe-singles (userIt ps)) in
     let z : bodyBytes (handedOf (g.unsubscribe p)) ≡ b₁ ++ ((w .number ++ orderedBytes unsubscribePlace ps) ++ d₃) =
-        ap bodyBytes (handed-unsubscribe p ps e) ∙ rw (← j₁, f, run-back ts, ← topics-form m (each-right b₃ d₃ q₁)) in
+    ap bodyBytes (handed-unsubscribe p ps e) ∙ rw (← j₁, f, run-back ts, ← topics-form m (each-right b₃ d₃ q₁)) in
     laid-at unsubscribe-table w AsIs (handedOf (g.unsubscribe p)) anUnsubscribe x b₁ d₃ d₃ _ refl z refl refl
     (λ end. rw (reads-big cut 2 .whole i b₁ (b₃ ++ d₃) k₁))
 
@@ -313,7 +317,7 @@ subscribe-laid x _ _ (mapped (both {a = i} {b = b₁} {d = d₁} k₁ (both {a =
     let f : block subscribePlace (subscribeGiven h) ≡ w .number ++ orderedBytes subscribePlace ps = block-laid subscribe-table w (subscribeGiven h) (subscribe-rows p ps (w .suits)) (subscribe-singles h) in
     let y : flat filterBytes (beside (pathsOf fs) (map optionsByte fs)) ≡ flat filterBytes zs = ap (λ (l : List (Filter (List ℕ))). flat filterBytes (beside (pathsOf l) (map optionsByte l))) r ∙ masked-again zs in
     let z : bodyBytes (handedOf (g.subscribe p)) ≡ b₁ ++ ((w .number ++ orderedBytes subscribePlace ps) ++ flat filterBytes zs) =
-        ap bodyBytes (handed-subscribe p ps (w .suits) e) ∙ rw (← j₁, f, run-back (pathsOf fs), y) in
+    ap bodyBytes (handed-subscribe p ps (w .suits) e) ∙ rw (← j₁, f, run-back (pathsOf fs), y) in
     laid-at subscribe-table w Masked (handedOf (g.subscribe p)) aSubscribe x b₁ d₃ (flat filterBytes zs) _ refl z (record { list = zs; exact = n; bytes = refl }) (masked-length n)
     (λ end. rw (reads-big cut 2 .whole i b₁ (b₃ ++ d₃) k₁))
 
@@ -430,7 +434,7 @@ module _ (rs : List ℕ) (x i : ℕ) {b₁ : List ℕ} (k : Big 2 i b₁) (o : O
       let m : Ack (List ℕ) List = record { ident = i; reason = c; props = a } in
       let f : block ackPlace (ackGiven (textIt (p ∷ ps)) (userIt (p ∷ ps))) ≡ w .number ++ orderedBytes ackPlace (p ∷ ps) = block-laid ack-table w (ackGiven (textIt (p ∷ ps)) (userIt (p ∷ ps))) (ack-rows (p ∷ ps) (w .suits)) (ack-singles (textIt (p ∷ ps)) (userIt (p ∷ ps))) in
       let z : bodyBytes (handedOf (ackOf c a)) ≡ (b₁ ++ (c ∷ [])) ++ ((w .number ++ orderedBytes ackPlace (p ∷ ps)) ++ []) =
-          ap bodyBytes (handed-ack (kindOf x) m (p ∷ ps) e) ∙ rw (← two-form i b₁ k o, and-false (eqb c 0), f, append-nil (w .number ++ orderedBytes ackPlace (p ∷ ps))) (sym (append-assoc b₁ (c ∷ []) _)) in
+      ap bodyBytes (handed-ack (kindOf x) m (p ∷ ps) e) ∙ rw (← two-form i b₁ k o, and-false (eqb c 0), f, append-nil (w .number ++ orderedBytes ackPlace (p ∷ ps))) (sym (append-assoc b₁ (c ∷ []) _)) in
       let u : b₁ ++ (c ∷ b₃) ≡ (b₁ ++ (c ∷ [])) ++ (b₃ ++ []) = rw (append-nil b₃) (sym (append-assoc b₁ (c ∷ []) b₃)) in
       filled
       (laid-at ack-table w AsIs (handedOf (ackOf c a)) (anAck rs) x (b₁ ++ (c ∷ [])) [] [] (b₁ ++ (c ∷ b₃)) u z refl refl
