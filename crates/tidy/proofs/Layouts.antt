@@ -1,26 +1,26 @@
 -- The tidy form of a frame, layout by layout, in the frame's own bytes: first byte, what stands before the properties, the properties in the
 -- order of the row, and what stands behind them, with bits 6-7 of options bytes 0. Assumes nothing.
 use mathlib.Core.Path.{_≡_, refl, sym, ap, _∙_, subst}
-use mathlib.Core.Bool.{Bool, true, false, not, cond, false≢true, _&&_}
+use mathlib.Core.Bool.{Bool, true, false, cond, false≢true, _&&_}
 use mathlib.Core.Option.{Option, none, some}
 use mathlib.Core.List.{List, [], _∷_, _++_, append-nil, append-assoc, map}
-use Prim.Native.Nat.{ℕ, suc, _+_, _*_, _-_, _%_, _≤_, _<_}
+use Prim.Native.Nat.{ℕ, _+_, _*_, _-_, _%_, _≤_, _<_}
 use native.Mathlib.Omega.{arith}
 use lib.Dec.{eqb, leb}
 use lib.ListN.{length, length-append, getD}
 use lib.Seq.{take-append-seam, drop-append-seam}
 use borrow.Author.Tests.{eqb-true, le-leb}
-use Rattle.grammar.specs.Choice.{lookup, isEmpty}
-use Rattle.grammar.specs.Gram.{mapped, only, both, sized, done, more, Many, Is, is}
+use Rattle.grammar.specs.Choice.{lookup}
+use Rattle.grammar.specs.Gram.{mapped, only, both, sized, done, more, Many, is}
 use Rattle.grammar.specs.Number.{byte, Big, big, Spells}
 use Rattle.grammar.specs.Octets.{Each, nil, _&_, Octets}
-use Rattle.grammar.specs.Tables.{u16, text, bytes, Form, Forms, Place, publishPlace, subscribePlace, ackPlace, unsubscribePlace, isList, formAt, Layout, aPublish, anAck, aSubscribe, aReply, anUnsubscribe, aPing, kinds, firsts, firstOf}
-use Rattle.grammar.specs.Record.{num, str, lastOf, allOf, PublishProps, publishProps, Props, propsOf, Publish, Filter, Subscribe, Ack, Reply, Unsubscribe, mkFilter, kindOf, flagDup, flagQos, flagRetain}
+use Rattle.grammar.specs.Tables.{u16, text, bytes, Place, publishPlace, subscribePlace, ackPlace, unsubscribePlace, isList, formAt, Layout, aPublish, anAck, aSubscribe, aReply, anUnsubscribe, aPing, kinds, firstOf}
+use Rattle.grammar.specs.Record.{num, str, PublishProps, publishProps, Props, propsOf, Publish, Filter, Subscribe, Ack, Reply, Unsubscribe, mkFilter, kindOf, flagDup, flagQos, flagRetain}
 use Rattle.grammar.specs.Record as g
-use Rattle.grammar.specs.Sentence.{Prop, Property, noneTwice, Block, publishOf, propsIf, asList, Bytes, Text, FilterOf, ReasonOf, AckRest, plain, coded, full, Packet, Fields, body, framed, Sentence}
+use Rattle.grammar.specs.Sentence.{Prop, Property, noneTwice, Block, publishOf, propsIf, asList, Bytes, Text, FilterOf, ReasonOf, plain, coded, full, Packet, Fields, body, framed, Sentence}
 use Rattle.reading.specs.Refusal.{cut}
 use Rattle.reading.specs.Reader.{got, onlyByOf, sizedOf, handFit, isFit}
-use Rattle.reading.specs.Read.{numOf, groupOf, groupsOf, identOf, bytesOf, stringFit, frameOf}
+use Rattle.reading.specs.Read.{numOf, groupOf, groupsOf, bytesOf, stringFit}
 use Rattle.reading.specs.Place.{asPlaces, Span, spanOf}
 use Rattle.reading.specs.Bounds.{afterLength, ackBounds, fieldBounds, kindBounds, frameBounds}
 use Rattle.reading.proofs.Lists.{lookup-each}
@@ -29,15 +29,14 @@ use Rattle.reading.proofs.Fields.{reads-big, reads-num, num-solid}
 use Rattle.reading.proofs.Packets.{reads-ident}
 use Rattle.reading.proofs.Demand.{free, reads-frame}
 use Rattle.writing.specs.Lists.{flat, beside}
-use Rattle.writing.specs.Handed.{Givens, Handed, publish, ack, subscribe, reply, unsubscribe, ping, publishGiven, subscribeGiven, ackGiven, unsubscribeGiven, strings, filters}
+use Rattle.writing.specs.Handed.{Givens, Handed, publish, ack, subscribe, reply, unsubscribe, publishGiven, subscribeGiven, ackGiven, unsubscribeGiven, filters}
 use Rattle.writing.specs.Spell.{spellStep, spell, short, wide, string, numeral, value, propsBytes, counted, block, filterBytes}
 use Rattle.writing.specs.Write.{firstByte, identBytes, bodyBytes, frameBytes}
 use Rattle.writing.proofs.Each.{each-tail, each-left, each-right, rows-of}
 use Rattle.writing.proofs.Tests.{all-when}
 use Rattle.writing.proofs.Shortest.{one-spelling}
 use Rattle.writing.proofs.Once.{value-once}
-use Rattle.tidy.specs.Tidy.{optionsByte, runOf, publishFrom, ackFrom, subscribeFrom, replyFrom, unsubscribeFrom, noPublish, noProps, withSet, handedOf}
-use Rattle.tidy.specs.Form.{propertyBytes}
+use Rattle.tidy.specs.Tidy.{optionsByte, publishFrom, ackFrom, subscribeFrom, replyFrom, unsubscribeFrom, noPublish, noProps, withSet, handedOf}
 use Rattle.tidy.specs.Order.{orderedBytes, Exact, ExactFilter, shortAck, AsIs, Masked, FrameLaid}
 use Rattle.tidy.proofs.Has.{SuitsIn, has-property}
 use Rattle.tidy.proofs.Rows.{many, RowGiven, run-back}

@@ -1,7 +1,7 @@
 -- What is written of a block that was read is its own properties in the order of the row: no value is lost, none has another spelling, and so
 -- the bytes are as many. Assumes nothing.
 use mathlib.Core.Path.{_≡_, refl, sym, ap, _∙_}
-use mathlib.Core.Bool.{Bool, true, false, not, cond, false≢true}
+use mathlib.Core.Bool.{Bool, true, false, not, cond}
 use mathlib.Core.Option.{Option, none, some}
 use mathlib.Core.List.{List, [], _∷_, _++_, append-nil}
 use Prim.Native.Nat.{ℕ, _+_, _≤_}
@@ -9,7 +9,7 @@ use native.Mathlib.Omega.{arith}
 use lib.Dec.{eqb}
 use lib.ListN.{length, length-append}
 use borrow.Author.Tests.{eqb-true, eqb-false, eq-eqb, ne-eqb, not-true}
-use Rattle.grammar.specs.Choice.{lookup, all}
+use Rattle.grammar.specs.Choice.{lookup}
 use Rattle.grammar.specs.Gram.{done, more, Many}
 use Rattle.grammar.specs.Octets.{Each, nil, _&_, Octets}
 use Rattle.grammar.specs.Tables.{Form, Forms, Place, isList, formAt}

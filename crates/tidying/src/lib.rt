@@ -20,11 +20,14 @@ ghost use Prim.Native.Nat.{_-_, _≤_, _<_};
 ghost use lib.Dec.{eqb};
 ghost use lib.ListN.{length, take, drop, getD};
 ghost use lib.Seq.{sets};
-ghost use Rattle.grammar.specs.Tables.{subscribePlace};
+ghost use Rattle.grammar.specs.Choice.{lookup};
+ghost use Rattle.grammar.specs.Tables.{subscribePlace, kinds};
+ghost use Rattle.grammar.specs.Record.{kindOf};
 ghost use Rattle.row_puts.specs.Behind.{Behind};
 ghost use Rattle.tables.specs.Property.{placeOf};
 ghost use Rattle.tidy.specs.Order.{idsOf, successIn, shortAck, AsIs, Masked};
 ghost use Rattle.tidying.specs.Tidied.{Tidies};
+ghost use Rattle.tidying.specs.Way.{wayOf};
 ghost use Rattle.tidying.specs.Copied.{Passed, RunPassed, InOrder, IdPut, IdsPut, RowPut, FilterPassed, FiltersPut, FrontPut, Gives, LaidGiven, Accepted, FrameTidied};
 
 // The size of the tidy form that was put, and how many bytes of the stream are taken; or the refusal, and how many.
@@ -273,34 +276,56 @@ fn tidy_ping(first: u8, n: usize, out: &mut [u8]) -> Tidied
     give(&b, n, &mut *out)
 }
 
+// How the tidy form of a frame is put, with its first byte.
+enum Way {
+    // it has the frame's length: a block of this place
+    Block(PropertyPlace, u8),
+    // the same of a Subscribe
+    Filters(u8),
+    // an acknowledgement of a publish with no properties
+    Short(u8),
+    Ping(u8),
+    // no kind that is carried
+    No,
+}
+
+// By the first byte of the frame, and whether it has properties.
+fn way_of(byte1: u8, bare: bool) -> Way
+    ensures { λ r. ⌜ r ≡ wayOf (lookup kinds (kindOf byte1)) byte1 bare ⌝ }
+{
+    let first = first_byte(byte1 / 16);
+    match kind_of(byte1 / 16) {
+        Kind::Publish => return Way::Block(PropertyPlace::Publish, byte1),
+        Kind::Ack(_) => {
+            if bare {
+                return Way::Short(first);
+            }
+            return Way::Block(PropertyPlace::Ack, first);
+        }
+        Kind::Subscribe => return Way::Filters(first),
+        Kind::Reply(_) => return Way::Block(PropertyPlace::Ack, first),
+        Kind::Unsubscribe => return Way::Block(PropertyPlace::Unsubscribe, first),
+        Kind::PingReq => return Way::Ping(first),
+        Kind::PingResp => return Way::Ping(first),
+        Kind::Reserved(_) => return Way::No,
+        Kind::NotCarried(_) => return Way::No,
+    }
+}
+
 // The frame `s` that was read, whose properties stand from `start` to `end`.
 fn tidy_frame(s: &[u8], start: usize, end: usize, out: &mut [u8]) -> Tidied
     requires { ⌜ Accepted (now s) start end ⌝ }
     ensures { λ r. ⌜ FrameTidied (now (s .entry)) (now (out .entry)) (now (out .exit)) r ⌝ }
 {
     let byte1 = s[0];
-    let first = first_byte(byte1 / 16);
-    match kind_of(byte1 / 16) {
-        Kind::Publish => {
-            return tidy_block(PropertyPlace::Publish, byte1, s, start, end, &mut *out);
+    match way_of(byte1, end <= start) {
+        Way::Block(place, first) => {
+            return tidy_block(place, first, s, start, end, &mut *out);
         }
-        Kind::Ack(_) => {
-            if start < end {
-                return tidy_block(PropertyPlace::Ack, first, s, start, end, &mut *out);
-            }
-            return tidy_short(first, s, &mut *out);
-        }
-        Kind::Subscribe => return tidy_subscribe(first, s, start, end, &mut *out),
-        Kind::Reply(_) => {
-            return tidy_block(PropertyPlace::Ack, first, s, start, end, &mut *out);
-        }
-        Kind::Unsubscribe => {
-            return tidy_block(PropertyPlace::Unsubscribe, first, s, start, end, &mut *out);
-        }
-        Kind::PingReq => return tidy_ping(first, s.len(), &mut *out),
-        Kind::PingResp => return tidy_ping(first, s.len(), &mut *out),
-        Kind::Reserved(k) => return Tidied::Refused(Error::InvalidPacketType(k), s.len()),
-        Kind::NotCarried(k) => return Tidied::Refused(Error::KindNotCarried(k), s.len()),
+        Way::Filters(first) => return tidy_subscribe(first, s, start, end, &mut *out),
+        Way::Short(first) => return tidy_short(first, s, &mut *out),
+        Way::Ping(first) => return tidy_ping(first, s.len(), &mut *out),
+        Way::No => return Tidied::Refused(Error::KindNotCarried(byte1 / 16), s.len()),
     }
 }
 

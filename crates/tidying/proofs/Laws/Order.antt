@@ -4,12 +4,12 @@ use mathlib.Core.Bool.{Bool, true, false, cond}
 use mathlib.Core.List.{List, [], _∷_, _++_, append-nil, append-assoc}
 use Prim.Native.Nat.{ℕ, suc, _+_, _-_, _≤_, _<_, min}
 use native.Mathlib.Omega.{arith}
-use lib.Dec.{eqb, leb}
+use lib.Dec.{eqb}
 use lib.ListN.{length, take, drop, getD, length-append, length-drop, drop-of-length-le}
-use lib.Seq.{sets, length-sets, take-all, drop-cons, take-suc, take-nil}
-use Rattle.grammar.specs.Gram.{Many, done}
-use Rattle.grammar.specs.Octets.{Each, nil, _&_}
-use Rattle.grammar.specs.Tables.{Place, publishPlace, subscribePlace, ackPlace, unsubscribePlace}
+use lib.Seq.{sets, take-all, drop-cons, take-suc}
+use Rattle.grammar.specs.Gram.{done}
+use Rattle.grammar.specs.Octets.{nil, _&_}
+use Rattle.grammar.specs.Tables.{Place}
 use Rattle.grammar.specs.Sentence.{Prop}
 use Rattle.writing.specs.Lists.{flat}
 use Rattle.writing.proofs.Each.{each-append, flat-append}
@@ -19,11 +19,10 @@ use Rattle.tables.specs.Property.{placeOf}
 use Rattle.tables.specs.declared.property.PropertyPlace.{PropertyPlace}
 use Rattle.tables.specs.declared.property.PropertyPlace.the-variants as place-of
 use Rattle.tidy.specs.Form.{propertyBytes}
-use Rattle.tidy.specs.Order.{ofId, idBytes, orderedBytes, idsOf, Exact, Runs, none-left, run}
-use Rattle.tidy.proofs.Blocks.{Distinct}
+use Rattle.tidy.specs.Order.{ofId, idBytes, orderedBytes, idsOf, Runs, none-left, run}
 use Rattle.tidy.proofs.Order.{runs-ordered, rows-by-ids, exact-bytes}
 use Rattle.tidy.proofs.Layouts.{Table, publish-table, subscribe-table, ack-table, unsubscribe-table}
-use Rattle.tidying.specs.Copied.{Stands, Between, Passed, RunBefore, RunPassed, InOrder, IdPut, IdsPut, RowPut}
+use Rattle.tidying.specs.Copied.{Stands, Between, Passed, RunPassed, IdPut, IdsPut, RowPut}
 use Rattle.tidying.proofs.Laws.Pass.{many-more, many-none}
 
 -- ---- where something is left, a property stands
@@ -121,7 +120,7 @@ module _ (place : Place) (s : List ℕ) where
         let o = P ps v in
         let (p, qs, q, t) = next-stands (o .back) h w (o .rest) in
         let e : idBytes place (o .back) i ≡ cond (eqb (getD s m 0) i) (take (r - m) (drop m s)) [] ++ idBytes place qs i =
-            ap (λ (l : List Prop). idBytes place l i) q ∙ rw (t .head) (one-bytes (eqb (p .0) i) p qs (take (r - m) (drop m s)) (t .bytes)) in
+        ap (λ (l : List Prop). idBytes place l i) q ∙ rw (t .head) (one-bytes (eqb (p .0) i) p qs (take (r - m) (drop m s)) (t .bytes)) in
         record {
           put = o .put ++ cond (eqb (getD s m 0) i) (take (r - m) (drop m s)) [];
           back = qs;
@@ -149,7 +148,7 @@ module _ (place : Place) (s : List ℕ) where
     rows-next {n = n} P h w ps v =
         let k : n + 1 ≡ suc n = omega arith in
         let e : flat (idBytes place ps) (take (suc n) is) ≡ flat (idBytes place ps) (take n is) ++ idBytes place ps (getD is n 0) =
-            ap (flat (idBytes place ps)) (take-suc is n 0 h) ∙ flat-append (idBytes place ps) (take n is) (getD is n 0 ∷ []) ∙ rw (append-nil (idBytes place ps (getD is n 0))) in
+        ap (flat (idBytes place ps)) (take-suc is n 0 h) ∙ flat-append (idBytes place ps) (take n is) (getD is n 0 ∷ []) ∙ rw (append-nil (idBytes place ps (getD is n 0))) in
         rw (k, e) (next-then (P ps v) (w ps v))
 
     pub rows-end : {after : List ℕ} {to n : ℕ} → RowsPut after to n → length is ≤ n → IdsPut place is s start before after

@@ -1,18 +1,17 @@
 -- One property, or one filter, is passed: a reader of places ends where the grammar does, and what is left is the rest. Assumes nothing.
 use mathlib.Core.Path.{_≡_, refl, sym, ap, _∙_}
 use mathlib.Core.List.{List, [], _∷_, _++_, append-nil, append-assoc}
-use Prim.Native.Nat.{ℕ, suc, _+_, _-_, _≤_, _<_}
+use Prim.Native.Nat.{ℕ, _+_, _-_, _≤_, _<_}
 use native.Mathlib.Omega.{arith}
 use lib.ListN.{length, take, drop, getD, length-append, length-drop, take-append-drop}
-use lib.Seq.{take-at, drop-nil, drop-cons, getD-at, getD-drop, getD-append-seam}
+use lib.Seq.{take-at, getD-drop, getD-append-seam}
 use Rattle.grammar.specs.Gram.{Gram, mapped, done, more, Many}
-use Rattle.grammar.specs.Octets.{Each, nil, _&_}
 use Rattle.grammar.specs.Tables.{Place}
-use Rattle.grammar.specs.Record.{PropOf, Filter, mkFilter}
-use Rattle.grammar.specs.Sentence.{Prop, Property}
+use Rattle.grammar.specs.Record.{PropOf, Filter}
+use Rattle.grammar.specs.Sentence.{Prop}
 use Rattle.reading.specs.Refusal.{Refusal}
 use Rattle.reading.specs.Reader.{Fit, got, bad, Reader}
-use Rattle.reading.specs.Read.{asBytes, propertyOf, filterOf}
+use Rattle.reading.specs.Read.{propertyOf, filterOf}
 use Rattle.reading.specs.Place.{Span, asPlaces}
 use Rattle.reading.proofs.Reading.{bad-got, got-inj, Reads}
 use Rattle.reading.proofs.Refusing.{got-bad}
@@ -29,7 +28,7 @@ use Rattle.filters.proofs.Laws.{filter-ahead}
 use Rattle.writing.specs.Spell.{string}
 use Rattle.tidy.specs.Form.{propertyBytes}
 use Rattle.tidy.specs.Order.{Exact, ExactFilter}
-use Rattle.tidying.specs.Copied.{Stands, Between, Passed, FiltersStand, FilterBetween, FilterPassed}
+use Rattle.tidying.specs.Copied.{Between, Passed, FilterBetween, FilterPassed}
 
 -- what fills the bytes l, where something does
 pub many-more : {A : Type 0} {G : Gram A} {a : A} {vs : List A} {l : List ℕ} → Many G (a ∷ vs) l → (b c : List ℕ) × (l ≡ b ++ c) × G a b × Many G vs c

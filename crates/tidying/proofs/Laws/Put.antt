@@ -1,23 +1,22 @@
 -- What is put of filters and of a whole frame, and what is told of it: each put goes on where the one before it ended. Assumes nothing.
 use mathlib.Core.Path.{_≡_, refl, sym, ap, _∙_, subst}
 use mathlib.Core.Bool.{Bool, true, false, _||_, cond}
-use mathlib.Core.Option.{Option, none, some}
+use mathlib.Core.Option.{none, some}
 use mathlib.Core.List.{List, [], _∷_, _++_, append-nil, append-assoc}
 use Prim.Native.Nat.{ℕ, suc, _+_, _-_, _%_, _≤_, _<_, min}
 use native.Mathlib.Omega.{arith}
 use lib.Dec.{eqb, leb}
-use lib.ListN.{length, take, drop, getD, length-append, length-drop, length-take}
+use lib.ListN.{length, take, drop, getD, length-append, length-drop}
 use lib.Seq.{sets, sets-eq, length-sets, take-all, take-at, drop-at, length-take-le}
 use borrow.Author.Tests.{le-leb, lt-leb, leb-false}
 use Rattle.grammar.specs.Choice.{lookup}
-use Rattle.grammar.specs.Gram.{Many, done}
-use Rattle.grammar.specs.Octets.{Each, nil, _&_, Octets}
-use Rattle.grammar.specs.Tables.{Place, subscribePlace, ackPlace, Layout, kinds, firstOf}
+use Rattle.grammar.specs.Gram.{Many}
+use Rattle.grammar.specs.Octets.{nil, _&_, Octets}
+use Rattle.grammar.specs.Tables.{Place, subscribePlace, kinds}
 use Rattle.grammar.specs.Record.{kindOf}
-use Rattle.grammar.specs.Sentence.{Prop, Packet, Sentence}
+use Rattle.grammar.specs.Sentence.{Packet, Sentence}
 use Rattle.reading.specs.Refusal.{accepted}
 use Rattle.reading.specs.Read.{readOf}
-use Rattle.reading.specs.Reader.{got}
 use Rattle.reading.proofs.Theorems.{suffix}
 use Rattle.writing.specs.Lists.{flat}
 use Rattle.writing.specs.Handed.{Handed}
@@ -26,11 +25,10 @@ use Rattle.writing.specs.Write.{frameBytes}
 use Rattle.byte_puts.proofs.Laws.{sets-append, sets-then}
 use Rattle.records.specs.declared.error.Error.{Error}
 use Rattle.row_puts.specs.Behind.{Behind}
-use Rattle.tidy.specs.Tidy.{handedOf, tidyOf}
+use Rattle.tidy.specs.Tidy.{handedOf}
 use Rattle.tidy.specs.Order.{orderedBytes, Exact, ExactFilter, AsIs, Masked, FrameLaid, successIn, shortAck}
 use Rattle.tidy.proofs.Tidy.{tidy-is}
-use Rattle.tidy.proofs.Layouts.{Opened, opened}
-use Rattle.tidying.specs.Tidied.{toldTidied, roomFor, sizeIn, standsIn}
+use Rattle.tidy.proofs.Layouts.{opened}
 use Rattle.tidying.specs.Copied.{Stands, RowPut, FiltersStand, FilterBetween, FilterPassed, FiltersPut, FrontAt, FrontPut, Gives, LaidGiven, Accepted, FrameTidied}
 use Rattle.tidying.specs.declared.Tidied.{Tidied}
 use Rattle.tidying.proofs.Laws.Pass.{many-more, many-none}
@@ -168,7 +166,7 @@ module _ (place : Place) (first : ℕ) (s : List ℕ) (start end : ℕ) (before 
     all-put {o} {after} F e =
         let k : 0 + length (first ∷ (w .head ++ orderedBytes place (w .list))) ≡ end = omega (arith, w .ends, w .light, length-append (w .head) (orderedBytes place (w .list))) in
         let a : after ≡ sets before 0 ((first ∷ (w .head ++ orderedBytes place (w .list))) ++ w .other) =
-            sets-then (first ∷ (w .head ++ orderedBytes place (w .list))) (w .other) before o after 0 end (F (w .head) (w .list) front-at) (sym k) e in
+        sets-then (first ∷ (w .head ++ orderedBytes place (w .list))) (w .other) before o after 0 end (F (w .head) (w .list) front-at) (sym k) e in
         a ∙ ap (sets before 0) (ap (λ (l : List ℕ). first ∷ l) (append-assoc (w .head) (orderedBytes place (w .list)) (w .other)) ∙ sym (w .form))
 
   -- 02, P14: the rest as it stands

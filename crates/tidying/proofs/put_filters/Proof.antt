@@ -1,12 +1,11 @@
 -- `tidying::put_filters` is right since each turn puts one filter where it stands, and what is left decides the rest. Assumes nothing.
-use mathlib.Core.Path.{_≡_, refl, sym, ap, _∙_}
-use mathlib.Core.List.{[], _∷_}
-use Prim.Native.Nat.{_-_, _%_}
+use mathlib.Core.Path.{_≡_, refl}
+use Prim.Native.Nat.{_-_}
 use borrow.Author.Needs.{needs}
 use native.Mathlib.Omega.{arith}
-use lib.ListN.{length, getD}
+use lib.ListN.{length}
 use denote.Ref.{now}
-use Rattle.tidying.proofs.Laws.Put.{put-same-length, MaskingAll, mask-start, mask-next, mask-end}
+use Rattle.tidying.proofs.Laws.Put.{MaskingAll, mask-start, mask-next, mask-end}
 use Rattle.tidying.proofs.put_filters.Statement.{statement}
 use Rattle.tidying.proofs.put_filters.Tie as tie
 
@@ -44,7 +43,7 @@ loop-less : tie.Need-loop-less Inv-loop μ-loop
 loop-less c = omega (arith, c .before .before .before .before .before .before .before .before .before .before .pass-filter .ensures .ahead (c .before .before .before .before .before .before .before .before .before .before .before .loop-test .taken) .0)
 
 loop-again : tie.Need-loop-again Inv-loop μ-loop
-loop-again c = let r = c .before .before .before .before .before .before .before .before .before .before .pass-filter .result in (put-same-length _ _ (getD (now (c .before .before .before .before .before .before .before .before .before .before .before .before .before .before .before .args .s)) (r - 1) 0 % 64 ∷ []) (r - 1) (c .before .before .put-byte .ensures) ∙ put-same-length _ _ (now (c .before .before .before .before .before .before .before .before .piece .result)) (c .before .before .before .before .before .before .before .before .before .before .before .before .loop .i) (c .before .before .before .before .before .before .before .put-bytes .ensures) ∙ c .before .before .before .before .before .before .before .before .before .before .before .before .loop .inv .0, mask-next (now (c .before .before .before .before .before .before .before .before .before .before .before .before .before .before .before .args .s)) (c .before .before .before .before .before .before .before .before .before .before .before .before .before .before .before .args .at) (now (c .before .before .before .before .before .before .before .before .before .before .before .before .before .before .before .args .out)) (c .before .before .before .before .before .before .before .before .before .before .before .before .loop .inv .1) (c .before .before .before .before .before .before .before .before .before .before .before .loop-test .taken) (c .before .before .before .before .before .before .before .before .before .before .pass-filter .ensures) (c .before .before .before .before .before .before .before .before .piece .ensures .bytes) (c .before .before .before .before .before .before .before .put-bytes .ensures) (c .before .before .put-byte .ensures))
+loop-again c = (omega (arith, c .before .before .before .before .before .before .out .given, c .before .out2 .given, c .before .before .before .before .before .before .before .before .before .before .before .before .loop .inv .0), mask-next (now (c .before .before .before .before .before .before .before .before .before .before .before .before .before .before .before .args .s)) (c .before .before .before .before .before .before .before .before .before .before .before .before .before .before .before .args .at) (now (c .before .before .before .before .before .before .before .before .before .before .before .before .before .before .before .args .out)) (c .before .before .before .before .before .before .before .before .before .before .before .before .loop .inv .1) (c .before .before .before .before .before .before .before .before .before .before .before .loop-test .taken) (c .before .before .before .before .before .before .before .before .before .before .pass-filter .ensures) (c .before .before .before .before .before .before .before .before .piece .ensures .bytes) (c .before .before .before .before .before .before .before .put-bytes .ensures) (c .before .before .put-byte .ensures))
 
 same-length : tie.Need-same-length Inv-loop μ-loop
 same-length c = c .before .loop .inv .0

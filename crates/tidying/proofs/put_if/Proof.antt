@@ -1,11 +1,7 @@
 -- `tidying::put_if` is right since the bytes are put just where the test holds. Assumes nothing.
 use borrow.Author.Needs.{needs}
-use native.Mathlib.Omega.{arith}
 use denote.Ref.{now}
 use borrow.Author.Tests.{eq-eqb, ne-eqb}
-use lib.Dec.{eqb}
-use Prim.Native.Nat.{_-_}
-use lib.ListN.{take, drop, getD}
 use Rattle.tidying.proofs.Laws.Put.{put-same, put-other}
 use Rattle.tidying.proofs.put_if.Statement.{statement}
 use Rattle.tidying.proofs.put_if.Tie as tie

@@ -1,8 +1,6 @@
 -- `tidying::tidy_short` is right since success is four bytes, and any other reason is followed by L = 0. Assumes nothing.
-use mathlib.Core.Path.{_≡_, refl, sym, ap, _∙_}
+use mathlib.Core.Path.{sym, _∙_}
 use borrow.Author.Needs.{needs}
-use native.Mathlib.Omega.{arith}
-use lib.ListN.{length}
 use denote.Ref.{now}
 use Rattle.tidying.proofs.Laws.Put.{reason-there, short-success, short-reason}
 use Rattle.tidying.proofs.tidy_short.Statement.{statement}
