@@ -559,15 +559,15 @@ bounds-alone v c r s =
 
 -- an acknowledgement with no properties: every length of its frame is one byte
 short-form : (x f high low : ℕ) (rest other : List ℕ) → ShortRest rest other
-    → (4 ≤ length (x ∷ (short (length (high ∷ low ∷ rest)) ++ (high ∷ low ∷ rest)))) × (f ∷ counted (high ∷ low ∷ other) ≡ shortAck f (x ∷ (short (length (high ∷ low ∷ rest)) ++ (high ∷ low ∷ rest))))
+    → (4 ≤ length (x ∷ (short (length (high ∷ low ∷ rest)) ++ (high ∷ low ∷ rest)))) × (length (x ∷ (short (length (high ∷ low ∷ rest)) ++ (high ∷ low ∷ rest))) ≤ 6) × (f ∷ counted (high ∷ low ∷ other) ≡ shortAck f (x ∷ (short (length (high ∷ low ∷ rest)) ++ (high ∷ low ∷ rest))))
 unfolding counted shortAck
-short-form x f high low _ _ at-2 = rw short-2 (omega arith, refl)
-short-form x f high low _ _ (at-3 c) = rw short-3 (omega arith, go (eqb c 0))
+short-form x f high low _ _ at-2 = rw short-2 (omega arith, omega arith, refl)
+short-form x f high low _ _ (at-3 c) = rw short-3 (omega arith, omega arith, go (eqb c 0))
   where
     go : (t : Bool) → f ∷ (short (length (high ∷ low ∷ cond t [] (c ∷ 0 ∷ []))) ++ (high ∷ low ∷ cond t [] (c ∷ 0 ∷ []))) ≡ cond t (f ∷ 2 ∷ high ∷ low ∷ []) (f ∷ 4 ∷ high ∷ low ∷ c ∷ 0 ∷ [])
     go true = rw short-2
     go false = rw short-4
-short-form x f high low _ _ (at-4 c) = rw short-4 (omega arith, go (eqb c 0))
+short-form x f high low _ _ (at-4 c) = rw short-4 (omega arith, omega arith, go (eqb c 0))
   where
     go : (t : Bool) → f ∷ (short (length (high ∷ low ∷ cond t [] (c ∷ 0 ∷ []))) ++ (high ∷ low ∷ cond t [] (c ∷ 0 ∷ []))) ≡ cond t (f ∷ 2 ∷ high ∷ low ∷ []) (f ∷ 4 ∷ high ∷ low ∷ c ∷ 0 ∷ [])
     go true = rw short-2
@@ -658,16 +658,16 @@ module _ (v : Packet) (c : List ℕ) (s : Sentence v c) (o : Octets c) (start en
       go w q (filled z n) = laid-as w (anAck rs) q ackPlace AsIs z (firstOf (kindOf (getD c 0 0))) (ack-first rs e)
 
   -- and without any
-  pub ack-short : (rs : List ℕ) → lookup kinds (kindOf (getD c 0 0)) ≡ some (anAck rs) → end ≤ start → (4 ≤ length c) × (frameBytes (handedOf v) ≡ shortAck (firstOf (kindOf (getD c 0 0))) c)
+  pub ack-short : (rs : List ℕ) → lookup kinds (kindOf (getD c 0 0)) ≡ some (anAck rs) → end ≤ start → (4 ≤ length c) × (length c ≤ 6) × (frameBytes (handedOf v) ≡ shortAck (firstOf (kindOf (getD c 0 0))) c)
   unfolding frameBytes
   ack-short rs e h = let (w, q, i) = opened-as (anAck rs) e in go w q (ack-laid rs (w .byte) v (w .rest) (fields-as w (anAck rs) q) (octets-as w (anAck rs) q .1))
     where
-      go : (w : Opened v c) (q : w .layout ≡ anAck rs) → AckForm (handedOf v) (anAck rs) (w .byte) (w .rest) → (4 ≤ length c) × (frameBytes (handedOf v) ≡ shortAck (firstOf (kindOf (getD c 0 0))) c)
+      go : (w : Opened v c) (q : w .layout ≡ anAck rs) → AckForm (handedOf v) (anAck rs) (w .byte) (w .rest) → (4 ≤ length c) × (length c ≤ 6) × (frameBytes (handedOf v) ≡ shortAck (firstOf (kindOf (getD c 0 0))) c)
       go w q (bare z) =
           let n : w .number ≡ short (length (w .rest)) = one-spelling (length (w .rest)) (w .number) (w .spelt) (octets-as w (anAck rs) q .0) in
           let f = short-form (w .byte) (firstOf (kindOf (getD c 0 0))) (z .high) (z .low) (z .rest) (z .other) (z .short-rest) in
           let y : c ≡ w .byte ∷ (short (length (z .high ∷ z .low ∷ z .rest)) ++ (z .high ∷ z .low ∷ z .rest)) = w .whole ∙ rw (n, z .whole) in
-          (rw y (f .0), rw (ack-first rs e, z .form) (f .1 ∙ ap (shortAck (firstOf (kindOf (getD c 0 0)))) (sym y)))
+          (rw y (f .0), rw y (f .1), rw (ack-first rs e, z .form) (f .2 ∙ ap (shortAck (firstOf (kindOf (getD c 0 0)))) (sym y)))
       go w q (filled z n) =
           let y = got-inj (sym (z .bounds (length (w .byte ∷ (w .number ++ w .rest)))) ∙ bounds-as w (anAck rs) q) in
           absurd (omega (

@@ -1,17 +1,19 @@
 -- What tidying answers, and the output afterwards (02, P14). Assumes nothing.
 use mathlib.Core.Path.{_≡_}
-use mathlib.Core.Bool.{cond}
-use mathlib.Core.Option.{none}
+use mathlib.Core.Bool.{Bool, true, false, cond}
+use mathlib.Core.Option.{Option, none, some}
 use mathlib.Core.List.{List, [], _∷_, _++_}
 use Prim.Native.Nat.{ℕ}
 use lib.Dec.{leb}
 use lib.ListN.{length, drop}
-use Rattle.reading.specs.Refusal.{Answer, accepted, refused, refusedAs}
+use Rattle.grammar.specs.Tables.{Layout, aPublish, anAck, aSubscribe, aReply, anUnsubscribe, aPing}
+use Rattle.reading.specs.Refusal.{nr, Answer, accepted, refused, refusedAs}
 use Rattle.reading.specs.Reader.{Fit, got, bad}
 use Rattle.reading.specs.Read.{readOf}
 use Rattle.records.specs.Told.{toldError}
 use Rattle.packet.specs.Told.{takenIn}
 use Rattle.tidy.specs.Tidy.{tidyOf}
+use Rattle.tidy.specs.Order.{successIn}
 use Rattle.tidying.specs.declared.Tidied.{Tidied}
 
 -- the size of the tidy form, or the refusal; and how many bytes of the stream are taken
@@ -46,3 +48,22 @@ standsIn out (refused k vs n) = out
 pub record Tidies (s before after : List ℕ) (r : Tidied) : Type 0 where
   pub answer : toldTidied r ≡ sizeIn (tidiedOf s (length before))
   pub output : after ≡ standsIn before (tidiedOf s (length before))
+
+-- ---- what the theorems say
+
+-- the answer, whatever was taken
+abbrev pub fitOf : {A : Type 0} → Answer A → Fit A
+fitOf (accepted a n) = got a
+fitOf (refused k vs n) = bad (nr k vs)
+
+-- the length of the tidy form of a frame c, by its layout and whether it has no properties: that of the frame, but for a ping, and for an acknowledgement of a
+-- publish with no properties: 01, grammar: "A successful PubAck with properties absent is 4 bytes", else "a reason and a block" (DECISIONS 30)
+abbrev pub tidyLength : Option Layout → Bool → List ℕ → ℕ
+tidyLength none bare c = length c
+tidyLength (some aPublish) bare c = length c
+tidyLength (some (anAck rs)) true c = cond (successIn c) 4 6
+tidyLength (some (anAck rs)) false c = length c
+tidyLength (some aSubscribe) bare c = length c
+tidyLength (some (aReply rs)) bare c = length c
+tidyLength (some anUnsubscribe) bare c = length c
+tidyLength (some aPing) bare c = 2

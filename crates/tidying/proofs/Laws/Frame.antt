@@ -69,7 +69,7 @@ module _ {s : List ℕ} {start end : ℕ} (a : Accepted s start end) (o : Octets
 
     pub short-tidied : {rs : List ℕ} {before after : List ℕ} {r : Tidied} → Kinded (some (anAck rs)) → end ≤ start → Gives (shortAck first s) (length s) before after r → FrameTidied s before after r
     short-tidied {rs} {before} {after} {r} e h g =
-        let f : frameBytes (handedOf (a .packet)) ≡ shortAck first s = ack-short (a .packet) s (a .sentence) o start end (a .bounds) rs (sym e) h .1 ∙ ap (λ (k : ℕ). shortAck k s) (sym i) in
+        let f : frameBytes (handedOf (a .packet)) ≡ shortAck first s = ack-short (a .packet) s (a .sentence) o start end (a .bounds) rs (sym e) h .2 ∙ ap (λ (k : ℕ). shortAck k s) (sym i) in
         frame-tidied s start end before after r a o (rw f g)
 
     pub ping-tidied : {before after : List ℕ} {r : Tidied} → Kinded (some aPing) → Gives (first ∷ 0 ∷ []) (length s) before after r → FrameTidied s before after r
