@@ -3,7 +3,7 @@
 use mathlib.Core.Path.{_≡_, refl, sym, ap, _∙_}
 use mathlib.Core.Bool.{Bool, true, false, cond}
 use mathlib.Core.Option.{Option, none, some}
-use mathlib.Core.Logic.{_↔_}
+use mathlib.Core.Logic.{_↔_, _⊎_, inl, inr}
 use mathlib.Core.List.{List, [], _∷_, _++_, append-nil}
 use Prim.Native.Nat.{ℕ, _≤_, _<_}
 use native.Mathlib.Omega.{arith}
@@ -21,6 +21,7 @@ use Rattle.reading.specs.Reader.{got, bad}
 use Rattle.reading.specs.Read.{readOf}
 use Rattle.reading.specs.Bounds.{frameBounds}
 use Rattle.reading.proofs.Reading.{got-inj}
+use Rattle.reading.proofs.Fields.{num-solid}
 use Rattle.reading.proofs.Demand.{no-accept, reads-sentence}
 use Rattle.writing.specs.Size.{sizeIs}
 use Rattle.writing.specs.Refuse.{Accepts, no-room}
@@ -36,10 +37,10 @@ use Rattle.tidy.specs.Order.{successIn, shortAck}
 use Rattle.tidy.proofs.Said.{sentence-said}
 use Rattle.tidy.proofs.Good.{good}
 use Rattle.tidy.proofs.Tidy.{tidy-is, tidy-reads, tidy-again, tidy-equal, tidy-refused}
-use Rattle.tidy.proofs.Layouts.{publish-frame, reply-frame, unsubscribe-frame, subscribe-frame, ping-frame, ack-frame, ack-short}
+use Rattle.tidy.proofs.Layouts.{opened, publish-frame, reply-frame, unsubscribe-frame, subscribe-frame, ping-frame, ack-frame, ack-short}
 use Rattle.tidying.specs.Tidied.{toldTidied, roomFor, tidiedOf, sizeIn, standsIn, Tidies, fitOf, tidyLength}
 use Rattle.tidying.specs.declared.Tidied.{Tidied}
-use Rattle.tidying.proofs.Laws.Put.{laid-length, carried-kind}
+use Rattle.tidying.proofs.Laws.Put.{laid-length, carried-kind, reason-there}
 
 -- ---- one result
 
@@ -186,3 +187,61 @@ module _ (v : Packet) (c : List ℕ) (s : Sentence v c) (o : Octets c) (start en
   -- 02, P14, and DECISIONS 30: the tidy form of the frame c, whose properties stand from `start` to `end`, has this length
   pub tidy-length : length (frameBytes (handedOf v)) ≡ tidyLength layout (leb end start) c
   tidy-length = by-layout layout refl
+
+  -- a frame has a first byte and a length
+  frame-two : 2 ≤ length c
+  frame-two = let w = opened v c s in go (w .number) (w .rest) (num-solid 4 (length (w .rest)) (w .number) (w .spelt)) (w .whole)
+    where
+      go : {x : ℕ} (n b : List ℕ) → (n ≡ [] → ⊥) → c ≡ x ∷ (n ++ b) → 2 ≤ length c
+      go [] b h e = absurd (h refl)
+      go (y ∷ n) b h e = omega (arith, ap length e)
+
+  -- an acknowledgement of a publish with no properties, whose reason is success or not
+  abbrev pub BareAck : Bool → Type 0
+  BareAck t = (rs : List ℕ) × (layout ≡ some (anAck rs)) × (end ≤ start) × (successIn c ≡ t)
+
+  bare-length : (t : Bool) → BareAck t → length (frameBytes (handedOf v)) ≡ cond t 4 6
+  bare-length t (rs, e, h, q) = ap length (ack-short v c s o start end d rs e h .2) ∙ short-length _ ∙ ap (λ (b : Bool). cond b 4 6) q
+
+  -- the layouts whose tidy form has another length
+  other-length : (l : Option Layout) → layout ≡ l → (length (frameBytes (handedOf v)) ≡ length c) ⊎ (((layout ≡ some aPing) × (length (frameBytes (handedOf v)) ≡ 2)) ⊎ (BareAck true ⊎ BareAck false))
+  other-length none e = carried-kind v c s e
+  other-length (some aPublish) e = inl (by-layout (some aPublish) e)
+  other-length (some (anAck rs)) e = go (leb end start) refl (successIn c) refl
+    where
+      go : (b : Bool) → leb end start ≡ b → (t : Bool) → successIn c ≡ t → (length (frameBytes (handedOf v)) ≡ length c) ⊎ (((layout ≡ some aPing) × (length (frameBytes (handedOf v)) ≡ 2)) ⊎ (BareAck true ⊎ BareAck false))
+      go true h true q = inr (inr (inl (rs, e, leb-true end start h, q)))
+      go true h false q = inr (inr (inr (rs, e, leb-true end start h, q)))
+      go false h t q = inl (ack-length rs false h e)
+  other-length (some aSubscribe) e = inl (by-layout (some aSubscribe) e)
+  other-length (some (aReply rs)) e = inl (by-layout (some (aReply rs)) e)
+  other-length (some anUnsubscribe) e = inl (by-layout (some anUnsubscribe) e)
+  other-length (some aPing) e = inr (inl (e, by-layout (some aPing) e))
+
+  bare-bounds : (t : Bool) → BareAck t → (4 ≤ length c) × (length c ≤ 6)
+  bare-bounds t (rs, e, h, q) = let w = ack-short v c s o start end d rs e h in (w .0, w .1)
+
+  -- 02, P14: "A PubAck of five bytes becomes six": longer, by a byte, exactly for a reason other than success in a frame of five bytes (DECISIONS 160)
+  pub tidy-longer : (length c < length (frameBytes (handedOf v))) ↔ (BareAck false × (length c ≡ 5))
+  tidy-longer = (λ h. go h (other-length layout refl), λ (a, n). omega (arith, n, bare-length false a))
+    where
+      go : length c < length (frameBytes (handedOf v)) → (length (frameBytes (handedOf v)) ≡ length c) ⊎ (((layout ≡ some aPing) × (length (frameBytes (handedOf v)) ≡ 2)) ⊎ (BareAck true ⊎ BareAck false)) → BareAck false × (length c ≡ 5)
+      go h (inl e) = absurd (omega (arith, h, e))
+      go h (inr (inl p)) = absurd (omega (arith, h, p .1, frame-two))
+      go h (inr (inr (inl a))) = absurd (omega (arith, h, bare-length true a, bare-bounds true a .0))
+      go h (inr (inr (inr a))) = (a, omega (arith, h, bare-length false a, reason-there c (sym (a .3))))
+
+  -- shorter exactly for a ping with bytes behind its length, and for success with no properties in more than four bytes
+  pub tidy-shorter : (length (frameBytes (handedOf v)) < length c) ↔ (((layout ≡ some aPing) × (2 < length c)) ⊎ (BareAck true × (4 < length c)))
+  tidy-shorter = (λ h. go h (other-length layout refl), back)
+    where
+      go : length (frameBytes (handedOf v)) < length c → (length (frameBytes (handedOf v)) ≡ length c) ⊎ (((layout ≡ some aPing) × (length (frameBytes (handedOf v)) ≡ 2)) ⊎ (BareAck true ⊎ BareAck false))
+          → ((layout ≡ some aPing) × (2 < length c)) ⊎ (BareAck true × (4 < length c))
+      go h (inl e) = absurd (omega (arith, h, e))
+      go h (inr (inl p)) = inl (p .0, omega (arith, h, p .1))
+      go h (inr (inr (inl a))) = inr (a, omega (arith, h, bare-length true a))
+      go h (inr (inr (inr a))) = absurd (omega (arith, h, bare-length false a, bare-bounds false a .1))
+
+      back : ((layout ≡ some aPing) × (2 < length c)) ⊎ (BareAck true × (4 < length c)) → length (frameBytes (handedOf v)) < length c
+      back (inl (e, h)) = omega (arith, h, by-layout (some aPing) e)
+      back (inr (a, h)) = omega (arith, h, bare-length true a)
