@@ -4,7 +4,7 @@
 //! `write`, `size`, and the records with `Bytes` that share the stream's memory. Where the answers differ from the crate's is listed in
 //! docs/DIFFERENCES.md, and what is not there in bindings/README.md.
 //! `places` is the thinner one: the records as they are read, with no copy at all. `pieces` reads a stream that arrives in pieces, over either.
-//! `Aliases` keeps the topics of a connection by their aliases.
+//! `Aliases` keeps the topics of a connection by their aliases. `tidy` gives a frame's tidy form, for an archive.
 //!
 //! What is proved ends at the C interface; this crate is tested.
 mod alias;
@@ -16,6 +16,7 @@ pub mod pieces;
 pub mod places;
 #[allow(clippy::too_many_arguments)]
 pub mod sys;
+mod tidy;
 mod topics;
 pub mod walk;
 mod write;
@@ -27,6 +28,7 @@ pub use error::Error;
 pub use frame::{check, FixedHeader, PacketType};
 use places::{Kind, Record};
 use sys::*;
+pub use tidy::{tidied, tidy};
 pub use topics::{has_wildcards, matches, valid_filter, valid_topic};
 
 /// The crate's paths: `ecchjulmina::mqttbytes` in the place of `rumqttc::v5::mqttbytes`.
