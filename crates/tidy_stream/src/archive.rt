@@ -1,4 +1,4 @@
-// The stream, frame by frame: what is held of it in the buffer is tidied into the output behind what was put there, and more is read where a
+// The stream, frame by frame: what is held of it in the buffer is tidied into the output behind what waits there, and more is read where a
 // frame is unfinished. A full output is written to standard output.
 use crate::tell;
 use byte_puts::put_bytes;
@@ -21,18 +21,21 @@ const UNREADABLE: u8 = 4;
 // The output could not be written.
 const LOST: u8 = 5;
 
+// It is room in the output that is wanted.
+const ROOM: usize = 18446744073709551615;
+
 struct Archive {
     // what is held of the stream, in the buffer
-    held: Span,
+    start: usize,
+    len: usize,
     // so many bytes of the output wait to be written
-    put: usize,
+    waits: usize,
+    // so many bytes of the stream are lacking at least, for the next frame; or ROOM
+    wants: usize,
     // where the next frame starts in the stream
     offset: u64,
-    // frames that were tidied, and that were refused
-    frames: u64,
+    // frames that were refused
     refused: u64,
-    // bytes of the archive
-    size: u64,
     state: u8,
 }
 
@@ -45,58 +48,45 @@ fn add(a: u64, b: usize) -> u64 {
     std::num::wrapping_add_u64(a, b as u64)
 }
 
-// Writes what waits, if nothing was lost before.
-fn flush(out: &[u8], mut d: Archive) -> Archive {
-    if d.state == LOST {
-        return d;
+fn held(d: Archive) -> Span {
+    Span {
+        start: d.start,
+        len: d.len,
     }
-    let waits = Span {
-        start: 0,
-        len: d.put,
-    };
-    if io::write_all(libc::STDOUT_FILENO, string::part(out, waits)) {
-        d.put = 0;
-        return d;
-    }
-    d.state = LOST;
-    d
 }
 
-// After a frame of `taken` bytes; one that took nothing is the last.
+// ---- a frame
+
+// A frame of so many bytes is behind.
 fn passed(mut d: Archive, taken: usize) -> Archive {
-    let held = d.held;
-    if taken == 0 {
-        d.state = STOPPED;
-        return d;
-    }
-    if held.len < taken {
-        d.state = STOPPED;
-        return d;
-    }
-    let start = std::num::wrapping_add_usize(held.start, taken);
-    let len = held.len - taken;
-    let rest = Span { start, len };
-    d.held = rest;
+    d.start = std::num::wrapping_add_usize(d.start, taken);
+    d.len = std::num::wrapping_sub_usize(d.len, taken);
     d.offset = add(d.offset, taken);
     d
 }
 
 fn tidied(mut d: Archive, size: usize, taken: usize) -> Archive {
-    d.put = std::num::wrapping_add_usize(d.put, size);
-    d.size = add(d.size, size);
-    d.frames = add(d.frames, 1);
+    d.waits = std::num::wrapping_add_usize(d.waits, size);
     passed(d, taken)
+}
+
+// A refusal that took nothing is the last.
+fn state_after(state: u8, taken: usize) -> u8 {
+    if taken == 0 {
+        return STOPPED;
+    }
+    state
 }
 
 // A refusal; that of no byte at all is the end of the stream.
 fn refused(mut d: Archive, e: Error, taken: usize) -> Archive {
-    let held = d.held;
-    if held.len == 0 {
+    if d.len == 0 {
         d.state = DONE;
         return d;
     }
     tell::refused(d.offset, e, taken);
     d.refused = add(d.refused, 1);
+    d.state = state_after(d.state, taken);
     passed(d, taken)
 }
 
@@ -111,98 +101,30 @@ fn lacking(state: u8, e: Error) -> usize {
     0
 }
 
-// The output is full, of what waits in it.
-fn is_full(put: usize, e: Error) -> bool {
-    if put == 0 {
-        return false;
+// Room, where the output is full of what waits; else what is given.
+fn or_room(waits: usize, e: Error, lacks: usize) -> usize {
+    if waits == 0 {
+        return lacks;
     }
     if let Error::NoRoom(_) = e {
-        return true;
+        return ROOM;
     }
-    false
+    lacks
 }
 
-// The bytes at a place to the front of the buffer, by way of the output, in which nothing waits.
-fn to_front(buf: &mut [u8], out: &mut [u8], held: Span) -> Span {
-    let front = Span {
-        start: 0,
-        len: held.len,
-    };
-    put_bytes(&mut *out, 0, string::part(&*buf, held));
-    put_bytes(&mut *buf, 0, string::part(&*out, front));
-    front
-}
-
-// What is held, with room behind it if it is shorter than the buffer.
-fn with_room(buf: &mut [u8], out: &mut [u8], held: Span) -> Span {
-    if std::num::wrapping_add_usize(held.start, held.len) < buf.len() {
-        return held;
+fn not_put(mut d: Archive, e: Error, taken: usize) -> Archive {
+    d.wants = or_room(d.waits, e, lacking(d.state, e));
+    if d.wants == 0 {
+        return refused(d, e, taken);
     }
-    to_front(&mut *buf, &mut *out, held)
-}
-
-// Reads once from index `from` on; -1 where there is no such index, or the input cannot be read.
-fn read_from(fd: i32, buf: &mut [u8], from: usize) -> isize {
-    if buf.len() < from {
-        return -1;
-    }
-    libc::read(fd, &mut buf[from..])
-}
-
-// Reads once behind what is held.
-fn fill(fd: i32, buf: &mut [u8], mut d: Archive) -> Archive {
-    let held = d.held;
-    let start = held.start;
-    let got = read_from(fd, &mut *buf, std::num::wrapping_add_usize(start, held.len));
-    if 0 < got {
-        let len = std::num::wrapping_add_usize(held.len, io::count(got, &*buf));
-        let now = Span { start, len };
-        d.held = now;
-        return d;
-    }
-    if got == 0 {
-        d.state = ENDED;
-        return d;
-    }
-    d.state = UNREADABLE;
     d
 }
 
-fn too_long(mut d: Archive, lacks: usize) -> Archive {
-    let held = d.held;
-    tell::too_long(d.offset, add(held.len as u64, lacks), 1048576);
-    d.state = STOPPED;
-    d
-}
-
-// More of the stream, for a frame that lacks some bytes, once nothing waits in the output.
-fn more(fd: i32, buf: &mut [u8], out: &mut [u8], mut d: Archive, lacks: usize) -> Archive {
-    let held = with_room(&mut *buf, &mut *out, d.held);
-    d.held = held;
-    if buf.len() <= held.len {
-        return too_long(d, lacks);
+fn judged(d: Archive, t: Tidied) -> Archive {
+    match t {
+        Tidied::Put(size, taken) => tidied(d, size, taken),
+        Tidied::Refused(e, taken) => not_put(d, e, taken),
     }
-    fill(fd, &mut *buf, d)
-}
-
-// What waits is written first: an archive does not wait for input.
-fn written(fd: i32, buf: &mut [u8], out: &mut [u8], d: Archive, lacks: usize) -> Archive {
-    let w = flush(&*out, d);
-    if w.state == LOST {
-        return w;
-    }
-    more(fd, &mut *buf, &mut *out, w, lacks)
-}
-
-fn not_put(fd: i32, buf: &mut [u8], out: &mut [u8], d: Archive, e: Error, taken: usize) -> Archive {
-    let lacks = lacking(d.state, e);
-    if 0 < lacks {
-        return written(fd, &mut *buf, &mut *out, d, lacks);
-    }
-    if is_full(d.put, e) {
-        return flush(&*out, d);
-    }
-    refused(d, e, taken)
 }
 
 // Into the output from index `at` on.
@@ -213,24 +135,128 @@ fn tidy_at(s: &[u8], out: &mut [u8], at: usize) -> Tidied {
     tidy(s, &mut out[at..])
 }
 
-// One frame, one write or one read.
-fn turn(fd: i32, buf: &mut [u8], out: &mut [u8], d: Archive) -> Archive {
-    let s = string::part(&*buf, d.held);
-    match tidy_at(s, &mut *out, d.put) {
-        Tidied::Put(size, taken) => tidied(d, size, taken),
-        Tidied::Refused(e, taken) => not_put(fd, &mut *buf, &mut *out, d, e, taken),
+fn frame(buf: &[u8], out: &mut [u8], d: Archive) -> Archive {
+    let t = tidy_at(string::part(buf, held(d)), &mut *out, d.waits);
+    judged(d, t)
+}
+
+// ---- input and output
+
+// What is wanted once nothing waits.
+fn still(wants: usize) -> usize {
+    if wants == ROOM {
+        return 0;
     }
+    wants
+}
+
+// Writes what waits.
+fn written(out: &[u8], mut d: Archive) -> Archive {
+    let waits = Span {
+        start: 0,
+        len: d.waits,
+    };
+    d.waits = 0;
+    d.wants = still(d.wants);
+    if !io::write_all(libc::STDOUT_FILENO, string::part(out, waits)) {
+        d.state = LOST;
+        d.wants = 0;
+    }
+    d
+}
+
+// The same where something is wanted: an archive does not wait for input.
+fn ready(out: &[u8], d: Archive) -> Archive {
+    if d.wants == 0 {
+        return d;
+    }
+    written(out, d)
+}
+
+// The part at a place to the front of another slice.
+fn copy(to: &mut [u8], from: &[u8], start: usize, len: usize) {
+    put_bytes(&mut *to, 0, string::part(from, Span { start, len }));
+}
+
+// Where the held bytes stand, with room behind them if they are fewer than the buffer's: they go to the front by way of the output, in which
+// nothing waits.
+fn with_room(buf: &mut [u8], out: &mut [u8], start: usize, len: usize) -> usize {
+    if std::num::wrapping_add_usize(start, len) < buf.len() {
+        return start;
+    }
+    copy(&mut *out, &*buf, start, len);
+    copy(&mut *buf, &*out, 0, len);
+    0
+}
+
+// Reads once from index `from` on; -1 where there is no such index, or the input cannot be read.
+fn read_from(fd: i32, buf: &mut [u8], from: usize) -> isize {
+    if buf.len() < from {
+        return -1;
+    }
+    libc::read(fd, &mut buf[from..])
+}
+
+fn state_read(state: u8, got: isize) -> u8 {
+    if got == 0 {
+        return ENDED;
+    }
+    if got < 0 {
+        return UNREADABLE;
+    }
+    state
+}
+
+// A read gave n bytes more.
+fn filled(mut d: Archive, got: isize, n: usize) -> Archive {
+    d.len = std::num::wrapping_add_usize(d.len, n);
+    d.state = state_read(d.state, got);
+    d.wants = 0;
+    d
+}
+
+// Reads once behind what is held.
+fn fill(fd: i32, buf: &mut [u8], d: Archive) -> Archive {
+    let got = read_from(fd, &mut *buf, std::num::wrapping_add_usize(d.start, d.len));
+    filled(d, got, io::count(got, &*buf))
+}
+
+fn too_long(mut d: Archive) -> Archive {
+    tell::too_long(d.offset, add(d.len as u64, d.wants), 1048576);
+    d.state = STOPPED;
+    d
+}
+
+// More of the stream, if more is wanted; then nothing waits in the output.
+fn more(fd: i32, buf: &mut [u8], out: &mut [u8], mut d: Archive) -> Archive {
+    if d.wants == 0 {
+        return d;
+    }
+    d.start = with_room(&mut *buf, &mut *out, d.start, d.len);
+    if buf.len() <= d.len {
+        return too_long(d);
+    }
+    fill(fd, &mut *buf, d)
+}
+
+// ---- the stream
+
+// One frame, or one write, or one read with a write before it.
+fn turn(fd: i32, buf: &mut [u8], out: &mut [u8], d: Archive) -> Archive {
+    let next = frame(&*buf, &mut *out, d);
+    let w = ready(&*out, next);
+    more(fd, &mut *buf, &mut *out, w)
 }
 
 // A proved loop has to end, and nothing says that a stream does. So the loop counts its turns down, from a number that no run uses up.
 fn read_all(fd: i32, buf: &mut [u8], out: &mut [u8]) -> Archive {
     let mut d = Archive {
-        held: Span { start: 0, len: 0 },
-        put: 0,
+        start: 0,
+        len: 0,
+        waits: 0,
+        wants: 0,
         offset: 0,
-        frames: 0,
         refused: 0,
-        size: 0,
         state: GOING,
     };
     let mut turns: u64 = 18446744073709551615;
@@ -244,27 +270,39 @@ fn read_all(fd: i32, buf: &mut [u8], out: &mut [u8]) -> Archive {
     d
 }
 
-// What came of the stream, and the exit status.
-fn told(d: Archive) -> u8 {
-    tell::summary(d.frames, d.refused, d.offset, d.size);
-    if 0 < d.refused {
-        tell::lacks(d.refused);
-    }
+// Was the stream read to its end, and nothing of it refused?
+fn is_whole(d: Archive) -> bool {
     if d.state == DONE {
+        return d.refused == 0;
+    }
+    false
+}
+
+// Why it was not read or written to its end, where that is so.
+fn explain(state: u8, name: &[u8]) {
+    if state == LOST {
+        tell::fail(b"standard output");
+    }
+    if state == UNREADABLE {
+        tell::fail(name);
+    }
+}
+
+fn status(state: u8) -> u8 {
+    if state == DONE {
         return 0;
     }
-    tell::ends(d.offset);
     1
 }
 
-// Writes what waits, then what came of the stream.
-fn finish(out: &[u8], d: Archive) -> u8 {
-    let w = flush(out, d);
-    if w.state == LOST {
-        tell::fail(b"standard output");
-        return 1;
+// What came of the stream; gives the exit status.
+fn told(d: Archive, name: &[u8]) -> u8 {
+    explain(d.state, name);
+    tell::summary(d.refused, d.offset);
+    if !is_whole(d) {
+        tell::not_whole();
     }
-    told(w)
+    status(d.state)
 }
 
 // Reads the stream to its end, or to where it stops; gives the exit status.
@@ -272,8 +310,5 @@ pub fn read(fd: i32, name: &[u8]) -> u8 {
     let mut buf = buffer();
     let mut out = buffer();
     let d = read_all(fd, &mut buf, &mut out);
-    if d.state == UNREADABLE {
-        tell::fail(name);
-    }
-    finish(&out, d)
+    told(written(&out, d), name)
 }

@@ -37,29 +37,13 @@ pub fn too_long(offset: u64, size: u64, most: u64) {
     line(&out, len);
 }
 
-// What was read and put in all.
-pub fn summary(frames: u64, refused: u64, bytes: u64, put: u64) {
-    number(b"desk: tidy=", frames);
-    number(b" refused=", refused);
+// How many frames were refused, and how many bytes of the stream are behind.
+pub fn summary(refused: u64, bytes: u64) {
+    number(b"desk: refused=", refused);
     number(b" bytes=", bytes);
-    number(b" put=", put);
     words(b"\n");
 }
 
-// The archive lacks frames of the stream.
-pub fn lacks(refused: u64) {
-    number(
-        b"desk: the stream was cut or damaged: refused and left out of the archive: ",
-        refused,
-    );
-    words(b"\n");
-}
-
-// The archive ends before the stream does.
-pub fn ends(offset: u64) {
-    number(
-        b"desk: the stream was not read to its end: the archive ends with what came before offset ",
-        offset,
-    );
-    words(b"\n");
+pub fn not_whole() {
+    words(b"desk: cut or damaged: the archive has not the whole stream\n");
 }
