@@ -48,13 +48,6 @@ fn add(a: u64, b: usize) -> u64 {
     std::num::wrapping_add_u64(a, b as u64)
 }
 
-fn held(d: Archive) -> Span {
-    Span {
-        start: d.start,
-        len: d.len,
-    }
-}
-
 // ---- a frame
 
 // A frame of so many bytes is behind.
@@ -136,7 +129,11 @@ fn tidy_at(s: &[u8], out: &mut [u8], at: usize) -> Tidied {
 }
 
 fn frame(buf: &[u8], out: &mut [u8], d: Archive) -> Archive {
-    let t = tidy_at(string::part(buf, held(d)), &mut *out, d.waits);
+    let held = Span {
+        start: d.start,
+        len: d.len,
+    };
+    let t = tidy_at(string::part(buf, held), &mut *out, d.waits);
     judged(d, t)
 }
 
@@ -178,23 +175,12 @@ fn copy(to: &mut [u8], from: &[u8], start: usize, len: usize) {
     put_bytes(&mut *to, 0, string::part(from, Span { start, len }));
 }
 
-// Where the held bytes stand, with room behind them if they are fewer than the buffer's: they go to the front by way of the output, in which
-// nothing waits.
-fn with_room(buf: &mut [u8], out: &mut [u8], start: usize, len: usize) -> usize {
-    if std::num::wrapping_add_usize(start, len) < buf.len() {
-        return start;
-    }
-    copy(&mut *out, &*buf, start, len);
-    copy(&mut *buf, &*out, 0, len);
-    0
-}
-
-// Reads once from index `from` on; -1 where there is no such index, or the input cannot be read.
-fn read_from(fd: i32, buf: &mut [u8], from: usize) -> isize {
-    if buf.len() < from {
-        return -1;
-    }
-    libc::read(fd, &mut buf[from..])
+// What is held to the front of the buffer, by way of the output, in which nothing waits.
+fn to_front(buf: &mut [u8], out: &mut [u8], mut d: Archive) -> Archive {
+    copy(&mut *out, &*buf, d.start, d.len);
+    copy(&mut *buf, &*out, 0, d.len);
+    d.start = 0;
+    d
 }
 
 fn state_read(state: u8, got: isize) -> u8 {
@@ -215,41 +201,42 @@ fn filled(mut d: Archive, got: isize, n: usize) -> Archive {
     d
 }
 
-// Reads once behind what is held.
-fn fill(fd: i32, buf: &mut [u8], d: Archive) -> Archive {
-    let got = read_from(fd, &mut *buf, std::num::wrapping_add_usize(d.start, d.len));
-    filled(d, got, io::count(got, &*buf))
-}
-
 fn too_long(mut d: Archive) -> Archive {
     tell::too_long(d.offset, add(d.len as u64, d.wants), 1048576);
     d.state = STOPPED;
     d
 }
 
+// Reads once behind what is held, which stands at the front.
+fn fill(buf: &mut [u8], d: Archive) -> Archive {
+    let from = d.len;
+    if buf.len() <= from {
+        return too_long(d);
+    }
+    let got = libc::read(libc::STDIN_FILENO, &mut buf[from..]);
+    filled(d, got, io::count(got, &*buf))
+}
+
 // More of the stream, if more is wanted; then nothing waits in the output.
-fn more(fd: i32, buf: &mut [u8], out: &mut [u8], mut d: Archive) -> Archive {
+fn more(buf: &mut [u8], out: &mut [u8], d: Archive) -> Archive {
     if d.wants == 0 {
         return d;
     }
-    d.start = with_room(&mut *buf, &mut *out, d.start, d.len);
-    if buf.len() <= d.len {
-        return too_long(d);
-    }
-    fill(fd, &mut *buf, d)
+    let front = to_front(&mut *buf, &mut *out, d);
+    fill(&mut *buf, front)
 }
 
 // ---- the stream
 
 // One frame, or one write, or one read with a write before it.
-fn turn(fd: i32, buf: &mut [u8], out: &mut [u8], d: Archive) -> Archive {
+fn turn(buf: &mut [u8], out: &mut [u8], d: Archive) -> Archive {
     let next = frame(&*buf, &mut *out, d);
     let w = ready(&*out, next);
-    more(fd, &mut *buf, &mut *out, w)
+    more(&mut *buf, &mut *out, w)
 }
 
 // A proved loop has to end, and nothing says that a stream does. So the loop counts its turns down, from a number that no run uses up.
-fn read_all(fd: i32, buf: &mut [u8], out: &mut [u8]) -> Archive {
+fn read_all(buf: &mut [u8], out: &mut [u8]) -> Archive {
     let mut d = Archive {
         start: 0,
         len: 0,
@@ -261,7 +248,7 @@ fn read_all(fd: i32, buf: &mut [u8], out: &mut [u8]) -> Archive {
     };
     let mut turns: u64 = 18446744073709551615;
     while 0 < turns {
-        d = turn(fd, &mut *buf, &mut *out, d);
+        d = turn(&mut *buf, &mut *out, d);
         if ENDED < d.state {
             return d;
         }
@@ -270,45 +257,30 @@ fn read_all(fd: i32, buf: &mut [u8], out: &mut [u8]) -> Archive {
     d
 }
 
-// Was the stream read to its end, and nothing of it refused?
-fn is_whole(d: Archive) -> bool {
-    if d.state == DONE {
-        return d.refused == 0;
-    }
-    false
-}
-
 // Why it was not read or written to its end, where that is so.
-fn explain(state: u8, name: &[u8]) {
+fn explain(state: u8) {
     if state == LOST {
         tell::fail(b"standard output");
     }
     if state == UNREADABLE {
-        tell::fail(name);
+        tell::fail(b"standard input");
     }
-}
-
-fn status(state: u8) -> u8 {
-    if state == DONE {
-        return 0;
-    }
-    1
 }
 
 // What came of the stream; gives the exit status.
-fn told(d: Archive, name: &[u8]) -> u8 {
-    explain(d.state, name);
+fn told(d: Archive) -> u8 {
+    explain(d.state);
     tell::summary(d.refused, d.offset);
-    if !is_whole(d) {
+    if d.state != DONE || 0 < d.refused {
         tell::not_whole();
     }
-    status(d.state)
+    (d.state != DONE) as u8
 }
 
 // Reads the stream to its end, or to where it stops; gives the exit status.
-pub fn read(fd: i32, name: &[u8]) -> u8 {
+pub fn read() -> u8 {
     let mut buf = buffer();
     let mut out = buffer();
-    let d = read_all(fd, &mut buf, &mut out);
-    told(written(&out, d), name)
+    let d = read_all(&mut buf, &mut out);
+    told(written(&out, d))
 }

@@ -6,10 +6,10 @@ use Rattle.tidy_stream.proofs.archive.read_all.Statement.{statement}
 use Rattle.tidy_stream.proofs.archive.read_all.Tie as tie
 
 abbrev Inv-loop : tie.InvT-loop
-Inv-loop fd buf₀ out₀ d₀ turns₀ buf out d turns = (length buf ≡ length buf₀) × (length out ≡ length out₀)
+Inv-loop buf₀ out₀ d₀ turns₀ buf out d turns = (length buf ≡ length buf₀) × (length out ≡ length out₀)
 
 abbrev μ-loop : tie.MeasureT-loop
-μ-loop fd buf₀ out₀ d₀ turns₀ buf out d turns = turns
+μ-loop buf₀ out₀ d₀ turns₀ buf out d turns = turns
 
 loop-holds : tie.Need-loop-holds Inv-loop μ-loop
 loop-holds c = search needs
