@@ -607,10 +607,10 @@ uint32_t ecch_journal_save(const uint8_t *table, size_t table_len, uint8_t *area
    table. 32 for a bad area, and 39 if `table` has fewer bytes: it is left as it was. */
 uint32_t ecch_journal_recover(const uint8_t *area, size_t area_len, uint8_t *table, size_t table_len, uint64_t *answer, size_t answer_len);
 
-/* ---- the tidy form of a frame, for an archive (P14 of 02; crate c_tidy): the frame as ecch_*_write would put the record that ecch_read gives. It
- * reads as the same record, tidied again it stays, and two frames have the same tidy form exactly when their records are the same (of the reasons
- * of an acknowledgement and of where in its stream a part stands see docs/PROMISES.md). It has as many bytes as the frame at most, but for an
- * acknowledgement of five bytes with a reason other than success, which becomes six. */
+/* ---- the tidy form of a frame, for an archive (P14 of 02; crate c_tidy): the frame as it would be written from the record that ecch_read gives.
+ * It reads as the same record, and tidied again it stays; two frames have the same tidy form exactly when their records say the same, wherever
+ * in a stream they stand. It has as many bytes as the frame at most, but for an acknowledgement of five bytes with a reason other than
+ * success, which becomes six. */
 
 /* `answer` of ecch_tidy. */
 enum ecch_tidy_layout {

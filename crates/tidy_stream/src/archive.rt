@@ -63,14 +63,6 @@ fn tidied(mut d: Archive, size: usize, taken: usize) -> Archive {
     passed(d, taken)
 }
 
-// A refusal that took nothing is the last.
-fn state_after(state: u8, taken: usize) -> u8 {
-    if taken == 0 {
-        return STOPPED;
-    }
-    state
-}
-
 // A refusal; that of no byte at all is the end of the stream.
 fn refused(mut d: Archive, e: Error, taken: usize) -> Archive {
     if d.len == 0 {
@@ -79,7 +71,9 @@ fn refused(mut d: Archive, e: Error, taken: usize) -> Archive {
     }
     tell::refused(d.offset, e, taken);
     d.refused = add(d.refused, 1);
-    d.state = state_after(d.state, taken);
+    if taken == 0 {
+        d.state = STOPPED;
+    }
     passed(d, taken)
 }
 
@@ -139,14 +133,6 @@ fn frame(buf: &[u8], out: &mut [u8], d: Archive) -> Archive {
 
 // ---- input and output
 
-// What is wanted once nothing waits.
-fn still(wants: usize) -> usize {
-    if wants == ROOM {
-        return 0;
-    }
-    wants
-}
-
 // Writes what waits.
 fn written(out: &[u8], mut d: Archive) -> Archive {
     let waits = Span {
@@ -154,7 +140,9 @@ fn written(out: &[u8], mut d: Archive) -> Archive {
         len: d.waits,
     };
     d.waits = 0;
-    d.wants = still(d.wants);
+    if d.wants == ROOM {
+        d.wants = 0;
+    }
     if !io::write_all(libc::STDOUT_FILENO, string::part(out, waits)) {
         d.state = LOST;
         d.wants = 0;
@@ -183,21 +171,16 @@ fn to_front(buf: &mut [u8], out: &mut [u8], mut d: Archive) -> Archive {
     d
 }
 
-fn state_read(state: u8, got: isize) -> u8 {
-    if got == 0 {
-        return ENDED;
-    }
-    if got < 0 {
-        return UNREADABLE;
-    }
-    state
-}
-
 // A read gave n bytes more.
 fn filled(mut d: Archive, got: isize, n: usize) -> Archive {
     d.len = std::num::wrapping_add_usize(d.len, n);
-    d.state = state_read(d.state, got);
     d.wants = 0;
+    if got == 0 {
+        d.state = ENDED;
+    }
+    if got < 0 {
+        d.state = UNREADABLE;
+    }
     d
 }
 
