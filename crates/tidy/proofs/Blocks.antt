@@ -32,7 +32,7 @@ abbrev allSize : Forms → List Prop → ℕ
 allSize rs ps = total (λ r. weigh (r .1) (allOf (r .0) ps)) rs
 
 -- no identifier stands twice in a place
-abbrev others : ℕ → Forms → Bool
+abbrev pub others : ℕ → Forms → Bool
 others i rs = all (λ s. not (eqb i (s .0))) rs
 
 abbrev pub Distinct : Forms → Type 0

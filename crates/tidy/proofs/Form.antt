@@ -73,7 +73,7 @@ is-false : (t : Bool) → not t ≡ true → t ≡ false
 is-false true e = absurd (false≢true e)
 is-false false e = refl
 
-ident-form : (q i : ℕ) (b : List ℕ) → Ident q i b → Octets b → b ≡ identBytes q i
+pub ident-form : (q i : ℕ) (b : List ℕ) → Ident q i b → Octets b → b ≡ identBytes q i
 unfolding value numeral
 ident-form zero _ _ nothing o = refl
 ident-form (suc q) i b (only t k) o = rw (eqb·suc-zero q, is-false (eqb i 0) t) (value-once u16 (num i) b (mapped k) o)
@@ -87,12 +87,12 @@ three (k, aReply rs) = true
 three (k, anUnsubscribe) = true
 three (k, aPing) = true
 
-publish-three : (k : ℕ) → lookup kinds k ≡ some aPublish → k ≡ 3
+pub publish-three : (k : ℕ) → lookup kinds k ≡ some aPublish → k ≡ 3
 unfolding kinds
 publish-three k e = eqb-true k 3 (lookup-each (λ r. three r ≡ true) (all-when three (λ r. (λ e. e, λ e. e)) kinds .0 refl) k aPublish e)
 
 -- and its flags are all that is left of the first byte
-first-again : (x : ℕ) → kindOf x ≡ 3 → x ≡ 0x30 + (8 * flagDup x + (2 * flagQos x + flagRetain x))
+pub first-again : (x : ℕ) → kindOf x ≡ 3 → x ≡ 0x30 + (8 * flagDup x + (2 * flagQos x + flagRetain x))
 first-again x e =
     let a : x / 8 / 2 ≡ 3 = omega arith in
     let b : x / 2 / 4 ≡ x / 8 = omega arith in
@@ -107,7 +107,7 @@ record Filled (m : Publish (List ℕ) List) (x : ℕ) (b : List ℕ) : Type 0 wh
   bytes : b ≡ bodyOf m order
 
 -- another record than a Publish
-never : {X : Type 0} → _≡_ {A = ℕ} 0 1 → X
+pub never : {X : Type 0} → _≡_ {A = ℕ} 0 1 → X
 never z = absurd (omega arith)
 
 fields-form : (l : Layout) (x : ℕ) → lookup kinds (kindOf x) ≡ some l → (v : Packet) (b : List ℕ) → Fields l x v b → Octets b → (m : Publish (List ℕ) List) → v ≡ g.publish m → Filled m x b

@@ -71,11 +71,11 @@ fitting h c i n s = record { countable = c; within = tt; named = i; numbers = n;
 -- ---- Publish
 
 module _ (p : Publish (List ℕ) List) (ps : List Prop) (ss : Each (SuitsIn publishPlace) ps) where
-  abbrev publishIt : PublishHanded
+  abbrev pub publishIt : PublishHanded
   publishIt = publishFrom p (not (isEmpty ps)) (publishProps (List ℕ) List asList ps)
 
   -- what each row says
-  record PublishSet : Type 0 where
+  pub record PublishSet : Type 0 where
     format : Perhaps (Suits u8) (lastOf 1 ps)
     expiry : Perhaps (Suits u32) (lastOf 2 ps)
     alias : Perhaps (Suits u16) (lastOf 35 ps)
@@ -85,7 +85,7 @@ module _ (p : Publish (List ℕ) List) (ps : List Prop) (ss : Each (SuitsIn publ
     subscriptions : Each (Suits number) (allOf 11 ps)
     content : Perhaps (Suits text) (lastOf 3 ps)
 
-  publish-rows-say : PublishSet
+  pub publish-rows-say : PublishSet
   unfolding publishPlace
   publish-rows-say = record {
     format = last-suits publishPlace 1 u8 refl ss;
@@ -98,7 +98,7 @@ module _ (p : Publish (List ℕ) List) (ps : List Prop) (ss : Each (SuitsIn publ
     content = last-suits publishPlace 3 text refl ss;
   }
 
-  publish-rows : PublishSet → Each (λ r. RowGiven (r .0) (r .1) ps (publishGiven publishIt (r .0))) (publishPlace .row)
+  pub publish-rows : PublishSet → Each (λ r. RowGiven (r .0) (r .1) ps (publishGiven publishIt (r .0))) (publishPlace .row)
   unfolding publishPlace publishGiven publishProps
   publish-rows w = rows-of (λ r. RowGiven (r .0) (r .1) ps (publishGiven publishIt (r .0))) (publishPlace .row)
       (row-one 1 u8 ps (num-back _ u8-num (w .format) .1)
@@ -124,11 +124,11 @@ module _ (p : Publish (List ℕ) List) (ps : List Prop) (ss : Each (SuitsIn publ
     str-back text-str (w .content) .2,
   )
 
-publish-distinct : Distinct (publishPlace .row)
+pub publish-distinct : Distinct (publishPlace .row)
 unfolding publishPlace
 publish-distinct = (refl, (refl, (refl, (refl, (refl, (refl, (refl, (refl, tt))))))))
 
-publish-none : publishProps (List ℕ) List asList [] ≡ noPublish
+pub publish-none : publishProps (List ℕ) List asList [] ≡ noPublish
 unfolding publishProps lastOf allOf
 publish-none = refl
 
@@ -168,10 +168,10 @@ publish-good p w =
 -- ---- acknowledgements
 
 -- what is handed over for 31 and for 38
-abbrev textIt : List Prop → Lent
+abbrev pub textIt : List Prop → Lent
 textIt ps = lentIn (lastOf 31 ps)
 
-abbrev userIt : List Prop → Run
+abbrev pub userIt : List Prop → Run
 userIt ps = runOf (stringsIn (allOf 38 ps))
 
 -- the row of every acknowledgement
@@ -184,7 +184,7 @@ module _ (ps : List Prop) (ss : Each (SuitsIn ackPlace) ps) where
   unfolding ackPlace
   ack-user = all-suits ackPlace 38 pair refl ss
 
-  ack-rows : Each (λ r. RowGiven (r .0) (r .1) ps (ackGiven (textIt ps) (userIt ps) (r .0))) (ackPlace .row)
+  pub ack-rows : Each (λ r. RowGiven (r .0) (r .1) ps (ackGiven (textIt ps) (userIt ps) (r .0))) (ackPlace .row)
   unfolding ackPlace ackGiven
   ack-rows = rows-of (λ r. RowGiven (r .0) (r .1) ps (ackGiven (textIt ps) (userIt ps) (r .0))) (ackPlace .row)
       (row-lent 31 text ps (str-back text-str ack-text .1) (str-back text-str ack-text .2)
@@ -199,14 +199,14 @@ module _ (ps : List Prop) (ss : Each (SuitsIn ackPlace) ps) where
   unfolding propsOf
   ack-set-back = rw (str-back text-str ack-text .2, ack-no-ident, users-back ack-user)
 
-abbrev ackIt : Ack (List ℕ) List → List Prop → AckHanded
+abbrev pub ackIt : Ack (List ℕ) List → List Prop → AckHanded
 ackIt p ps = ackFrom p (not (isEmpty ps)) (propsOf (List ℕ) List asList ps)
 
-ack-distinct : Distinct (ackPlace .row)
+pub ack-distinct : Distinct (ackPlace .row)
 unfolding ackPlace
 ack-distinct = (refl, (refl, tt))
 
-props-none : propsOf (List ℕ) List asList [] ≡ noProps
+pub props-none : propsOf (List ℕ) List asList [] ≡ noProps
 unfolding propsOf lastOf allOf
 props-none = refl
 
@@ -240,7 +240,7 @@ ack-good k p w =
 
 -- ---- replies
 
-abbrev replyIt : Reply (List ℕ) List → List Prop → ReplyHanded
+abbrev pub replyIt : Reply (List ℕ) List → List Prop → ReplyHanded
 replyIt p ps = replyFrom p (not (isEmpty ps)) (propsOf (List ℕ) List asList ps)
 
 reasons-sound : (rs : List ℕ) {cs : List ℕ} → Each (ReasonSaid rs) cs → Each Writable (map (code rs) cs)
@@ -290,7 +290,7 @@ module _ (ps : List Prop) (ss : Each (SuitsIn unsubscribePlace) ps) where
   unfolding unsubscribePlace
   unsubscribe-user = all-suits unsubscribePlace 38 pair refl ss
 
-  unsubscribe-rows : Each (λ r. RowGiven (r .0) (r .1) ps (unsubscribeGiven (userIt ps) (r .0))) (unsubscribePlace .row)
+  pub unsubscribe-rows : Each (λ r. RowGiven (r .0) (r .1) ps (unsubscribeGiven (userIt ps) (r .0))) (unsubscribePlace .row)
   unfolding unsubscribePlace unsubscribeGiven
   unsubscribe-rows = rows-of (λ r. RowGiven (r .0) (r .1) ps (unsubscribeGiven (userIt ps) (r .0))) (unsubscribePlace .row) (row-pairs 38 ps unsubscribe-user & nil)
 
@@ -302,11 +302,11 @@ module _ (ps : List Prop) (ss : Each (SuitsIn unsubscribePlace) ps) where
   unfolding propsOf
   unsubscribe-set-back = rw (unsubscribe-nothing .0, unsubscribe-nothing .1, users-back unsubscribe-user)
 
-unsubscribe-distinct : Distinct (unsubscribePlace .row)
+pub unsubscribe-distinct : Distinct (unsubscribePlace .row)
 unfolding unsubscribePlace
 unsubscribe-distinct = (refl, tt)
 
-abbrev unsubscribeIt : Unsubscribe (List ℕ) List → List Prop → UnsubscribeHanded
+abbrev pub unsubscribeIt : Unsubscribe (List ℕ) List → List Prop → UnsubscribeHanded
 unsubscribeIt p ps = unsubscribeFrom p (not (isEmpty ps)) (propsOf (List ℕ) List asList ps)
 
 -- the topics that are handed over
@@ -351,7 +351,7 @@ unsubscribe-good p w =
 -- ---- Subscribe
 
 module _ (p : Subscribe (List ℕ) List) (ps : List Prop) (ss : Each (SuitsIn subscribePlace) ps) where
-  abbrev subscribeIt : SubscribeHanded
+  abbrev pub subscribeIt : SubscribeHanded
   subscribeIt = subscribeFrom p (not (isEmpty ps)) (propsOf (List ℕ) List asList ps)
 
   subscribe-ident : Perhaps (Suits number) (lastOf 11 ps)
@@ -362,7 +362,7 @@ module _ (p : Subscribe (List ℕ) List) (ps : List Prop) (ss : Each (SuitsIn su
   unfolding subscribePlace
   subscribe-user = all-suits subscribePlace 38 pair refl ss
 
-  subscribe-rows : Each (λ r. RowGiven (r .0) (r .1) ps (subscribeGiven subscribeIt (r .0))) (subscribePlace .row)
+  pub subscribe-rows : Each (λ r. RowGiven (r .0) (r .1) ps (subscribeGiven subscribeIt (r .0))) (subscribePlace .row)
   unfolding subscribePlace subscribeGiven propsOf
   subscribe-rows = rows-of (λ r. RowGiven (r .0) (r .1) ps (subscribeGiven subscribeIt (r .0))) (subscribePlace .row)
       (row-one 11 number ps (num-back Fine number-num subscribe-ident .1)
@@ -377,7 +377,7 @@ module _ (p : Subscribe (List ℕ) List) (ps : List Prop) (ss : Each (SuitsIn su
   unfolding propsOf
   subscribe-set-back = rw (subscribe-no-reason, num-back Fine number-num subscribe-ident .1, users-back subscribe-user)
 
-subscribe-distinct : Distinct (subscribePlace .row)
+pub subscribe-distinct : Distinct (subscribePlace .row)
 unfolding subscribePlace
 subscribe-distinct = (refl, (refl, tt))
 
@@ -391,7 +391,7 @@ bits-4 o = omega arith
 bits-6 : (o : ℕ) → o % 16 + 16 * (o / 16 % 4) ≡ o % 64
 bits-6 o = omega arith
 
-options-back : (s : List ℕ) (o : ℕ) → optionsByte (mkFilter (s, o)) ≡ o % 64
+pub options-back : (s : List ℕ) (o : ℕ) → optionsByte (mkFilter (s, o)) ≡ o % 64
 options-back s o = rw (bits-3 o, bits-4 o, bits-6 o)
 
 options-are : (f : Filter (List ℕ)) (w : FilterSaid f) → optionsByte f ≡ w .options % 64
@@ -407,7 +407,7 @@ filter-sound f w =
     let q : qosFine (optionsByte f) ≡ true = rw (e, low-qos (w .options)) (w .qos) in
     (w .path, w .text, r, q)
 
-abbrev pathsOf : List (Filter (List ℕ)) → List (List ℕ)
+abbrev pub pathsOf : List (Filter (List ℕ)) → List (List ℕ)
 pathsOf fs = map (λ f. f .path) fs
 
 -- the filters that are handed over

@@ -97,7 +97,7 @@ sizeBy (some f) v = suc (length (value f v))
 abbrev pub propSize : Forms → Prop → ℕ
 propSize row p = sizeBy (lookup row (p .0)) (p .1)
 
-has-property : (place : Place) → Has (Property place) (λ p n. SuitsIn place p × (propSize (place .row) p ≤ n))
+pub has-property : (place : Place) → Has (Property place) (λ p n. SuitsIn place p × (propSize (place .row) p ≤ n))
 has-property place _ _ (property {f = f} {v = v} {b = b} e g) o = let (s, l) = has-value f v b g (each-tail o) in ((f, (e, s)), rw e (omega arith))
 
 -- the properties that a block comes from

@@ -5,4 +5,6 @@ pub mod Blocks
 pub mod Good
 pub mod Tidy
 pub mod Form
+pub mod Order
+pub mod Layouts
 pub mod Worked

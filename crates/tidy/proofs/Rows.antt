@@ -147,12 +147,20 @@ last-none i (p ∷ ps) o e = go (eqb (p .0) i) (last-none i ps (cond (eqb (p .0)
 
 -- ---- a row handed over
 
+-- several may be handed over
+abbrev pub many : Given → Bool
+many (one m) = false
+many (lent l) = false
+many (pairs r) = true
+many (several ns) = true
+
 pub record RowGiven (i : ℕ) (f : Form) (ps : List Prop) (g : Given) : Type 0 where
   pub sorted : Sorted g
   pub sound : Each Writable (givenFields f g)
   pub light : givenSize f g ≤ weigh f (allOf i ps)
   pub whole : items g ≡ [] → allOf i ps ≡ []
   pub empty : ps ≡ [] → NothingGiven g
+  pub again : (many g ≡ false → orNone (lastOf i ps) ≡ allOf i ps) → items g ≡ allOf i ps
 
 -- a row whose items are the last value
 module _ (i : ℕ) (f : Form) (ps : List Prop) (g : Given) (s : Sorted g) (q : items g ≡ orNone (lastOf i ps)) where
@@ -177,7 +185,7 @@ unfolding lastOf
 row-one i f ps e =
     let g : Given = one (numIn (lastOf i ps)) in
     let q : items g ≡ orNone (lastOf i ps) = one-items (numIn (lastOf i ps)) ∙ ap orNone e in
-    record { sorted = tt; sound = nil; light = last-lighter i f ps g tt q; whole = last-whole i f ps g tt q; empty = λ z. ap (λ (l : List Prop). numIn (lastOf i l)) z }
+    record { sorted = tt; sound = nil; light = last-lighter i f ps g tt q; whole = last-whole i f ps g tt q; empty = λ z. ap (λ (l : List Prop). numIn (lastOf i l)) z; again = λ h. q ∙ h refl }
 
 lent-sorted : (o : Option Value) → Sorted (lent (lentIn o))
 lent-sorted none e = refl
@@ -197,7 +205,7 @@ row-lent i f ps w e =
     let g : Given = lent (lentIn (lastOf i ps)) in
     let s = lent-sorted (lastOf i ps) in
     let q = lent-items (lastOf i ps) e in
-    record { sorted = s; sound = w; light = last-lighter i f ps g s q; whole = last-whole i f ps g s q; empty = λ z. rw z (refl, refl) }
+    record { sorted = s; sound = w; light = last-lighter i f ps g s q; whole = last-whole i f ps g s q; empty = λ z. rw z (refl, refl); again = λ h. q ∙ h refl }
 
 pub row-pairs : (i : ℕ) (ps : List Prop) → Each (Suits pair) (allOf i ps) → RowGiven i pair ps (pairs (runOf (stringsIn (allOf i ps))))
 unfolding allOf
@@ -212,6 +220,7 @@ row-pairs i ps w =
       light = omega (arith, weigh-given pair g s, ap (weigh pair) q);
       whole = λ e. sym q ∙ e;
       empty = λ z. rw z (refl, refl);
+      again = λ h. q;
     }
 
 pub row-several : (i : ℕ) (ps : List Prop) → Each (Suits number) (allOf i ps) → RowGiven i number ps (several (numsIn (allOf i ps)))
@@ -219,4 +228,4 @@ unfolding allOf
 row-several i ps w =
     let g : Given = several (numsIn (allOf i ps)) in
     let q : items g ≡ allOf i ps = numbers-back w .1 in
-    record { sorted = tt; sound = nil; light = omega (arith, weigh-given number g tt, ap (weigh number) q); whole = λ e. sym q ∙ e; empty = λ z. rw z }
+    record { sorted = tt; sound = nil; light = omega (arith, weigh-given number g tt, ap (weigh number) q); whole = λ e. sym q ∙ e; empty = λ z. rw z; again = λ h. q }

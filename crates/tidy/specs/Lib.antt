@@ -1,2 +1,3 @@
 pub mod Tidy
 pub mod Form
+pub mod Order

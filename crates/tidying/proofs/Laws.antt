@@ -1,0 +1,4 @@
+pub mod Pass
+pub mod Order
+pub mod Put
+pub mod Frame

@@ -1,0 +1,3 @@
+pub mod Tidied
+pub mod Copied
+pub mod Way
