@@ -632,6 +632,25 @@ uint32_t ecch_journal_save(const uint8_t *table, size_t table_len, uint8_t *area
    table. 32 for a bad area, and 39 if `table` has fewer bytes: it is left as it was. */
 uint32_t ecch_journal_recover(const uint8_t *area, size_t area_len, uint8_t *table, size_t table_len, uint64_t *answer, size_t answer_len);
 
+/* ---- the tidy form of a frame, for an archive (P14 of 02; crate c_tidy): the frame as it would be written from the record that ecch_read gives.
+ * It reads as the same record, and tidied again it stays; two frames have the same tidy form exactly when their records say the same, wherever
+ * in a stream they stand. It has as many bytes as the frame at most, but for an acknowledgement of five bytes with a reason other than
+ * success, which becomes six. */
+
+/* `answer` of ecch_tidy. */
+enum ecch_tidy_layout {
+    ECCH_TIDY_SIZE = 0,    /* bytes that were put; 0 if refused */
+    ECCH_TIDY_VALUE_1 = 1, /* the refusal's values */
+    ECCH_TIDY_VALUE_2 = 2,
+    ECCH_TIDY_TAKEN = 3, /* bytes of the stream used up, by a frame or by a refusal; 0 with 19 */
+    ECCH_TIDY_NUMBERS = 4
+};
+
+/* The tidy form of the frame at the start of the stream: 0, or the refusal's number: those of ecch_read with no limit (1, 2, 4 to 15, 22, 23), then
+ * 19 with the size if `out` is shorter than that. A refused call leaves every byte of `out` as it stood; an accepted one sets the first
+ * ECCH_TIDY_SIZE bytes and keeps the rest. */
+uint32_t ecch_tidy(const uint8_t *stream, size_t stream_len, uint8_t *out, size_t out_len, uint64_t *answer, size_t answer_len);
+
 /* A pointer for what has length 0: aligned, and not NULL. C++ needs a cast to the type of the parameter. */
 #define ECCH_NOTHING ((void *)sizeof(size_t))
 

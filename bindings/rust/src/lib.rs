@@ -5,7 +5,7 @@
 //! docs/DIFFERENCES.md, and what is not there in bindings/README.md.
 //! `places` is the thinner one: the records as they are read, with no copy at all. `pieces` reads a stream that arrives in pieces, over either.
 //! `Aliases` keeps the topics of a connection by their aliases. `walk` yields the user properties of a frame, `filters` fills a table with a
-//! Subscribe's filters.
+//! Subscribe's filters. `tidy` gives a frame's tidy form, for an archive.
 //!
 //! ```
 //! use bytes::BytesMut;
@@ -30,6 +30,7 @@ pub mod pieces;
 pub mod places;
 #[allow(clippy::too_many_arguments)]
 pub mod sys;
+mod tidy;
 mod topics;
 pub mod walk;
 mod write;
@@ -49,6 +50,7 @@ pub use error::Error;
 pub use frame::{check, FixedHeader, PacketType};
 use places::{Kind, Record};
 use sys::*;
+pub use tidy::{tidied, tidy};
 pub use topics::{has_wildcards, matches, valid_filter, valid_topic};
 
 /// The crate's paths: `ecchjulmina::mqttbytes` in the place of `rumqttc::v5::mqttbytes`.

@@ -42,6 +42,7 @@ layout! {
     ECCH_STATE_HELD = 0, ECCH_STATE_ENDED = 1, ECCH_STATE_VALUE_1 = 2, ECCH_STATE_VALUE_2 = 3, ECCH_STATE_NUMBERS = 4,
     ECCH_FRAME_USED = 0, ECCH_FRAME_VALUE_1 = 1, ECCH_FRAME_VALUE_2 = 2, ECCH_FRAME_PLACE = 3, ECCH_FRAME_LEN = 4, ECCH_FRAME_NUMBERS = 5,
     ECCH_IDENTIFIERS = 1024, ECCH_IN_FLIGHT_FULL = 29, ECCH_NO_CLAIM = 30, ECCH_NOT_WAITING = 31, ECCH_BAD_TABLE = 39, ECCH_JOURNAL_EMPTY = 33, ECCH_JOURNAL_ENDED = 34,
+    ECCH_TIDY_SIZE = 0, ECCH_TIDY_VALUE_1 = 1, ECCH_TIDY_VALUE_2 = 2, ECCH_TIDY_TAKEN = 3, ECCH_TIDY_NUMBERS = 4,
 }
 
 extern "C" {
@@ -259,4 +260,5 @@ extern "C" {
         table: *mut u8, table_len: usize,
         answer: *mut u64, answer_len: usize,
     ) -> u32;
+    pub fn ecch_tidy(stream: *const u8, stream_len: usize, out: *mut u8, out_len: usize, answer: *mut u64, answer_len: usize) -> u32;
 }

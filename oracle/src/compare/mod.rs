@@ -8,3 +8,4 @@ pub mod model_write;
 pub mod port;
 pub mod shape;
 pub mod text;
+pub mod tidy;
