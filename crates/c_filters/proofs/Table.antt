@@ -1,18 +1,17 @@
 -- The array of numbers is the table of `filter_table` written number by number. Assumes nothing.
 use mathlib.Core.Path.{_≡_, refl, sym, ap, _∙_}
-use mathlib.Core.Bool.{Bool, true, false}
 use mathlib.Core.List.{List, [], _∷_, _++_, append-assoc}
-use Prim.Native.Nat.{ℕ, zero, suc, _+_, _*_, _/_, _≤_, _<_}
+use Prim.Native.Nat.{ℕ, zero, suc, _+_, _*_, _≤_, _<_}
 use native.Mathlib.Omega.{arith}
 use lib.Dec.{leb}
-use lib.ListN.{length, take, drop, length-append}
+use lib.ListN.{length, drop, length-append}
 use lib.Seq.{sets, sets-eq}
 use borrow.Author.Tests.{leb-true}
-use Rattle.reading.specs.Reader.{Fit, got, bad, _>>_, guard}
-use Rattle.reading.proofs.Reading.{bad-got, got-inj, from-bind, from-guard, from-got}
-use Rattle.filter_table.specs.Table.{tableFull, entriesOf, tableOf, tableAfter, filledOf}
+use Rattle.reading.specs.Reader.{Fit, got, bad}
+use Rattle.reading.proofs.Reading.{from-bind, from-guard, from-got}
+use Rattle.filter_table.specs.Table.{entriesOf, tableOf, tableAfter, filledOf}
 use Rattle.filter_table.specs.declared.FilterEntry.{FilterEntry}
-use Rattle.c_filters.specs.Numbers.{entryNumbers, numbersOf, placesIn, tableAs}
+use Rattle.c_filters.specs.Numbers.{numbersOf, placesIn, tableAs}
 
 numbers-length : (es : List FilterEntry) → length (numbersOf es) ≡ 3 * length es
 numbers-length [] = refl

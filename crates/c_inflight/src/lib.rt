@@ -251,6 +251,7 @@ fn next_of(kind: u8, reason: u8) -> u8
     0
 }
 
+// The answer settles its identifier, if the bytes are a table.
 fn answers(kind: u8, id: u16, reason: u8, codes: &mut [u8]) -> Outcome
     ensures { λ r. ⌜ Outcomes (ackGiven kind id reason (now (codes .entry))) (r .number) (r .value) (now (codes .exit)) ⌝ }
 {
@@ -261,6 +262,25 @@ fn answers(kind: u8, id: u16, reason: u8, codes: &mut [u8]) -> Outcome
         };
     }
     settle(&mut *codes, id, due_of(kind), next_of(kind, reason))
+}
+
+// ---- the count
+
+// 0 and how many wait, or 39.
+fn waits(codes: &[u8]) -> Outcome
+    ensures number { λ r. ⌜ r .number ≡ waitingNumber (now (codes .entry)) ⌝ }
+    ensures value { λ r. ⌜ r .value ≡ waitingValue (now (codes .entry)) ⌝ }
+{
+    if is_table(codes) {
+        return Outcome {
+            number: 0,
+            value: count(codes),
+        };
+    }
+    Outcome {
+        number: BAD_TABLE,
+        value: 0,
+    }
 }
 
 // ---- what C calls
@@ -317,20 +337,4 @@ pub extern "C" fn ecch_inflight_waiting(table: &[u8], answer: &mut [u64]) -> u32
     let numbers = [o.value];
     store(&mut *answer, &numbers);
     o.number
-}
-
-fn waits(codes: &[u8]) -> Outcome
-    ensures number { λ r. ⌜ r .number ≡ waitingNumber (now (codes .entry)) ⌝ }
-    ensures value { λ r. ⌜ r .value ≡ waitingValue (now (codes .entry)) ⌝ }
-{
-    if is_table(codes) {
-        return Outcome {
-            number: 0,
-            value: count(codes),
-        };
-    }
-    Outcome {
-        number: BAD_TABLE,
-        value: 0,
-    }
 }

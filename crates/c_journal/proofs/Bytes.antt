@@ -1,15 +1,15 @@
 -- A table taken from bytes, and a table stored.
 -- Assumes nothing.
 use mathlib.Core.Path.{_≡_, refl, sym, ap, ap₂, _∙_, subst}
-use mathlib.Core.Bool.{true, false}
+use mathlib.Core.Bool.{true, false, false≢true}
 use mathlib.Core.List.{List, [], _∷_, _++_}
 use Prim.Native.Nat.{ℕ, suc, _+_, _<_, _≤_}
 use native.Mathlib.Numerals.{add-one}
 use native.Mathlib.Omega.{arith}
 use borrow.Author.Tests.{eq-eqb, ne-eqb, lt-ltb, le-ltb, le-leb, lt-leb}
-use lib.ListN.{length, getD, take, drop, set, replicate, length-set, drop-of-length-le}
+use lib.ListN.{length, getD, take, drop, set, length-set, drop-of-length-le}
 use lib.Seq.{sets, drop-cons, take-suc, take-suc-set, take-all}
-use Rattle.inflight.specs.Rules.{limit, free, allStates, isTable}
+use Rattle.inflight.specs.Rules.{limit, allStates, isTable}
 use Rattle.inflight.specs.Told.{codeOf, waitsOf}
 use Rattle.inflight.specs.declared.Wait.{Wait}
 use Rattle.inflight.specs.declared.InFlight.{InFlight}
@@ -49,15 +49,19 @@ not-state s t i p h l g =
     p .rest ∙ (let q : drop i s ≡ getD s i 0 ∷ drop (suc i) s = drop-cons s i 0 (omega (arith, l)) in ap allStates q)
     ∙ rw (le-ltb (getD s i 0) 4 g)
 
-pub not-long : {s : List ℕ} {t : InFlight} → (length s ≡ limit → ⊥) → waitsOf t ≡ replicate limit free → TakenFrom s record { fine = false; table = t }
+no-length : (s : List ℕ) → (length s ≡ limit → ⊥) → isTable s ≡ false
 unfolding isTable
-not-long {s} {t} h e = record { fine = rw (ne-eqb (length s) limit h); table = rw (ne-eqb (length s) limit h) e }
+no-length s h = rw (ne-eqb (length s) limit h)
 
-pub not-states : {s : List ℕ} {t u : InFlight} {i : ℕ} → Taken s t i → i < limit → length s ≡ limit → 4 ≤ getD s i 0 → waitsOf u ≡ replicate limit free
-    → TakenFrom s record { fine = false; table = u }
+no-state : (s : List ℕ) (t : InFlight) (i : ℕ) → Taken s t i → i < limit → length s ≡ limit → 4 ≤ getD s i 0 → isTable s ≡ false
 unfolding isTable
-not-states {s} {t} {u} {i} p h l g e =
-    record { fine = rw (eq-eqb (length s) limit l, not-state s t i p h l g); table = rw (eq-eqb (length s) limit l, not-state s t i p h l g) e }
+no-state s t i p h l g = rw (eq-eqb (length s) limit l, not-state s t i p h l g)
+
+pub not-long : {s : List ℕ} {t : InFlight} → (length s ≡ limit → ⊥) → TakenFrom s record { fine = false; table = t }
+not-long {s} {t} h = let e = no-length s h in record { fine = sym e; table = λ f. absurd (false≢true (sym e ∙ f)) }
+
+pub not-states : {s : List ℕ} {t u : InFlight} {i : ℕ} → Taken s t i → i < limit → length s ≡ limit → 4 ≤ getD s i 0 → TakenFrom s record { fine = false; table = u }
+not-states {s} {t} {u} {i} p h l g = let e = no-state s t i p h l g in record { fine = sym e; table = λ f. absurd (false≢true (sym e ∙ f)) }
 
 all-states : (s : List ℕ) (t : InFlight) (i : ℕ) → Taken s t i → length s ≡ limit → limit ≤ i → allStates s ≡ true
 unfolding allStates
@@ -68,8 +72,7 @@ unfolding isTable
 taken-all {s} {t} {i} p l h =
     record {
       fine = rw (eq-eqb (length s) limit l, all-states s t i p l h);
-      table = rw (eq-eqb (length s) limit l, all-states s t i p l h)
-          (sym (take-all i (waitsOf t) (omega (arith, waits-length t, p .long))) ∙ p .is ∙ take-all i s (omega (arith, l)));
+      table = λ _. (sym (take-all i (waitsOf t) (omega (arith, waits-length t, p .long))) ∙ p .is ∙ take-all i s (omega (arith, l)));
     }
 
 -- ---- a table stored

@@ -36,7 +36,7 @@ done-save b a {c} {r} s p t e x y z = record {
     fine = sym (p .fine) ∙ t
 
     same : waitsOf (r .table) ≡ b
-    same = p .table ∙ rw fine
+    same = p .table fine
 
     is : left c s ≡ saveGiven b a
     is = e ∙ ap (λ (u : List ℕ). save limit u a) same ∙ sym (given-save b a fine)

@@ -32,7 +32,7 @@ pub const JOURNAL_ENDED: u32 = 34;
 
 // ---- a table as the lent bytes of c_inflight, one for each identifier
 
-// The table of those bytes, if they are one; else a fresh one.
+// The table of those bytes, if they are one.
 struct FromCodes {
     fine: bool,
     table: InFlight,
@@ -61,7 +61,6 @@ fn from_codes(codes: &[u8]) -> FromCodes
     while i < LIMIT {
         let x = codes[i];
         if 3 < x {
-            let table = InFlight::new();
             return FromCodes { fine: false, table };
         }
         let p = Place { wait: wait_of(x) };
@@ -102,36 +101,33 @@ struct Outcome {
     block: u64,
 }
 
-fn save_number(s: Saved) -> u32
-    ensures { λ r. ⌜ r ≡ numberOf (saveOf s) ⌝ }
+fn saved(s: Saved) -> Outcome
+    ensures number { λ r. ⌜ r .number ≡ numberOf (saveOf s) ⌝ }
+    ensures first { λ r. ⌜ r .first ≡ firstOf (saveOf s) ⌝ }
+    ensures block { λ r. ⌜ r .block ≡ blockOf (saveOf s) ⌝ }
 {
     match s {
-        Saved::Stored {
-            number: _,
-            block: _,
-        } => 0,
-        Saved::BadArea => BAD_AREA,
-        Saved::JournalEnded => JOURNAL_ENDED,
-    }
-}
-
-fn save_first(s: Saved) -> u64
-    ensures { λ r. ⌜ r ≡ firstOf (saveOf s) ⌝ }
-{
-    match s {
-        Saved::Stored { number, block: _ } => number,
-        Saved::BadArea => 0,
-        Saved::JournalEnded => 0,
-    }
-}
-
-fn save_block(s: Saved) -> u64
-    ensures { λ r. ⌜ r ≡ blockOf (saveOf s) ⌝ }
-{
-    match s {
-        Saved::Stored { number: _, block } => block as u64,
-        Saved::BadArea => 0,
-        Saved::JournalEnded => 0,
+        Saved::Stored { number, block } => {
+            return Outcome {
+                number: 0,
+                first: number,
+                block: block as u64,
+            };
+        }
+        Saved::BadArea => {
+            return Outcome {
+                number: BAD_AREA,
+                first: 0,
+                block: 0,
+            };
+        }
+        Saved::JournalEnded => {
+            return Outcome {
+                number: JOURNAL_ENDED,
+                first: 0,
+                block: 0,
+            };
+        }
     }
 }
 
@@ -142,11 +138,7 @@ fn saves(codes: &[u8], area: &mut [u8]) -> Outcome
     let table = given.table;
     if given.fine {
         let s = save(&mut *area, table);
-        return Outcome {
-            number: save_number(s),
-            first: save_first(s),
-            block: save_block(s),
-        };
+        return saved(s);
     }
     if is_whole(&*area) {
         return Outcome {
@@ -162,23 +154,33 @@ fn saves(codes: &[u8], area: &mut [u8]) -> Outcome
     }
 }
 
-fn found_number(f: Found) -> u32
-    ensures { λ r. ⌜ r ≡ numberOf (foundOf f []) ⌝ }
+// What a recovery returns and stores; it stores no block.
+fn found(f: Found) -> Outcome
+    ensures number { λ r. ⌜ r .number ≡ numberOf (foundOf f []) ⌝ }
+    ensures first { λ r. ⌜ r .first ≡ firstOf (foundOf f []) ⌝ }
 {
     match f {
-        Found::Number(_) => 0,
-        Found::BadArea => BAD_AREA,
-        Found::JournalEmpty => JOURNAL_EMPTY,
-    }
-}
-
-fn found_first(f: Found) -> u64
-    ensures { λ r. ⌜ r ≡ firstOf (foundOf f []) ⌝ }
-{
-    match f {
-        Found::Number(n) => n,
-        Found::BadArea => 0,
-        Found::JournalEmpty => 0,
+        Found::Number(n) => {
+            return Outcome {
+                number: 0,
+                first: n,
+                block: 0,
+            };
+        }
+        Found::BadArea => {
+            return Outcome {
+                number: BAD_AREA,
+                first: 0,
+                block: 0,
+            };
+        }
+        Found::JournalEmpty => {
+            return Outcome {
+                number: JOURNAL_EMPTY,
+                first: 0,
+                block: 0,
+            };
+        }
     }
 }
 
@@ -217,11 +219,11 @@ pub extern "C" fn ecch_journal_recover(area: &[u8], table: &mut [u8], answer: &m
     let r = recover(area);
     let f = r.found;
     let t = r.table;
-    let number = found_number(f);
-    put_found(number, t, &mut *table);
-    let numbers = [found_first(f)];
+    let o = found(f);
+    put_found(o.number, t, &mut *table);
+    let numbers = [o.first];
     store(&mut *answer, &numbers);
-    with_room(number, room)
+    with_room(o.number, room)
 }
 
 // The table that was found, put into the lent bytes; a bad area leaves them as they were.

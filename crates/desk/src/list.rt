@@ -7,19 +7,36 @@ use codes::rule_number;
 use filters::GotFilter;
 use property_value::GotProperty;
 use property_value::Value;
+use records::answer::UserItem;
 use records::span::Span;
 use records::subscribe_record::Filter;
 use tables::property::PropertyPlace;
+use walker::step_at;
 use wire::got::GotSpan;
 use wire::string;
 
-// The field of a value that is a pair: only user properties are.
-fn user_if(out: &mut [u8], at: usize, s: &[u8], v: Value) -> usize {
-    if let Value::Pair(key, value) = v {
-        let a = field::part(&mut *out, at, b" user=\"", s, key);
-        return field::part(&mut *out, a, b"=\"", s, value);
+// Key and value of a user property.
+fn user(out: &mut [u8], at: usize, s: &[u8], key: Span, value: Span) -> usize {
+    let a = field::part(&mut *out, at, b" user=\"", s, key);
+    field::part(&mut *out, a, b"=\"", s, value)
+}
+
+// The user properties in the block s, step by step of a walk.
+fn users_in(out: &mut [u8], at: usize, place: PropertyPlace, s: &[u8]) -> usize {
+    let mut next = at;
+    let mut i: usize = 0;
+    while i < s.len() {
+        let step = step_at(s, i, s.len(), place);
+        let item = step.item;
+        match item {
+            UserItem::NoItem => return next,
+            UserItem::Pair(key, value) => {
+                next = user(&mut *out, next, s, key, value);
+                i = step.at;
+            }
+        }
     }
-    at
+    next
 }
 
 // The field of a value that is a variable length number: only subscription identifiers are.
@@ -30,23 +47,15 @@ fn identifier_if(out: &mut [u8], at: usize, v: Value) -> usize {
     at
 }
 
-// The field of a value of a list: of the user properties, or of the subscription identifiers.
-fn value_if(out: &mut [u8], at: usize, s: &[u8], v: Value, is_user: bool) -> usize {
-    if is_user {
-        return user_if(&mut *out, at, s, v);
-    }
-    identifier_if(&mut *out, at, v)
-}
-
-// The values of a list in the block s.
-fn values(out: &mut [u8], at: usize, place: PropertyPlace, s: &[u8], is_user: bool) -> usize {
+// The subscription identifiers in the block s of a Publish.
+fn identifiers_in(out: &mut [u8], at: usize, s: &[u8]) -> usize {
     let mut next = at;
     let mut i: usize = 0;
     while i < s.len() {
-        match property_value::read_property(place, s, i) {
+        match property_value::read_property(PropertyPlace::Publish, s, i) {
             GotProperty::Refused(_) => return next,
             GotProperty::Found(_, v, end) => {
-                next = value_if(&mut *out, next, s, v, is_user);
+                next = identifier_if(&mut *out, next, v);
                 i = end;
             }
         }
@@ -127,18 +136,12 @@ fn reasons_in(out: &mut [u8], at: usize, s: &[u8]) -> usize {
 
 // The user properties of the block at a place of s.
 pub fn users(out: &mut [u8], at: usize, place: PropertyPlace, s: &[u8], block: Span) -> usize {
-    values(&mut *out, at, place, string::part(s, block), true)
+    users_in(&mut *out, at, place, string::part(s, block))
 }
 
 // The subscription identifiers of a Publish.
 pub fn identifiers(out: &mut [u8], at: usize, s: &[u8], block: Span) -> usize {
-    values(
-        &mut *out,
-        at,
-        PropertyPlace::Publish,
-        string::part(s, block),
-        false,
-    )
+    identifiers_in(&mut *out, at, string::part(s, block))
 }
 
 // The filters of the run at a place of s.

@@ -266,9 +266,13 @@ fn table_of(b: &[u8]) -> InFlight
 // ---- writing a block
 
 // The byte of four places.
-fn four(a: Wait, b: Wait, c: Wait, d: Wait) -> u8
-    ensures { λ r. ⌜ r ≡ codeOf a + 4 * codeOf b + 16 * codeOf c + 64 * codeOf d ⌝ }
+fn four(p: Place, q: Place, r: Place, s: Place) -> u8
+    ensures { λ x. ⌜ x ≡ codeOf (p .wait) + 4 * codeOf (q .wait) + 16 * codeOf (r .wait) + 64 * codeOf (s .wait) ⌝ }
 {
+    let a = p.wait;
+    let b = q.wait;
+    let c = r.wait;
+    let d = s.wait;
     code(a) + 4 * code(b) + 16 * code(c) + 64 * code(d)
 }
 
@@ -284,11 +288,7 @@ fn put_marks(out: &mut [u8], table: InFlight)
         let q = table.places[i + 1];
         let r = table.places[i + 2];
         let s = table.places[i + 3];
-        let first = p.wait;
-        let second = q.wait;
-        let third = r.wait;
-        let fourth = s.wait;
-        out[8 + j] = four(first, second, third, fourth);
+        out[8 + j] = four(p, q, r, s);
         j += 1;
     }
 }

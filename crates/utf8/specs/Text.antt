@@ -1,49 +1,9 @@
--- What the steps of the validator tell of the text that is left. Assumes nothing.
-use mathlib.Core.Path.{_≡_}
-use mathlib.Core.Bool.{Bool, true, false, _&&_}
-use mathlib.Core.Option.{Option, none, some}
-use mathlib.Core.List.{List, [], _∷_}
-use Prim.Native.Nat.{ℕ, zero, suc, _+_, _≤_, _<_}
-use lib.Dec.{ltb}
-use lib.ListN.{length, drop, replicate}
-use Rattle.grammar.specs.Choice.{all}
-use Rattle.grammar.specs.Text.{Range}
-use Rattle.reading.specs.Reader.{thenFit, manyFit, isGot}
-use Rattle.reading.specs.Read.{followOf, charOf, isText}
-use Rattle.utf8.specs.declared.Lead.{Lead}
-use Rattle.utf8.specs.declared.Lead.the-variants.{More, Nowhere}
+-- Bytes that are ASCII, and none of them 0. Assumes nothing.
+use mathlib.Core.Bool.{Bool}
+use mathlib.Core.List.{List}
+use Prim.Native.Nat.{ℕ}
+use Rattle.text_chars.specs.Text.{allAscii as everyPlain}
 
--- n bytes, the first of them from low to high, and the others any that continue a character
-abbrev pub dueOf : ℕ → ℕ → ℕ → List Range
-dueOf zero low high = []
-dueOf (suc n) low high = (low, high) ∷ replicate n (0x80, 0xBF)
-
--- a row of the Unicode table, its first byte aside
-abbrev pub toldLead : Lead → Option (List Range)
-toldLead (More n low high) = some (dueOf n low high)
-toldLead Nowhere = none
-
--- the bytes that are due, and then characters to the end
-unfoldable pub textAfter : List Range → List ℕ → Bool
-textAfter rs s = isGot (thenFit (followOf rs) (λ _. manyFit charOf) s)
-
--- whether the n bytes due from index `at` of s are there: the text goes on after them, or it is none
-pub record Followed (s : List ℕ) (at n low high : ℕ) (r : Bool) : Type 0 where
-  pub within : r ≡ true → at + n ≤ length s
-  pub yes : r ≡ true → textAfter (dueOf n low high) (drop at s) ≡ isText (drop (at + n) s)
-  pub no : r ≡ false → textAfter (dueOf n low high) (drop at s) ≡ false
-
--- the text from index `at` of s goes on at r; it is none if r is `at`
-pub record Passed (s : List ℕ) (at r : ℕ) : Type 0 where
-  pub ahead : at ≤ r
-  pub within : r ≤ length s
-  pub yes : at < r → isText (drop at s) ≡ isText (drop r s)
-  pub no : r ≡ at → isText (drop at s) ≡ false
-
--- an ASCII byte that is not 0 (02, P9)
-abbrev pub plain : ℕ → Bool
-plain b = ltb 0 b && ltb b 128
-
--- whether every byte is so
+-- whether every byte is ASCII and not 0 (02, P9)
 abbrev pub allAscii : List ℕ → Bool
-allAscii = all plain
+allAscii = everyPlain

@@ -2,16 +2,16 @@
 use mathlib.Core.Path.{_≡_, refl, sym, ap, _∙_, subst}
 use mathlib.Core.Option.{Option, none, some}
 use mathlib.Core.List.{List, [], _∷_, map}
-use Prim.Native.Nat.{ℕ, zero, suc, _+_, _≤_}
+use Prim.Native.Nat.{ℕ, suc, _+_}
 use native.Mathlib.Omega.{arith}
 use lib.ListN.{length, take, drop}
 use lib.Seq.{length-take-le}
 use denote.Ref.{now}
 use Rattle.grammar.specs.Record.{Val, PropOf, allOf}
 use Rattle.grammar.specs.Tables.{Place, publishPlace}
-use Rattle.reading.specs.Reader.{Fit, got, bad, manyFit}
+use Rattle.reading.specs.Reader.{Fit, got, manyFit}
 use Rattle.reading.specs.Read.{propertyOf, propertiesFit}
-use Rattle.reading.specs.Place.{Span, partOf, heldOf, asPlaces, noItem, again, valuesAt, readPlacedOf}
+use Rattle.reading.specs.Place.{Span, partOf, asPlaces, again, valuesAt, readPlacedOf}
 use Rattle.positions.proofs.At.{part-slice}
 use Rattle.positions.proofs.Less.{property-less, once-many}
 use Rattle.positions.proofs.Run.{none-passed, passed-end}
@@ -19,7 +19,7 @@ use Rattle.records.specs.Answered.{toldUser}
 use Rattle.records.specs.declared.answer.UserItem.{UserItem}
 use Rattle.tables.specs.Property.{placeOf}
 use Rattle.tables.specs.declared.property.PropertyPlace.{PropertyPlace}
-use Rattle.walker.specs.Walk.{Next, blockOf, spread, Begins, Moves}
+use Rattle.walker.specs.Walk.{Next, blockOf, spread, Begins}
 use Rattle.walker.specs.Calls.{Calls, uncalled, called, answersOf, usersIn}
 use Rattle.walker.specs.declared.Walker.{Walker}
 use Rattle.walker.proofs.Lies.{again-got, read-block}

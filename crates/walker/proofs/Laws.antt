@@ -11,6 +11,7 @@ use Rattle.reading.specs.Refusal.{Refusal, cut}
 use Rattle.reading.specs.Reader.{Fit, got, bad}
 use Rattle.reading.specs.Read.{propertyOf}
 use Rattle.reading.specs.Place.{Span, asPlaces, noItem}
+use Rattle.reading.proofs.Reading.{bad-got}
 use Rattle.positions.specs.Position.{fromAt}
 use Rattle.records.specs.Answered.{toldUser}
 use Rattle.records.specs.Told.{toldError}
@@ -53,3 +54,12 @@ module _ {row : Place} {s : List ℕ} {at i : ℕ} (B : Behind row s at i) where
   pub next-end : length s ≤ i → Next row s at (bad noItem) i
   unfolding fromAt propertyOf
   next-end h = B .goes (bad noItem) i (done {k = cut} (rw (drop-of-length-le s h)))
+
+-- where a user property comes next, the walk stands further on then
+pub next-ahead : {row : Place} {s : List ℕ} {at m : ℕ} {v : Val Span} → Next row s at (got v) m → at < m
+next-ahead {row = row} {s = s} w = go w refl
+  where
+    go : {at m : ℕ} {v : Val Span} {o : Fit (Val Span)} → Next row s at o m → o ≡ got v → at < m
+    go (here {at = at} {m = m} {v = v} e) i = property-ahead row s at (38, v) m (sym e)
+    go (other {at = at} {n = n} {i = k} {v = v} e h w) i = omega (arith, property-ahead row s at (k, v) n (sym e), go w i)
+    go (done e) i = absurd (bad-got i)

@@ -2,7 +2,6 @@
 use Prim.Native.Nat.{_-_, _≤_}
 use native.Mathlib.Omega.{arith}
 use borrow.Author.Needs.{needs}
-use mathlib.Core.List.{List}
 use Rattle.c_filters.proofs.Laws.{Put, put-start, put-next, put-end}
 use Rattle.c_filters.proofs.put_entries.Statement.{statement}
 use Rattle.c_filters.proofs.put_entries.Tie as tie

@@ -18,7 +18,7 @@ new-requires : tie.Need-new-requires Inv-loop μ-loop
 new-requires c κs = search needs
 
 returns : tie.Need-returns Inv-loop μ-loop
-returns c = not-long (c .if1 .taken) (c .before .new .ensures)
+returns c = not-long (c .if1 .taken)
 
 loop-holds : tie.Need-loop-holds Inv-loop μ-loop
 loop-holds c = taken-none _ _ (search (needs, unmapped))
@@ -26,11 +26,8 @@ loop-holds c = taken-none _ _ (search (needs, unmapped))
 shared-slice-read-x : tie.Need-shared-slice-read-x Inv-loop μ-loop
 shared-slice-read-x c = omega arith
 
-new-requires-2 : tie.Need-new-requires-2 Inv-loop μ-loop
-new-requires-2 c κs = search needs
-
 returns-2 : tie.Need-returns-2 Inv-loop μ-loop
-returns-2 c = not-states (c .before .before .before .before .loop .inv) (omega arith) (omega arith) (omega arith) (c .new2 .ensures)
+returns-2 c = not-states (c .before .before .before .loop .inv) (omega arith) (omega arith) (omega arith)
 
 wait-of-requires : tie.Need-wait-of-requires Inv-loop μ-loop
 wait-of-requires c κs = omega arith
@@ -60,7 +57,6 @@ from-codes-spec =
     returns
     loop-holds
     shared-slice-read-x
-    new-requires-2
     returns-2
     wait-of-requires
     element-set-from-p

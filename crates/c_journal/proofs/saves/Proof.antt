@@ -1,6 +1,6 @@
 -- `c_journal::saves` is right since each way to end is one of the definition's. Assumes nothing.
-use mathlib.Core.Path.{refl, sym, _∙_}
 use borrow.Author.Needs.{needs}
+use mathlib.Core.Path.{refl, sym, _∙_}
 use Rattle.journal.specs.Told.{saveOf}
 use Rattle.c_journal.proofs.Laws.{done-save, done-table, done-area}
 use Rattle.c_journal.proofs.saves.Statement.{statement}
@@ -12,20 +12,14 @@ from-codes-requires c κs = search needs
 save-requires : tie.Need-save-requires
 save-requires c κs = search needs
 
-save-number-requires : tie.Need-save-number-requires
-save-number-requires c κs = search needs
-
-save-first-requires : tie.Need-save-first-requires
-save-first-requires c κs = search needs
-
-save-block-requires : tie.Need-save-block-requires
-save-block-requires c κs = search needs
+saved-requires : tie.Need-saved-requires
+saved-requires c κs = search needs
 
 same-length : tie.Need-same-length
 same-length c = search needs
 
 returns : tie.Need-returns
-returns c = done-save _ _ (saveOf (c .before .before .before .before .before .save .result)) (c .before .before .before .before .before .before .before .before .before .from-codes .ensures) (c .before .before .before .before .before .before .before .if1 .taken) (c .before .before .before .before .before .save .ensures) (c .before .before .save-number .ensures) (c .before .save-first .ensures) (c .save-block .ensures)
+returns c = done-save _ _ (saveOf (c .before .before .before .save .result)) (c .before .before .before .before .before .before .before .from-codes .ensures) (c .before .before .before .before .before .if1 .taken) (c .before .before .before .save .ensures) (c .saved .ensures .0) (c .saved .ensures .1 .0) (c .saved .ensures .1 .1)
 
 is-whole-requires : tie.Need-is-whole-requires
 is-whole-requires c κs = search needs
@@ -48,9 +42,7 @@ saves-spec =
     (tie.spec
     from-codes-requires
     save-requires
-    save-number-requires
-    save-first-requires
-    save-block-requires
+    saved-requires
     same-length
     returns
     is-whole-requires

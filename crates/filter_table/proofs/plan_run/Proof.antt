@@ -22,7 +22,7 @@ add-end c =
     record { fits = omega (arith, leb-true (a .p .start + a .p .len) (length (now (a .s))) (sym (c .before .before .within .ensures) ∙ c .before .if1 .taken)) }
 
 returns : tie.Need-returns
-returns c = plan-fits (c .before .before .before .count-at .ensures) (c .if2 .taken)
+returns c = plan-fits (c .before .before .before .count-at .ensures) (omega (arith, c .if2 .taken))
 
 returns-2 : tie.Need-returns-2
 returns-2 c = plan-full (c .before .before .before .count-at .ensures) (c .if2 .left)

@@ -6,7 +6,7 @@ use lib.ListN.{length, drop}
 use denote.Ref.{now}
 use borrow.Author.Tests.{not-true, not-false}
 use Rattle.utf8.specs.Text.{allAscii}
-use Rattle.utf8.proofs.Laws.{chunk-broken, chunk-passed, last-decide}
+use Rattle.text_chars.proofs.Laws.{chunk-broken, chunk-passed, last-decide}
 use Rattle.utf8.proofs.is_all_ascii.Statement.{statement}
 use Rattle.utf8.proofs.is_all_ascii.Tie as tie
 

@@ -2,14 +2,14 @@
 -- text goes on behind them. Assumes nothing.
 use mathlib.Core.Path.{_≡_, sym, ap, _∙_}
 use mathlib.Core.Bool.{Bool, _&&_}
-use Prim.Native.Nat.{_≤_, _<_, _-_}
+use Prim.Native.Nat.{_≤_, _-_}
 use native.Mathlib.Omega.{arith}
 use lib.Dec.{ltb}
 use lib.ListN.{take, drop, getD}
 use borrow.Author.Needs.{needs}
 use denote.Ref.{now}
-use Rattle.utf8.specs.Text.{allAscii, plain}
-use Rattle.utf8.proofs.Laws.{or-low, ascii-more, ascii-all}
+use Rattle.text_chars.specs.Text.{allAscii, plain}
+use Rattle.text_chars.proofs.Laws.{flaw-low, or-low, ascii-more, ascii-all}
 use Rattle.utf8.proofs.is_ascii.Statement.{statement}
 use Rattle.utf8.proofs.is_ascii.Tie as tie
 
@@ -44,7 +44,7 @@ loop-again c =
       omega arith,
       omega arith,
       or-low (l .all) (c .flaw .result)
-          ∙ rw (c .flaw .ensures) (ap (λ (t : Bool). t && plain (getD s (l .i) 0)) (l .inv .2))
+          ∙ rw (flaw-low (getD s (l .i) 0) (c .flaw .result) (c .flaw .ensures)) (ap (λ (t : Bool). t && plain (getD s (l .i) 0)) (l .inv .2))
           ∙ sym (ascii-more s (a .at) (l .i) (omega arith) (omega arith)),
     )
 

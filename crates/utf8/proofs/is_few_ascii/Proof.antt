@@ -1,14 +1,14 @@
 -- `utf8::is_few_ascii` meets its contract. The loop's invariant: the text goes on at `i`; nothing is left at the end. Assumes nothing.
-use mathlib.Core.Path.{_≡_, refl, sym, _∙_}
+use mathlib.Core.Path.{_≡_, refl, _∙_}
 use mathlib.Core.Bool.{false≢true}
-use Prim.Native.Nat.{_≤_, _-_, suc}
+use Prim.Native.Nat.{_≤_, _-_}
 use native.Mathlib.Omega.{arith}
-use lib.ListN.{length, drop}
+use lib.ListN.{length, drop, getD}
 use borrow.Author.Needs.{needs}
-use borrow.Author.Tests.{le-leb}
 use denote.Ref.{now}
 use Rattle.reading.specs.Read.{isText}
-use Rattle.utf8.proofs.Laws.{plain-at, text-over}
+use Rattle.text_chars.proofs.Rows.{plain-so}
+use Rattle.text_chars.proofs.Laws.{plain-at, text-over}
 use Rattle.utf8.proofs.is_few_ascii.Statement.{statement}
 use Rattle.utf8.proofs.is_few_ascii.Tie as tie
 
@@ -38,7 +38,9 @@ loop-less c = omega arith
 
 loop-again : tie.Need-loop-again Inv-loop μ-loop
 loop-again c =
-    (omega arith, c .before .before .before .before .loop .inv .1 ∙ plain-at (now (c .before .before .before .before .before .before .args .s)) (c .before .before .before .before .loop .i) (omega arith) (sym (c .before .flaw .ensures) ∙ le-leb (suc (c .before .flaw .result)) 128 (omega arith)))
+    let s = now (c .before .before .before .before .before .before .args .s) in
+    let l = c .before .before .before .before .loop in
+    (omega arith, l .inv .1 ∙ plain-at s (l .i) (omega arith) (plain-so (getD s (l .i) 0) (c .before .flaw .result) (c .before .flaw .ensures) (omega arith)))
 
 returns-2 : tie.Need-returns-2 Inv-loop μ-loop
 returns-2 c = λ _. c .before .loop .inv .1 ∙ text-over (now (c .before .before .before .args .s)) (c .before .loop .i) (omega arith)
