@@ -583,9 +583,9 @@ uint32_t ecch_filter_table(
     uint64_t *answer, size_t answer_len);
 
 /* ---- the client's record of outgoing messages that await an answer (P4 of 02). The table is `table`, a lent byte for each identifier from 1
-   to ECCH_IDENTIFIERS: table[n - 1] is 0 if identifier n is free, 1, 2 or 3 if it waits for PubAck, PubRec or PubComp. Bytes of another
-   length, or with another number among them, are no table: ECCH_BAD_TABLE, and they are left as they are. A refused call leaves
-   the table as it was and sets `answer`, which is one number, to 0. */
+   to ECCH_IDENTIFIERS: table[n - 1] is 0 if identifier n is free, 1, 2 or 3 if it waits for PubAck, PubRec or PubComp. To every call but
+   ecch_inflight_start bytes of another length, or with another number among them, are no table: ECCH_BAD_TABLE, and they are left as they
+   are. A refused call leaves the table as it was and sets `answer`, which is one number, to 0. */
 enum ecch_inflight { ECCH_IDENTIFIERS = 1024 };
 enum ecch_inflight_refusal {
     ECCH_IN_FLIGHT_FULL = 29,
@@ -594,11 +594,11 @@ enum ecch_inflight_refusal {
     ECCH_BAD_TABLE = 39
 };
 
-/* Every identifier free. */
+/* Every identifier free, whatever the bytes were: 0, or 39 for another length, and then they are left as they are. */
 uint32_t ecch_inflight_start(uint8_t *table, size_t table_len);
 
 /* An identifier for a message of QoS 1 or 2 about to be sent, the smallest free one: it is stored in `answer`, and waits from now on. 29 if
-   none is free, 30 for QoS 0, 11 for a QoS above 2. */
+   none is free, 30 for QoS 0, 11 for a QoS above 2: `answer` is 0 for it too, the QoS is not stored. */
 uint32_t ecch_inflight_claim(uint8_t qos, uint8_t *table, size_t table_len, uint64_t *answer, size_t answer_len);
 
 /* An acknowledgement that was read: its kind (ECCH_PUBACK, ECCH_PUBREC, ECCH_PUBCOMP; any other is 31), identifier and reason, which counts
@@ -606,7 +606,7 @@ uint32_t ecch_inflight_claim(uint8_t qos, uint8_t *table, size_t table_len, uint
    does not wait for this. */
 uint32_t ecch_inflight_acked(uint8_t kind, uint16_t id, uint8_t reason, uint8_t *table, size_t table_len, uint64_t *answer, size_t answer_len);
 
-/* How many identifiers wait: their number is stored in `answer`. Like every call, it tells what is no table. */
+/* How many identifiers wait: 0, and their number is stored in `answer`; or 39 for what is no table. */
 uint32_t ecch_inflight_waiting(const uint8_t *table, size_t table_len, uint64_t *answer, size_t answer_len);
 
 /* ---- a journal: that table kept through a power cut in a lent area of two or more whole blocks of 512 bytes (P11 of 02), else

@@ -69,6 +69,7 @@ impl InFlight {
     /// Every identifier free.
     pub fn new() -> InFlight {
         let mut table = [0; IDENTIFIERS];
+        // Sound: the pointer stands for a whole Rust array, lent for writing.
         unsafe { ecch_inflight_start(table.as_mut_ptr(), table.len()) };
         InFlight { table }
     }
@@ -87,6 +88,7 @@ impl InFlight {
     /// The smallest free identifier, for a message about to be sent.
     pub fn claim(&mut self, qos: QoS) -> Result<u16, ClaimError> {
         let mut id = 0;
+        // Sound: the pointers stand for the whole table and for one number, which do not overlap since both are lent for writing.
         let n = unsafe { ecch_inflight_claim(qos as u8, self.table.as_mut_ptr(), self.table.len(), &mut id, 1) };
         match n as usize {
             0 => Ok(id as u16),
@@ -98,6 +100,7 @@ impl InFlight {
 
     fn acked(&mut self, kind: usize, id: u16, reason: u8) -> Result<Answered, NotWaiting> {
         let mut now = 0;
+        // Sound: as for a claim.
         let n = unsafe { ecch_inflight_acked(kind as u8, id, reason, self.table.as_mut_ptr(), self.table.len(), &mut now, 1) };
         match (n as usize, now) {
             (0, 0) => Ok(Answered::Freed),
@@ -122,6 +125,7 @@ impl InFlight {
     /// How many identifiers wait; none if the bytes are no table.
     fn count(&self) -> Option<usize> {
         let mut count = 0;
+        // Sound: the pointers stand for the whole table and for one number, which do not overlap since the number is lent for writing.
         let n = unsafe { ecch_inflight_waiting(self.table.as_ptr(), self.table.len(), &mut count, 1) };
         match n as usize {
             0 => Some(count as usize),

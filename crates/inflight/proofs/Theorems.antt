@@ -1,4 +1,4 @@
--- The theorems of P4: the number waiting, answers in either order, the smallest free identifier, and each refusal exactly when.
+-- The theorems of P4: the number waiting, answers in either order, the smallest free identifier, each refusal exactly when, and what each call leaves.
 -- Assumes nothing.
 use mathlib.Core.Path.{_≡_, refl, sym, ap, _∙_, subst}
 use mathlib.Core.Logic.{_⊎_, inl, inr}
@@ -13,7 +13,8 @@ use lib.Dec.{eqb, ltb}
 use lib.ListN.{length, getD, set, replicate, length-set, List·getD-eq-default}
 use lib.Seq.{getD-set-same, getD-set-other, set-comm, ext-getD}
 use Rattle.reading.specs.Refusal.{Refusal, nr}
-use Rattle.inflight.specs.Rules.{limit, free, puback, pubrec, pubcomp, Says, granted, inFlightFull, noClaim, freed, moved, refused, notWaiting, Left, left, firstFree, claimFor, claimed, waitOf, put, becameOf, settled, afterPubRec, oneIfWaits, waiting, Call, claim, pubAck, pubRec, pubComp, other, call, run, oneIfGranted, oneIfFreed, tally, IsAnswer, acked, received, completed, unasked, Smallest, NoneFree, Due, Answers, identifierOf, only}
+use Rattle.inflight.proofs.Laws.{pubrec-on, pubrec-off}
+use Rattle.inflight.specs.Rules.{limit, free, puback, pubrec, pubcomp, Says, granted, inFlightFull, noClaim, freed, moved, refused, notWaiting, Left, left, firstFree, claimFor, claimed, waitOf, put, becameOf, settled, afterPubRec, oneIfWaits, waiting, Call, claim, pubAck, pubRec, pubComp, other, call, run, oneIfGranted, oneIfFreed, tally, IsAnswer, acked, received, completed, unasked, Smallest, NoneFree, Due, Became, said, Answers, identifierOf, only}
 
 -- ---- counting
 
@@ -397,3 +398,113 @@ same-answers {cs} {ds} v w h t =
     (λ n z g.
     let k : n ≤ length t = rw (run-length v t) at g in
     own-decide v n z t t k k refl ∙ ap (λ (es : List Call). waitOf (run es t) n) (h n) ∙ sym (own-decide w n z t t k k refl))
+
+-- ---- what a granted claim and an answer that is due leave: one identifier alone has changed, and to what
+
+-- so the table that is left is fixed
+pub became-same : {t u v : List ℕ} {n w : ℕ} → Became t n w u → Became t n w v → u ≡ v
+became-same {t} {u} {v} {n} {w} a b = wait-ext u v (a .size ∙ sym (b .size)) (λ m z h. go m (eqb m n) refl)
+  where
+    go : (m : ℕ) (b' : Bool) → eqb m n ≡ b' → waitOf u m ≡ waitOf v m
+    go m true e = rw (eqb-true m n e) (a .now ∙ sym (b .now))
+    go m false e = a .others m (eqb-false m n e) ∙ sym (b .others m (eqb-false m n e))
+
+set-became : (t : List ℕ) (i w : ℕ) → i < length t → Became t (suc i) w (set t i w)
+unfolding waitOf put
+set-became t i w h =
+    record { now = getD-set-same t i w free h; others = λ m f. put-other t (suc i) m w (λ e. f (sym e)); size = length-set t i w }
+
+claim-became : (w : ℕ) (t : List ℕ) (n : ℕ) → claimFor w t .says ≡ granted n → Became t n w (claimFor w t .table)
+unfolding claimFor
+claim-became w t n = go (ltb (firstFree t) (length t)) refl
+  where
+    go : (b : Bool) → ltb (firstFree t) (length t) ≡ b
+        → cond b (left (set t (firstFree t) w) (granted (firstFree t + 1))) (left t inFlightFull) .says ≡ granted n
+        → Became t n w (cond b (left (set t (firstFree t) w) (granted (firstFree t + 1))) (left t inFlightFull) .table)
+    go true p e =
+        subst (λ (m : ℕ). Became t m w (set t (firstFree t) w)) (sym (add-one (firstFree t)) ∙ says-granted e)
+        (set-became t (firstFree t) w (ltb-true (firstFree t) (length t) p))
+    go false p e = let z : _≡_ {A = ℕ} 0 1 = cc in absurd (omega (arith, z))
+
+-- "A claim for QoS 1": the identifier granted waits for PubAck
+pub claim-one : (t : List ℕ) (n : ℕ) → claimed 1 t .says ≡ granted n → Became t n puback (claimed 1 t .table)
+unfolding claimed
+claim-one t n e = claim-became puback t n e
+
+-- "or 2": it waits for PubRec
+pub claim-two : (t : List ℕ) (n : ℕ) → claimed 2 t .says ≡ granted n → Became t n pubrec (claimed 2 t .table)
+unfolding claimed
+claim-two t n e = claim-became pubrec t n e
+
+-- what a call says, and what its identifier alone waits for then
+abbrev pub Leaves : List ℕ → ℕ → Says → ℕ → Left → Type 0
+Leaves t n s w r = (r .says ≡ s) × Became t n w (r .table)
+
+put-became : (t : List ℕ) (n k w : ℕ) → waitOf t n ≡ suc k → Became t n w (put t n w)
+unfolding waitOf put
+put-became t zero k w e = absurd (omega (arith, e))
+put-became t (suc i) k w e = set-became t i w (has-place t i k e)
+
+settled-due : (k to : ℕ) (t : List ℕ) (n : ℕ) → waitOf t n ≡ suc k → Leaves t n (becameOf to) to (settled (suc k) to t n)
+unfolding settled
+settled-due k to t n e = rw (eq-eqb (waitOf t n) (suc k) e) (refl, put-became t n k to e)
+
+-- "A PubAck frees a QoS 1 identifier."
+pub puback-frees : (t : List ℕ) (n : ℕ) → waitOf t n ≡ puback → Leaves t n freed free (call (pubAck n) t)
+unfolding call becameOf
+puback-frees t n e = settled-due 0 free t n e
+
+-- "A PubRec with a reason below 0x80 moves a QoS 2 identifier on to wait for PubComp"
+pub pubrec-moves : (t : List ℕ) (n reason : ℕ) → waitOf t n ≡ pubrec → reason ≤ 0x7F → Leaves t n moved pubcomp (call (pubRec n reason) t)
+unfolding call becameOf
+pubrec-moves t n reason e h = rw (sym (pubrec-on reason (omega (arith, h)))) (settled-due 1 pubcomp t n e)
+
+-- "one at 0x80 or above frees it"
+pub pubrec-frees : (t : List ℕ) (n reason : ℕ) → waitOf t n ≡ pubrec → 0x80 ≤ reason → Leaves t n freed free (call (pubRec n reason) t)
+unfolding call becameOf
+pubrec-frees t n reason e h = rw (sym (pubrec-off reason h)) (settled-due 1 free t n e)
+
+-- PubComp, "which frees it"
+pub pubcomp-frees : (t : List ℕ) (n : ℕ) → waitOf t n ≡ pubcomp → Leaves t n freed free (call (pubComp n) t)
+unfolding call becameOf
+pubcomp-frees t n e = settled-due 2 free t n e
+
+was-free : {t u v : List ℕ} {n w : ℕ} → waitOf t n ≡ free → Became t n w u → Became u n free v → v ≡ t
+was-free {t} {u} {v} {n} e a b =
+    became-same (record { now = b .now; others = λ m h. b .others m h ∙ a .others m h; size = b .size ∙ a .size }) (record { now = e; others = λ m h. refl; size = refl })
+
+-- "A PubAck frees a QoS 1 identifier": the table is that before the claim
+pub one-and-back : (t : List ℕ) (n : ℕ) → claimed 1 t .says ≡ granted n → run (claim 1 ∷ pubAck n ∷ []) t ≡ t
+unfolding run call
+one-and-back t n e =
+    let a : Became t n puback (claimed 1 t .table) = claim-one t n e in
+    was-free (granted-smallest 1 t n e .isFree) a (puback-frees (claimed 1 t .table) n (a .now) .1)
+
+-- of a QoS 2 identifier, by PubRec and PubComp
+pub two-and-back : (t : List ℕ) (n reason : ℕ) → claimed 2 t .says ≡ granted n → reason ≤ 0x7F → run (claim 2 ∷ pubRec n reason ∷ pubComp n ∷ []) t ≡ t
+unfolding run call
+two-and-back t n reason e h =
+    let a : Became t n pubrec (claimed 2 t .table) = claim-two t n e in
+    let b : Became (claimed 2 t .table) n pubcomp (call (pubRec n reason) (claimed 2 t .table) .table) = pubrec-moves (claimed 2 t .table) n reason (a .now) h .1 in
+    let c : Became (call (pubRec n reason) (claimed 2 t .table) .table) n free (call (pubComp n) (call (pubRec n reason) (claimed 2 t .table) .table) .table) =
+    pubcomp-frees (call (pubRec n reason) (claimed 2 t .table) .table) n (b .now) .1 in
+    was-free (granted-smallest 2 t n e .isFree) (record { now = b .now; others = λ m f. b .others m f ∙ a .others m f; size = b .size ∙ a .size }) c
+
+-- or by a PubRec that refuses it
+pub two-refused : (t : List ℕ) (n reason : ℕ) → claimed 2 t .says ≡ granted n → 0x80 ≤ reason → run (claim 2 ∷ pubRec n reason ∷ []) t ≡ t
+unfolding run call
+two-refused t n reason e h =
+    let a : Became t n pubrec (claimed 2 t .table) = claim-two t n e in
+    was-free (granted-smallest 2 t n e .isFree) a (pubrec-frees (claimed 2 t .table) n reason (a .now) h .1)
+
+-- one of QoS 1 and two of QoS 2 are claimed, answered in another order, and one is claimed again
+abbrev pub someCalls : List Call
+someCalls =
+    claim 1 ∷ claim 2 ∷ claim 2 ∷ pubRec 3 0x80 ∷ pubRec 2 0x10 ∷ pubAck 2 ∷ claim 2 ∷ pubRec 3 0 ∷ pubComp 2 ∷ pubComp 1 ∷ []
+
+-- from a fresh table: what each says, and what the first three identifiers wait for then
+pub worked : (said someCalls (replicate limit free)
+    ≡ granted 1 ∷ granted 2 ∷ granted 3 ∷ freed ∷ moved ∷ notWaiting ∷ granted 3 ∷ moved ∷ freed ∷ notWaiting ∷ [])
+    × (run someCalls (replicate limit free) ≡ 1 ∷ 0 ∷ 3 ∷ replicate 1021 0)
+unfolding said run call claimed claimFor firstFree settled afterPubRec becameOf waitOf put
+worked = (refl, refl)

@@ -137,6 +137,11 @@ unfoldable pub run : List Call → List ℕ → List ℕ
 run [] t = t
 run (c ∷ cs) t = run cs (call c t .table)
 
+-- what they say, in turn
+unfoldable pub said : List Call → List ℕ → List Says
+said [] t = []
+said (c ∷ cs) t = call c t .says ∷ said cs (call c t .table)
+
 abbrev pub oneIfGranted : Says → ℕ
 oneIfGranted (granted n) = 1
 oneIfGranted freed = 0
@@ -181,6 +186,12 @@ Due t (pubAck n) = waitOf t n ≡ puback
 Due t (pubRec n reason) = waitOf t n ≡ pubrec
 Due t (pubComp n) = waitOf t n ≡ pubcomp
 Due t (other n) = ⊥
+
+-- what identifier n waits for has become w, and nothing else has changed
+pub record Became (t : List ℕ) (n w : ℕ) (u : List ℕ) : Type 0 where
+  pub now : waitOf u n ≡ w
+  pub others : (m : ℕ) → (m ≡ n → ⊥) → waitOf u m ≡ waitOf t m
+  pub size : length u ≡ length t
 
 -- answers alone, "with no claim between"
 pub data Answers : List Call → Type 0 where

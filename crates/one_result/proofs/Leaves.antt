@@ -24,7 +24,7 @@ use Rattle.var_length.specs.declared.GotLength.{GotLength}
 use Rattle.wire.specs.Told.{toldPart}
 use Rattle.string_puts.specs.Written.{toldStringLength}
 use Rattle.tables.specs.Qos.{toldGotQos}
-use Rattle.tables.specs.Property.{toldForm}
+use Rattle.tables.specs.Property.{placeOf, toldForm}
 use Rattle.wire.specs.declared.got.GotSpan.{GotSpan}
 use Rattle.string_puts.specs.declared.GotStringLength.{GotStringLength}
 use Rattle.tables.specs.declared.qos.GotQos.{GotQos}
@@ -194,6 +194,17 @@ back-place KindPlace.NoBlock = refl
 
 pub place-same : OneResult toldPlace
 place-same = one-by toldPlace backPlace back-place
+
+back-row : (p : PropertyPlace) → backRow (placeOf p .row) ≡ p
+unfolding backRow publishPlace subscribePlace ackPlace unsubscribePlace
+back-row PropertyPlace.Publish = refl
+back-row PropertyPlace.Subscribe = refl
+back-row PropertyPlace.Ack = refl
+back-row PropertyPlace.Unsubscribe = refl
+
+-- the place in a walker, which its contracts tell by its row
+pub row-same : OneResult placeOf
+row-same = one-by placeOf (λ (p : Place). backRow (p .row)) back-row
 
 -- ---- headers
 
