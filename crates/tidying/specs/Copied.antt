@@ -12,7 +12,10 @@ use Rattle.grammar.specs.Octets.{Each}
 use Rattle.grammar.specs.Tables.{Place}
 use Rattle.grammar.specs.Sentence.{Prop, Packet, Sentence}
 use Rattle.reading.specs.Reader.{got}
-use Rattle.reading.specs.Bounds.{frameBounds}
+use Rattle.reading.specs.Refusal.{accepted, refusedAs}
+use Rattle.reading.specs.Place.{Placed, readPlacedOf}
+use Rattle.reading.specs.Bounds.{frameBounds, boundsOf}
+use Rattle.records.specs.Told.{toldError}
 use Rattle.writing.specs.Lists.{flat}
 use Rattle.writing.specs.Handed.{Handed}
 use Rattle.writing.specs.Spell.{string, filterBytes}
@@ -23,6 +26,7 @@ use Rattle.tidy.specs.Form.{propertyBytes}
 use Rattle.tidy.specs.Order.{idBytes, orderedBytes, Exact, Runs, ExactFilter, FrameLaid}
 use Rattle.tidying.specs.Tidied.{toldTidied, roomFor, sizeIn, standsIn}
 use Rattle.tidying.specs.declared.Tidied.{Tidied}
+use Rattle.tidying.specs.declared.Found.{Found}
 
 -- ---- properties
 
@@ -126,3 +130,8 @@ pub record FrameTidied (s before after : List ℕ) (r : Tidied) : Type 0 where
   pub form : List ℕ
   pub is : tidyOf s ≡ got form
   pub gives : Gives form (length s) before after r
+
+-- what is found at the start of the stream s: the frame of a record that is read, and 02's two numbers; or the reader's refusal, and what it takes
+abbrev pub FoundIs : List ℕ → Found → Type 0
+FoundIs s (Found.Frame start end n) = (v : Placed) × (accepted v n ≡ readPlacedOf none s) × (got (start, end) ≡ boundsOf none s)
+FoundIs s (Found.Refused e n) = refusedAs (toldError e) n ≡ readPlacedOf none s

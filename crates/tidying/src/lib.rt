@@ -28,7 +28,7 @@ ghost use Rattle.tables.specs.Property.{placeOf};
 ghost use Rattle.tidy.specs.Order.{idsOf, successIn, shortAck, AsIs, Masked};
 ghost use Rattle.tidying.specs.Tidied.{Tidies};
 ghost use Rattle.tidying.specs.Way.{wayOf};
-ghost use Rattle.tidying.specs.Copied.{Passed, RunPassed, InOrder, IdPut, IdsPut, RowPut, FilterPassed, FiltersPut, FrontPut, Gives, LaidGiven, Accepted, FrameTidied};
+ghost use Rattle.tidying.specs.Copied.{Passed, RunPassed, InOrder, IdPut, IdsPut, RowPut, FilterPassed, FiltersPut, FrontPut, Gives, LaidGiven, Accepted, FrameTidied, FoundIs};
 
 // The size of the tidy form that was put, and how many bytes of the stream are taken; or the refusal, and how many.
 pub enum Tidied {
@@ -329,16 +329,30 @@ fn tidy_frame(s: &[u8], start: usize, end: usize, out: &mut [u8]) -> Tidied
     }
 }
 
+// The frame at the start of a stream: where its properties start and end, and how many bytes it takes; or the refusal, and how many.
+enum Found {
+    Frame(usize, usize, usize),
+    Refused(Error, usize),
+}
+
+// What of the reader's answer is needed; a function of its own, so that no other carries a record.
+fn frame_of(stream: &[u8]) -> Found
+    ensures { λ r. ⌜ FoundIs (now (stream .entry)) r ⌝ }
+{
+    match packet::read(stream, Limit::Unlimited) {
+        Read::Refused(e, n) => return Found::Refused(e, n),
+        Read::Packet(_, place, n) => return Found::Frame(place.start, place.end, n),
+    }
+}
+
 // The tidy form of the frame at the start of the stream, from index 0 of the output on. Refused with what the reader refuses, with no limit, and with what
 // it takes; then with 19 where the output is shorter than the tidy form: then nothing is taken. A refused call changes no byte.
 pub fn tidy(stream: &[u8], out: &mut [u8]) -> Tidied
     ensures { λ r. ⌜ Tidies (now (stream .entry)) (now (out .entry)) (now (out .exit)) r ⌝ }
 {
-    match packet::read(stream, Limit::Unlimited) {
-        Read::Refused(e, n) => return Tidied::Refused(e, n),
-        Read::Packet(_, place, n) => {
-            let start = place.start;
-            let end = place.end;
+    match frame_of(stream) {
+        Found::Refused(e, n) => return Tidied::Refused(e, n),
+        Found::Frame(start, end, n) => {
             return tidy_frame(run::piece(stream, 0, n), start, end, &mut *out);
         }
     }
