@@ -276,7 +276,7 @@ like-there _ _ b bads i = absurd (bad-got i)
 
 module _ (s : List ℕ) where
   -- the filters of a Subscribe that was read stand at their place
-  read-run : (v : Placed) (n : ℕ) (p : Span) → readPlacedOf none s ≡ accepted v n → runOf (accepted v n) ≡ got p → (fs : List (Filter Span)) × (again (filtersFit asPlaces) s p ≡ got fs)
+  pub read-run : (v : Placed) (n : ℕ) (p : Span) → readPlacedOf none s ≡ accepted v n → runOf (accepted v n) ≡ got p → (fs : List (Filter Span)) × (again (filtersFit asPlaces) s p ≡ got fs)
   read-run (subscribe m) n p e j =
       let (w, k, _) = placed-accepted none s (subscribe m) n e in
       subst (λ (x : Span). (fs : List (Filter Span)) × (again (filtersFit asPlaces) s x ≡ got fs)) (got-inj j)
@@ -289,7 +289,7 @@ module _ (s : List ℕ) where
   read-run (unsubscribe m) n p e j = absurd (bad-got j)
   read-run (ping k) n p e j = absurd (bad-got j)
 
-  entries-got : (v : Placed) (n : ℕ) (p : Span) (fs : List (Filter Span)) → accepted v n ≡ readPlacedOf none s → runOf (accepted v n) ≡ got p → again (filtersFit asPlaces) s p ≡ got fs → entriesOf s ≡ got (map entryOf fs)
+  pub entries-got : (v : Placed) (n : ℕ) (p : Span) (fs : List (Filter Span)) → accepted v n ≡ readPlacedOf none s → runOf (accepted v n) ≡ got p → again (filtersFit asPlaces) s p ≡ got fs → entriesOf s ≡ got (map entryOf fs)
   unfolding entriesOf
   entries-got v n p fs i j f = rw (← i, j, f)
 
@@ -316,7 +316,7 @@ plan-outside {s = s} {p = p} h =
     record { plans = λ fs r es. absurd (omega (arith, h, run-lies s p fs r)); stands = λ fs r es. absurd (omega (arith, h, run-lies s p fs r)); took = refl }
 
 -- 01: "the covered n-th filter function": the k-th entry is the k-th filter of the run at its place
-nth-map : {A B : Type 0} (f : A → B) (k : ℕ) (vs : List A) → nthOf k (map f vs) ≡ onGot f (nthOf k vs)
+pub nth-map : {A B : Type 0} (f : A → B) (k : ℕ) (vs : List A) → nthOf k (map f vs) ≡ onGot f (nthOf k vs)
 nth-map f k [] = refl
 nth-map f zero (v ∷ vs) = refl
 nth-map f (suc k) (v ∷ vs) = nth-map f k vs

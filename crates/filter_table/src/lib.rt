@@ -154,11 +154,12 @@ fn plan_run(s: &[u8], p: Span, places: usize, taken: usize) -> Plan
         }
     }
     let answer = FilterTable::FilterTableFull(count);
+    let none: usize = 0;
     Plan {
         answer,
         at: 0,
         end: 0,
-        count: 0,
+        count: none,
         taken,
     }
 }

@@ -110,11 +110,8 @@ fn nowhere(s: &[u8]) -> Block
     ensures { λ r. ⌜ Spread (now (s .entry)) none (r .at) (r .end) (r .place) ⌝ }
 {
     let place = PropertyPlace::Publish;
-    Block {
-        at: 0,
-        end: 0,
-        place,
-    }
+    let end: usize = 0;
+    Block { at: 0, end, place }
 }
 
 // The walk over a block that may be absent.
