@@ -545,9 +545,10 @@ enum ecch_next_user_layout {
 };
 
 /* The next user property from index `at` on, in the bytes before index `end`, of a block of `kind`: 0, or 21 if there is none left, for ever.
- * `kind` is 3 to 11; any other is 21. To walk what ecch_read found, hand over the same stream and ECCH_KIND, begin at ECCH_BLOCK_START, and
- * let `end` be ECCH_BLOCK_START + ECCH_BLOCK_LEN: the answers are the user properties of the record, in order, then 21. Of a frame that was
- * refused all of these are 0, and there is none. Other properties are passed over; bytes that are no property end the walk. */
+ * `kind` is 3 to 11; any other is 21, and so is an `end` past the frame. To walk what ecch_read found, hand over the same stream and
+ * ECCH_KIND, begin at ECCH_BLOCK_START, and let `end` be ECCH_BLOCK_START + ECCH_BLOCK_LEN: the answers are the user properties of the
+ * record, in order, then 21. Of a frame that was refused all of these are 0, and there is none. Other properties are passed over; bytes that
+ * are no property end the walk. */
 uint32_t ecch_next_user(const uint8_t *frame, size_t frame_len, uint8_t kind, size_t at, size_t end, uint64_t *item, size_t item_len);
 
 /* ---- the filters of a Subscribe in a table that is lent as an array of numbers, three for an entry (P7 of 02). */

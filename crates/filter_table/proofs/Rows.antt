@@ -4,7 +4,7 @@ use mathlib.Core.Bool.{Bool, true, false, false≢true}
 use mathlib.Core.Logic.{_↔_}
 use mathlib.Core.Option.{none}
 use mathlib.Core.List.{List, [], _∷_, map}
-use Prim.Native.Nat.{ℕ, zero, suc, _≤_, _<_}
+use Prim.Native.Nat.{ℕ, suc, _<_}
 use native.Mathlib.Omega.{arith}
 use lib.Dec.{leb, leb→le}
 use lib.ListN.{length, length-map}
@@ -15,7 +15,7 @@ use Rattle.grammar.specs.Sentence.{Packet}
 use Rattle.grammar.specs.Tables.{subscribePlace, ackPlace, unsubscribePlace, reasonsOf}
 use Rattle.reading.specs.Refusal.{Refusal, nr, Answer, accepted, refused}
 use Rattle.reading.specs.Reader.{Fit, got, bad}
-use Rattle.reading.specs.Read.{asBytes, filtersFit, reasonsFit, topicsFit, readOf}
+use Rattle.reading.specs.Read.{asBytes, filtersFit, reasonsFit, topicsFit}
 use Rattle.reading.specs.Place.{Span, asPlaces, Placed, readPlacedOf, again, nthOf, filterAt, onGot, ifSome, sayPublishProps, sayProps, say}
 use Rattle.reading.specs.Demand.{ofFields, Taken, nothing-yet, own-length, whole-frame}
 use Rattle.reading.proofs.Lists.{T-of}

@@ -14,7 +14,7 @@ use Rattle.reading.specs.Reader.{got}
 use Rattle.reading.specs.Place.{Span, Placed, readPlacedOf, onSome}
 use Rattle.reading.specs.Bounds.{boundsOf, endingAt, boundsIn, boundsBy}
 use Rattle.reading.proofs.Bounds.{read-bounds}
-use Rattle.placing.specs.Placing.{GramAt, placeOf, ThenAt, both, SizedAt, sized, ManyAt, done, more, HandedAt, handed, PropertyAt, BlockAt, publishFrom, propsFrom, RunAt, AckRestAt, plain, coded, full, FieldsAt, PlacedSentence, framed, PlacedIn}
+use Rattle.placing.specs.Placing.{placeOf, both, sized, ManyAt, done, handed, PropertyAt, BlockAt, publishFrom, propsFrom, AckRestAt, plain, coded, full, FieldsAt, PlacedSentence, framed}
 use Rattle.placing.specs.Stands.{blockPlace, HeadAt, of-publish, of-ack, of-subscribe, of-reply, of-unsubscribe, short, pinged, StandsAt, present, absent, unsent, StandsIn, in-frame}
 use Rattle.placing.proofs.Placed.{read-placed}
 

@@ -25,9 +25,27 @@ use Rattle.walker.specs.declared.Walker.{Walker}
 use Rattle.walker.proofs.Lies.{again-got, read-block}
 use Rattle.walker.proofs.Theorem.{Takes, took, ended, next-after, front, front-is}
 
-cons-answers : {o : Fit (Val Span)} {vs ws : List (Val Span)} (k : ℕ) → Takes o vs ws → o ∷ answersOf k ws ≡ answersOf (suc k) vs
+pub cons-answers : {o : Fit (Val Span)} {vs ws : List (Val Span)} (k : ℕ) → Takes o vs ws → o ∷ answersOf k ws ≡ answersOf (suc k) vs
 cons-answers k took = refl
 cons-answers k ended = refl
+
+-- the properties of a block are read in the bytes before its end
+pub block-many : (s : List ℕ) (row : Place) (p : Span) (ps : List (PropOf Span)) → again (propertiesFit asPlaces row) s p ≡ got ps
+    → manyFit (propertyOf asPlaces row (length (front s (p .start + p .len)))) (drop (p .start) (front s (p .start + p .len))) ≡ got ps
+unfolding propertiesFit
+block-many s row p ps j =
+    let (i, f) = again-got (propertiesFit asPlaces row) s p ps j in
+    let end : ℕ = p .start + p .len in
+    let n : length (take end s) ≡ end = length-take-le end s i in
+    let g : manyFit (propertyOf asPlaces row (length (take end s))) (drop (p .start) (take end s)) ≡ got ps = rw (n, sym (part-slice s (p .len) (p .start) i)) (once-many asPlaces row end [] (partOf s p) ps f) in
+    subst (λ (t : List ℕ). manyFit (propertyOf asPlaces row (length t)) (drop (p .start) t) ≡ got ps) (sym (front-is s end i)) g
+
+-- before index 0 stands none
+pub none-many : (s : List ℕ) (row : Place) (at : ℕ) → manyFit (propertyOf asPlaces row (length (front s 0))) (drop at (front s 0)) ≡ got []
+none-many s row at =
+    let t : List ℕ = front s 0 in
+    let L = property-less row (length t) in
+    passed-end t L (none-passed t L at) (omega (arith, ap length (front-is s 0 (omega arith))))
 
 -- from a walker w on, over the bytes before `end` of s, in the row of a place, where the properties ps stand from its index on
 module _ (s : List ℕ) (end : ℕ) (place : PropertyPlace) where
@@ -57,14 +75,9 @@ module _ (s : List ℕ) (w v : Walker) (rs : List UserItem) (c : Calls w rs v) (
       ([], refl, calls-list s (w .end) (w .place) c h refl refl [] (passed-end t L (none-passed t L (w .at)) (omega (arith, l))))
 
   over-block : (row : Place) (p : Span) → _≡_ {A = ℕ × (ℕ × Place)} (w .at, (w .end, placeOf (w .place))) (p .start, (p .start + p .len, row)) → (ps : List (PropOf Span)) × (again (propertiesFit asPlaces row) s p ≡ got ps) → Lists (some (row, p))
-  unfolding valuesAt propertiesFit
+  unfolding valuesAt
   over-block row p e (ps, j) =
-      let (i, f) = again-got (propertiesFit asPlaces row) s p ps j in
-      let end : ℕ = p .start + p .len in
-      let n : length (take end s) ≡ end = length-take-le end s i in
-      let g : manyFit (propertyOf asPlaces row (length (take end s))) (drop (p .start) (take end s)) ≡ got ps = rw (n, sym (part-slice s (p .len) (p .start) i)) (once-many asPlaces row end [] (partOf s p) ps f) in
-      let k : manyFit (propertyOf asPlaces row (length (front s end))) (drop (p .start) (front s end)) ≡ got ps = subst (λ (t : List ℕ). manyFit (propertyOf asPlaces row (length t)) (drop (p .start) t) ≡ got ps) (sym (front-is s end i)) g in
-      (allOf 38 ps, rw j, calls-list s (w .end) (w .place) c h refl refl ps (subst (λ (z : ℕ × (ℕ × Place)). manyFit (propertyOf asPlaces (z .1 .1) (length (front s (z .1 .0)))) (drop (z .0) (front s (z .1 .0))) ≡ got ps) (sym e) k))
+      (allOf 38 ps, rw j, calls-list s (w .end) (w .place) c h refl refl ps (subst (λ (z : ℕ × (ℕ × Place)). manyFit (propertyOf asPlaces (z .1 .1) (length (front s (z .1 .0)))) (drop (z .0) (front s (z .1 .0))) ≡ got ps) (sym e) (block-many s row p ps j)))
 
   -- 02, P7: "yields user properties one after another", "nothing on a frame the reader refuses": of a walker over the frame at the start of s, k calls give the first k user properties of its record, in order, and then nothing for ever
   pub calls-yield : Begins s (w .at) (w .end) (w .place) → Lists (blockOf (readPlacedOf none s))

@@ -74,7 +74,7 @@ module _ (s : List ℕ) where
   props-block : (row : Place) (ps : Props Span (λ A. Span)) (qs : Props (List ℕ) List) → sayProps s row ps ≡ got qs → Block row (ps .user)
   props-block row ps = from-bind {C = λ (_ : Props (List ℕ) List). Block row (ps .user)} (valuesAt asBytes s (ps .user) row 38) _ λ us e qs _. values-block row (ps .user) 38 us e
 
-  said-block : (v : Placed) (w : Packet) → say s v ≡ got w → (row : Place) (p : Span) → blockIn v ≡ some (row, p) → Block row p
+  pub said-block : (v : Placed) (w : Packet) → say s v ≡ got w → (row : Place) (p : Span) → blockIn v ≡ some (row, p) → Block row p
   said-block (publish m) = from-bind (ifSome (sayPublishProps s) (m .props)) _ λ qs e w _. block-in (sayPublishProps s) publishPlace (λ ps. ps .user) publish-block (m .props) qs e
   said-block (ack k m) = from-bind (ifSome (sayProps s ackPlace) (m .props)) _ λ qs e w _. block-in (sayProps s ackPlace) ackPlace (λ ps. ps .user) (props-block ackPlace) (m .props) qs e
   said-block (subscribe m) = from-bind (ifSome (sayProps s subscribePlace) (m .props)) _ λ qs e w _. block-in (sayProps s subscribePlace) subscribePlace (λ ps. ps .user) (props-block subscribePlace) (m .props) qs e
