@@ -1,3 +1,4 @@
 pub mod Laws
 pub mod Placed
 pub mod Stands
+pub mod StandsOne
