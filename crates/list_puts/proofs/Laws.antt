@@ -1,12 +1,12 @@
 -- Pairs and identifiers one behind the other. Assumes nothing.
-use mathlib.Core.Path.{_≡_, refl, sym, _∙_}
+use mathlib.Core.Path.{_≡_, refl, sym, ap, _∙_}
 use mathlib.Core.Logic.{_⊎_, inl, inr}
-use mathlib.Core.List.{List, [], _∷_, _++_}
-use Prim.Native.Nat.{ℕ, _+_, _≤_, _<_, min}
+use mathlib.Core.List.{List, [], _∷_, _++_, append-nil}
+use Prim.Native.Nat.{ℕ, _+_, _-_, _≤_, _<_, min}
 use native.Mathlib.Omega.{arith}
 use native.Mathlib.Numerals.{add-one}
-use lib.ListN.{length, drop, getD, length-append, drop-of-length-le}
-use lib.Seq.{sets, drop-cons}
+use lib.ListN.{length, take, drop, getD, length-append, length-take, length-drop, drop-of-length-le}
+use lib.Seq.{sets, length-sets, drop-cons}
 use Rattle.grammar.specs.Tables.{number, pair}
 use Rattle.writing.specs.Handed.{Run, pairs, several}
 use Rattle.writing.specs.Spell.{short, string, numeral, value, rowBytes}
@@ -16,7 +16,7 @@ use Rattle.writing.proofs.ForCode.{runFrom, stringAt, strings-done}
 use Rattle.rows.proofs.Laws.Run.{strings-cut}
 use Rattle.row_puts.specs.Put.{Put}
 use Rattle.row_puts.specs.Behind.{Behind}
-use Rattle.row_puts.proofs.Laws.{sets-next}
+use Rattle.row_puts.proofs.Laws.{sets-next, Putting, put-more, all-put}
 
 -- ---- pairs
 
@@ -36,6 +36,13 @@ module _ (key val : List ℕ) where
         count = sym pair-length;
       }
 
+  -- no place is cut off where there is room for all
+  pub put-whole : (l l₁ l₂ l₃ : List ℕ) (at m : ℕ) → Behind l at (38 ∷ []) l₁ m → l₂ ≡ sets l₁ m (string key)
+      → at + (5 + length key + length val) ≤ length l → l₃ ≡ sets l₂ (at + (3 + length key)) (string val) → Put l at (38 ∷ (string key ++ string val)) l₃ (5 + length key + length val)
+  put-whole l l₁ l₂ l₃ at m p f h g =
+      let s : length l₂ ≡ length l = ap length f ∙ length-sets l₁ m (string key) ∙ ap length (p .stores) ∙ length-sets l at (38 ∷ []) in
+      put-both l l₁ l₂ l₃ at m (at + (3 + length key)) p f (omega (arith, s)) g
+
 module _ (r : Run) (i p mid q : ℕ) where
   pub pairs-cut : mid ≡ min (p + getD (r .lengths) i 0) (length (r .bytes)) → q ≡ min (mid + getD (r .lengths) (i + 1) 0) (length (r .bytes)) → i + 1 < length (r .lengths)
       → rowBytes (38, pair) (pairs (runFrom r i p)) ≡ (38 ∷ (string (stringAt r i p) ++ string (stringAt r (i + 1) mid))) ++ rowBytes (38, pair) (pairs (runFrom r (i + 2) q))
@@ -52,6 +59,29 @@ module _ (r : Run) (i p mid q : ℕ) where
       go : (length (r .lengths) ≤ i) ⊎ (i < length (r .lengths)) → rowBytes (38, pair) (pairs (runFrom r i p)) ≡ []
       go (inl l) = rw (strings-done r i p l)
       go (inr l) = rw (strings-cut r i p (min (p + getD (r .lengths) i 0) (length (r .bytes))) refl l, strings-done r (i + 1) (min (p + getD (r .lengths) i 0) (length (r .bytes))) h)
+
+-- strings that are all in the run, from index p on
+pub part-length : (s : List ℕ) (p k : ℕ) → p + k ≤ length s → (n : ℕ) → n ≡ k → length (take n (drop p s)) ≡ k
+part-length s p k h n e = omega (arith, length-take n (drop p s), length-drop p s)
+
+module _ (r : Run) (i p : ℕ) where
+  abbrev mid : ℕ
+  mid = p + getD (r .lengths) i 0
+
+  abbrev end : ℕ
+  end = mid + getD (r .lengths) (i + 1) 0
+
+  pub pairs-whole : i + 1 < length (r .lengths) → end ≤ length (r .bytes)
+      → rowBytes (38, pair) (pairs (runFrom r i p)) ≡ (38 ∷ (string (take (mid - p) (drop p (r .bytes))) ++ string (take (end - mid) (drop mid (r .bytes))))) ++ rowBytes (38, pair) (pairs (runFrom r (i + 2) end))
+  pairs-whole h l =
+      let k : mid - p ≡ getD (r .lengths) i 0 = omega arith in
+      let v : end - mid ≡ getD (r .lengths) (i + 1) 0 = omega arith in
+      pairs-cut r i p mid end (omega arith) (omega arith) h ∙ rw (k, v)
+
+-- what is left is put as one
+pub put-rest : {before whole out rest : List ℕ} {at n : ℕ} → Putting before at whole out n rest → at + n ≤ length out
+    → (out′ : List ℕ) (k : ℕ) → Put out (at + n) rest out′ k → Put before at whole out′ (n + k)
+put-rest {rest = rest} p h out′ k q = all-put (put-more p rest [] (sym (append-nil rest)) _ (omega arith) out′ k q) refl
 
 -- ---- identifiers
 
