@@ -15,7 +15,7 @@ use Rattle.grammar.specs.Octets.{Octets}
 use Rattle.grammar.specs.Tables.{Layout, aPublish, anAck, aSubscribe, aReply, anUnsubscribe, aPing}
 use Rattle.grammar.specs.Sentence.{Packet, Sentence}
 use Rattle.reading.specs.Refusal.{Refusal, nr, Answer, accepted, refused, refusedAs}
-use Rattle.reading.specs.Reader.{got, bad}
+use Rattle.reading.specs.Reader.{Fit, got, bad}
 use Rattle.reading.specs.Read.{readOf}
 use Rattle.reading.specs.Bounds.{frameBounds, boundsOf, boundsIn, boundsBy}
 use Rattle.reading.proofs.Reading.{got-inj}
@@ -23,9 +23,10 @@ use Rattle.reading.proofs.Fields.{num-solid}
 use Rattle.reading.proofs.Demand.{no-accept, reads-sentence}
 use Rattle.reading.proofs.Places.{placed-of}
 use Rattle.reading.proofs.Bounds.{read-bounds}
+use Rattle.writing.specs.Handed.{Handed}
 use Rattle.writing.specs.Size.{sizeIs}
 use Rattle.writing.specs.Refuse.{Accepts, no-room}
-use Rattle.writing.specs.Write.{frameBytes, outOf, leaves, Written}
+use Rattle.writing.specs.Write.{frameBytes, outOf, leaves, Written, answeredBehind, outBehind, WrittenBehind}
 use Rattle.writing.proofs.Each.{each-left}
 use Rattle.writing.proofs.Verdict.{accepted-when, refused-when, answered-when, unanswered-when}
 use Rattle.writing.proofs.Sizes.{length-frame}
@@ -112,6 +113,13 @@ module _ (s : List ℕ) (o : Octets s) (v : Packet) (n : ℕ) (e : readOf none s
             answer = ap fitOf (t .answer ∙ ap sizeIn i) ∙ ap (λ (k : ℕ). bad (nr 19 (k ∷ []))) form-length ∙ sym (unanswered-when none (length before) (handedOf v) (nr 19 (sizeIs (handedOf v) ∷ [])) .1 w);
             output = t .output ∙ ap (standsIn before) i ∙ ap (leaves before) (sym (refused-when none (length before) (handedOf v) (nr 19 (sizeIs (handedOf v) ∷ [])) .1 w));
           }
+
+  -- and those of a writer that may refuse before all else, as `packet_write::write`, if f, what it is lent, is that record
+  pub tidy-behind : {f : Fit Handed} → f ≡ got (handedOf v) → {before after after′ : List ℕ} {r : Tidied} {told : Fit ℕ} → Tidies s before after r → WrittenBehind none f before after′ told → (told ≡ fitOf (toldTidied r)) × (after′ ≡ after)
+  unfolding answeredBehind outBehind outOf
+  tidy-behind q {before} t w =
+      let a = tidy-writes t in
+      (w .answer ∙ ap (λ (g : Fit Handed). answeredBehind g none before) q ∙ sym (a .answer), w .output ∙ ap (λ (g : Fit Handed). outBehind g none before) q ∙ sym (a .output))
 
   module _ {before after : List ℕ} {k m : ℕ} (t : Tidies s before after (Tidied.Put k m)) where
     -- what is put is the tidy form, and the frame's bytes are taken
