@@ -1,11 +1,12 @@
 //! The tidy form of a frame, for an archive (02's P14).
+use crate::error::{fault, fit};
 use crate::{sys::*, Error};
 use bytes::Bytes;
 
 /// The tidy form of the frame that the stream begins with, in bytes of its own: what `write` gives of the packet that `read` gives. Properties
-/// stand in the order of the table, flags and options as they are written, an acknowledgement is as short as it can be. It reads as
-/// the same packet, and tidied again it stays; two frames have one tidy form exactly when their packets are equal, so that an archive of tidy
-/// frames can be compared byte by byte. It has as many bytes as the frame at most, but for an acknowledgement of five bytes, which becomes six.
+/// stand in the order of the table, flags and options as they are written. It reads as the same packet, and tidied again it stays; two frames have
+/// one tidy form exactly when their packets are equal, so that an archive of tidy frames can be compared byte by byte. It has as many bytes as
+/// the frame at most, but for an acknowledgement of five bytes with a reason other than success, which becomes six.
 ///
 /// A frame that is refused has none; the refusals are those of a read with no limit.
 pub fn tidy(stream: &[u8]) -> Result<Bytes, Error> {
@@ -34,23 +35,30 @@ pub fn tidy(stream: &[u8]) -> Result<Bytes, Error> {
 /// ```
 pub fn tidied(stream: &[u8]) -> (Result<Bytes, Error>, usize) {
     let mut out = vec![0; room(stream)];
-    let (mut number, mut n) = put(stream, &mut out);
-    // never, by what is proved of its length
-    if number == 19 {
-        out.resize(n[ECCH_TIDY_VALUE_1] as usize, 0);
-        (number, n) = put(stream, &mut out);
-    }
-    let taken = n[ECCH_TIDY_TAKEN] as usize;
+    let mut n = [0; ECCH_TIDY_NUMBERS];
+    // Sound: the pointers stand for whole Rust slices, which do not overlap since two are lent for writing.
+    let number = unsafe { ecch_tidy(stream.as_ptr(), stream.len(), out.as_mut_ptr(), out.len(), n.as_mut_ptr(), n.len()) };
+    let taken = within("bytes taken", n[ECCH_TIDY_TAKEN], stream.len());
     match Error::of(number, n[ECCH_TIDY_VALUE_1], n[ECCH_TIDY_VALUE_2]) {
+        // by what is proved of its length there is room
+        Some(Error::NoRoom(size)) => fault("for a tidy form the size", size),
         Some(e) => (Err(e), taken),
         None => {
-            out.truncate(n[ECCH_TIDY_SIZE] as usize);
+            out.truncate(within("for a tidy form the size", n[ECCH_TIDY_SIZE], out.len()));
             (Ok(Bytes::from(out)), taken)
         }
     }
 }
 
-/// As many bytes as the frame has by its length, and no more than the stream; six at least.
+/// A count that is at most `most`.
+fn within(what: &str, n: u64, most: usize) -> usize {
+    match fit(what, n) {
+        k if k > most => fault(what, k),
+        k => k,
+    }
+}
+
+/// Room for the tidy form: as many bytes as the frame can have by its length number, and no more than the stream; six at least.
 fn room(stream: &[u8]) -> usize {
     let mut rest = 0;
     for (i, b) in stream.iter().skip(1).take(4).enumerate() {
@@ -60,11 +68,4 @@ fn room(stream: &[u8]) -> usize {
         }
     }
     (5 + rest).min(stream.len()).max(6)
-}
-
-fn put(stream: &[u8], out: &mut [u8]) -> (u32, [u64; ECCH_TIDY_NUMBERS]) {
-    let mut n = [0; ECCH_TIDY_NUMBERS];
-    // Sound: the pointers stand for whole Rust slices, which do not overlap since two are lent for writing.
-    let number = unsafe { ecch_tidy(stream.as_ptr(), stream.len(), out.as_mut_ptr(), out.len(), n.as_mut_ptr(), n.len()) };
-    (number, n)
 }

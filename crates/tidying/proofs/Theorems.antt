@@ -11,21 +11,22 @@ use lib.Dec.{leb}
 use lib.ListN.{length, take, drop, getD}
 use lib.Seq.{take-at}
 use borrow.Author.Tests.{leb-true, leb-false, le-leb}
-use Rattle.grammar.specs.Choice.{lookup}
 use Rattle.grammar.specs.Octets.{Octets}
-use Rattle.grammar.specs.Tables.{Layout, aPublish, anAck, aSubscribe, aReply, anUnsubscribe, aPing, kinds}
-use Rattle.grammar.specs.Record.{kindOf}
+use Rattle.grammar.specs.Tables.{Layout, aPublish, anAck, aSubscribe, aReply, anUnsubscribe, aPing}
 use Rattle.grammar.specs.Sentence.{Packet, Sentence}
 use Rattle.reading.specs.Refusal.{Refusal, nr, Answer, accepted, refused, refusedAs}
-use Rattle.reading.specs.Reader.{got, bad}
+use Rattle.reading.specs.Reader.{Fit, got, bad}
 use Rattle.reading.specs.Read.{readOf}
-use Rattle.reading.specs.Bounds.{frameBounds}
+use Rattle.reading.specs.Bounds.{frameBounds, boundsOf, boundsIn, boundsBy}
 use Rattle.reading.proofs.Reading.{got-inj}
 use Rattle.reading.proofs.Fields.{num-solid}
 use Rattle.reading.proofs.Demand.{no-accept, reads-sentence}
+use Rattle.reading.proofs.Places.{placed-of}
+use Rattle.reading.proofs.Bounds.{read-bounds}
+use Rattle.writing.specs.Handed.{Handed}
 use Rattle.writing.specs.Size.{sizeIs}
 use Rattle.writing.specs.Refuse.{Accepts, no-room}
-use Rattle.writing.specs.Write.{frameBytes, outOf, leaves, Written}
+use Rattle.writing.specs.Write.{frameBytes, outOf, leaves, Written, answeredBehind, outBehind, WrittenBehind}
 use Rattle.writing.proofs.Each.{each-left}
 use Rattle.writing.proofs.Verdict.{accepted-when, refused-when, answered-when, unanswered-when}
 use Rattle.writing.proofs.Sizes.{length-frame}
@@ -37,8 +38,8 @@ use Rattle.tidy.specs.Order.{successIn, shortAck}
 use Rattle.tidy.proofs.Said.{sentence-said}
 use Rattle.tidy.proofs.Good.{good}
 use Rattle.tidy.proofs.Tidy.{tidy-is, tidy-reads, tidy-again, tidy-equal, tidy-refused}
-use Rattle.tidy.proofs.Layouts.{opened, publish-frame, reply-frame, unsubscribe-frame, subscribe-frame, ping-frame, ack-frame, ack-short}
-use Rattle.tidying.specs.Tidied.{toldTidied, roomFor, tidiedOf, sizeIn, standsIn, Tidies, fitOf, tidyLength}
+use Rattle.tidy.proofs.Layouts.{opened, bounds-alone, publish-frame, reply-frame, unsubscribe-frame, subscribe-frame, ping-frame, ack-frame, ack-short}
+use Rattle.tidying.specs.Tidied.{toldTidied, roomFor, tidiedOf, sizeIn, standsIn, Tidies, fitOf, tidyLength, layoutIn, BareAck}
 use Rattle.tidying.specs.declared.Tidied.{Tidied}
 use Rattle.tidying.proofs.Laws.Put.{laid-length, carried-kind, reason-there}
 
@@ -113,6 +114,13 @@ module _ (s : List ℕ) (o : Octets s) (v : Packet) (n : ℕ) (e : readOf none s
             output = t .output ∙ ap (standsIn before) i ∙ ap (leaves before) (sym (refused-when none (length before) (handedOf v) (nr 19 (sizeIs (handedOf v) ∷ [])) .1 w));
           }
 
+  -- and those of a writer that may refuse before all else, as `packet_write::write`, if f, what it is lent, is that record
+  pub tidy-behind : {f : Fit Handed} → f ≡ got (handedOf v) → {before after after′ : List ℕ} {r : Tidied} {told : Fit ℕ} → Tidies s before after r → WrittenBehind none f before after′ told → (told ≡ fitOf (toldTidied r)) × (after′ ≡ after)
+  unfolding answeredBehind outBehind outOf
+  tidy-behind q {before} t w =
+      let a = tidy-writes t in
+      (w .answer ∙ ap (λ (g : Fit Handed). answeredBehind g none before) q ∙ sym (a .answer), w .output ∙ ap (λ (g : Fit Handed). outBehind g none before) q ∙ sym (a .output))
+
   module _ {before after : List ℕ} {k m : ℕ} (t : Tidies s before after (Tidied.Put k m)) where
     -- what is put is the tidy form, and the frame's bytes are taken
     pub tidy-puts : (take k after ≡ frameBytes (handedOf v)) × (k ≡ length (frameBytes (handedOf v))) × (m ≡ n)
@@ -160,9 +168,6 @@ tidy-alike s s′ o o′ v v′ n n′ e e′ t t′ =
 -- ---- how long it is
 
 module _ (v : Packet) (c : List ℕ) (s : Sentence v c) (o : Octets c) (start end : ℕ) (d : frameBounds none c ≡ got (start, end)) where
-  abbrev layout : Option Layout
-  layout = lookup kinds (kindOf (getD c 0 0))
-
   short-length : (first : ℕ) → length (shortAck first c) ≡ cond (successIn c) 4 6
   unfolding shortAck
   short-length first = go (successIn c)
@@ -171,11 +176,11 @@ module _ (v : Packet) (c : List ℕ) (s : Sentence v c) (o : Octets c) (start en
       go true = refl
       go false = refl
 
-  ack-length : (rs : List ℕ) (b : Bool) → leb end start ≡ b → layout ≡ some (anAck rs) → length (frameBytes (handedOf v)) ≡ tidyLength (some (anAck rs)) b c
+  ack-length : (rs : List ℕ) (b : Bool) → leb end start ≡ b → layoutIn c ≡ some (anAck rs) → length (frameBytes (handedOf v)) ≡ tidyLength (some (anAck rs)) b c
   ack-length rs true h e = ap length (ack-short v c s o start end d rs e (leb-true end start h) .2) ∙ short-length _
   ack-length rs false h e = sym (laid-length _ _ c start end [] (ack-frame v c s o start end d rs e (leb-false end start h)))
 
-  by-layout : (l : Option Layout) → layout ≡ l → length (frameBytes (handedOf v)) ≡ tidyLength l (leb end start) c
+  by-layout : (l : Option Layout) → layoutIn c ≡ l → length (frameBytes (handedOf v)) ≡ tidyLength l (leb end start) c
   by-layout none e = carried-kind v c s e
   by-layout (some aPublish) e = sym (laid-length _ _ c start end [] (publish-frame v c s o start end d e))
   by-layout (some (anAck rs)) e = ack-length rs (leb end start) refl e
@@ -185,8 +190,8 @@ module _ (v : Packet) (c : List ℕ) (s : Sentence v c) (o : Octets c) (start en
   by-layout (some aPing) e = ap length (ping-frame v c s o start end d e)
 
   -- 02, P14, and DECISIONS 30: the tidy form of the frame c, whose properties stand from `start` to `end`, has this length
-  pub tidy-length : length (frameBytes (handedOf v)) ≡ tidyLength layout (leb end start) c
-  tidy-length = by-layout layout refl
+  pub tidy-length : length (frameBytes (handedOf v)) ≡ tidyLength (layoutIn c) (leb end start) c
+  tidy-length = by-layout (layoutIn c) refl
 
   -- a frame has a first byte and a length
   frame-two : 2 ≤ length c
@@ -196,20 +201,16 @@ module _ (v : Packet) (c : List ℕ) (s : Sentence v c) (o : Octets c) (start en
       go [] b h e = absurd (h refl)
       go (y ∷ n) b h e = omega (arith, ap length e)
 
-  -- an acknowledgement of a publish with no properties, whose reason is success or not
-  abbrev pub BareAck : Bool → Type 0
-  BareAck t = (rs : List ℕ) × (layout ≡ some (anAck rs)) × (end ≤ start) × (successIn c ≡ t)
-
-  bare-length : (t : Bool) → BareAck t → length (frameBytes (handedOf v)) ≡ cond t 4 6
+  bare-length : (t : Bool) → BareAck c start end t → length (frameBytes (handedOf v)) ≡ cond t 4 6
   bare-length t (rs, e, h, q) = ap length (ack-short v c s o start end d rs e h .2) ∙ short-length _ ∙ ap (λ (b : Bool). cond b 4 6) q
 
   -- the layouts whose tidy form has another length
-  other-length : (l : Option Layout) → layout ≡ l → (length (frameBytes (handedOf v)) ≡ length c) ⊎ (((layout ≡ some aPing) × (length (frameBytes (handedOf v)) ≡ 2)) ⊎ (BareAck true ⊎ BareAck false))
+  other-length : (l : Option Layout) → layoutIn c ≡ l → (length (frameBytes (handedOf v)) ≡ length c) ⊎ (((layoutIn c ≡ some aPing) × (length (frameBytes (handedOf v)) ≡ 2)) ⊎ (BareAck c start end true ⊎ BareAck c start end false))
   other-length none e = carried-kind v c s e
   other-length (some aPublish) e = inl (by-layout (some aPublish) e)
   other-length (some (anAck rs)) e = go (leb end start) refl (successIn c) refl
     where
-      go : (b : Bool) → leb end start ≡ b → (t : Bool) → successIn c ≡ t → (length (frameBytes (handedOf v)) ≡ length c) ⊎ (((layout ≡ some aPing) × (length (frameBytes (handedOf v)) ≡ 2)) ⊎ (BareAck true ⊎ BareAck false))
+      go : (b : Bool) → leb end start ≡ b → (t : Bool) → successIn c ≡ t → (length (frameBytes (handedOf v)) ≡ length c) ⊎ (((layoutIn c ≡ some aPing) × (length (frameBytes (handedOf v)) ≡ 2)) ⊎ (BareAck c start end true ⊎ BareAck c start end false))
       go true h true q = inr (inr (inl (rs, e, leb-true end start h, q)))
       go true h false q = inr (inr (inr (rs, e, leb-true end start h, q)))
       go false h t q = inl (ack-length rs false h e)
@@ -218,30 +219,78 @@ module _ (v : Packet) (c : List ℕ) (s : Sentence v c) (o : Octets c) (start en
   other-length (some anUnsubscribe) e = inl (by-layout (some anUnsubscribe) e)
   other-length (some aPing) e = inr (inl (e, by-layout (some aPing) e))
 
-  bare-bounds : (t : Bool) → BareAck t → (4 ≤ length c) × (length c ≤ 6)
+  bare-bounds : (t : Bool) → BareAck c start end t → (4 ≤ length c) × (length c ≤ 6)
   bare-bounds t (rs, e, h, q) = let w = ack-short v c s o start end d rs e h in (w .0, w .1)
 
   -- 02, P14: "A PubAck of five bytes becomes six": longer, by a byte, exactly for a reason other than success in a frame of five bytes (DECISIONS 160)
-  pub tidy-longer : (length c < length (frameBytes (handedOf v))) ↔ (BareAck false × (length c ≡ 5))
-  tidy-longer = (λ h. go h (other-length layout refl), λ (a, n). omega (arith, n, bare-length false a))
+  pub tidy-longer : (length c < length (frameBytes (handedOf v))) ↔ (BareAck c start end false × (length c ≡ 5))
+  tidy-longer = (λ h. go h (other-length (layoutIn c) refl), λ (a, n). omega (arith, n, bare-length false a))
     where
-      go : length c < length (frameBytes (handedOf v)) → (length (frameBytes (handedOf v)) ≡ length c) ⊎ (((layout ≡ some aPing) × (length (frameBytes (handedOf v)) ≡ 2)) ⊎ (BareAck true ⊎ BareAck false)) → BareAck false × (length c ≡ 5)
+      go : length c < length (frameBytes (handedOf v)) → (length (frameBytes (handedOf v)) ≡ length c) ⊎ (((layoutIn c ≡ some aPing) × (length (frameBytes (handedOf v)) ≡ 2)) ⊎ (BareAck c start end true ⊎ BareAck c start end false)) → BareAck c start end false × (length c ≡ 5)
       go h (inl e) = absurd (omega (arith, h, e))
       go h (inr (inl p)) = absurd (omega (arith, h, p .1, frame-two))
       go h (inr (inr (inl a))) = absurd (omega (arith, h, bare-length true a, bare-bounds true a .0))
       go h (inr (inr (inr a))) = (a, omega (arith, h, bare-length false a, reason-there c (sym (a .3))))
 
   -- shorter exactly for a ping with bytes behind its length, and for success with no properties in more than four bytes
-  pub tidy-shorter : (length (frameBytes (handedOf v)) < length c) ↔ (((layout ≡ some aPing) × (2 < length c)) ⊎ (BareAck true × (4 < length c)))
-  tidy-shorter = (λ h. go h (other-length layout refl), back)
+  pub tidy-shorter : (length (frameBytes (handedOf v)) < length c) ↔ (((layoutIn c ≡ some aPing) × (2 < length c)) ⊎ (BareAck c start end true × (4 < length c)))
+  tidy-shorter = (λ h. go h (other-length (layoutIn c) refl), back)
     where
-      go : length (frameBytes (handedOf v)) < length c → (length (frameBytes (handedOf v)) ≡ length c) ⊎ (((layout ≡ some aPing) × (length (frameBytes (handedOf v)) ≡ 2)) ⊎ (BareAck true ⊎ BareAck false))
-          → ((layout ≡ some aPing) × (2 < length c)) ⊎ (BareAck true × (4 < length c))
+      go : length (frameBytes (handedOf v)) < length c → (length (frameBytes (handedOf v)) ≡ length c) ⊎ (((layoutIn c ≡ some aPing) × (length (frameBytes (handedOf v)) ≡ 2)) ⊎ (BareAck c start end true ⊎ BareAck c start end false))
+          → ((layoutIn c ≡ some aPing) × (2 < length c)) ⊎ (BareAck c start end true × (4 < length c))
       go h (inl e) = absurd (omega (arith, h, e))
       go h (inr (inl p)) = inl (p .0, omega (arith, h, p .1))
       go h (inr (inr (inl a))) = inr (a, omega (arith, h, bare-length true a))
       go h (inr (inr (inr a))) = absurd (omega (arith, h, bare-length false a, bare-bounds false a .1))
 
-      back : ((layout ≡ some aPing) × (2 < length c)) ⊎ (BareAck true × (4 < length c)) → length (frameBytes (handedOf v)) < length c
+      back : ((layoutIn c ≡ some aPing) × (2 < length c)) ⊎ (BareAck c start end true × (4 < length c)) → length (frameBytes (handedOf v)) < length c
       back (inl (e, h)) = omega (arith, h, by-layout (some aPing) e)
       back (inr (a, h)) = omega (arith, h, bare-length true a)
+
+-- ---- how long it is, of the function
+
+module _ (s : List ℕ) (o : Octets s) (v : Packet) (n : ℕ) (e : readOf none s ≡ accepted v n) where
+  -- the frame at the start of the stream
+  frame-there : Sentence v (take n s) × (length (take n s) ≡ n) × Octets (take n s) × (frameBounds none s ≡ frameBounds none (take n s))
+  frame-there =
+      let (b, r, j, w, l) = reads-sentence s v n .0 e in
+      let q : take n s ≡ b = ap (take n) j ∙ take-at b r n l in
+      rw q (w, l, each-left b r (rw j at o), ap (frameBounds none) j ∙ bounds-alone v b r w)
+
+  -- 02's two numbers of a record that is read are those of its frame
+  bounds-there : {start end : ℕ} → boundsOf none s ≡ got (start, end) → frameBounds none (take n s) ≡ got (start, end)
+  unfolding boundsOf
+  bounds-there d = let (p, q, _) = placed-of none s v n e in sym (frame-there .3) ∙ (rw q at d)
+
+  bounds-read : (start end : ℕ) × (boundsOf none s ≡ got (start, end))
+  bounds-read = let (p, q, _) = placed-of none s v n e in (boundsIn p n .0, boundsIn p n .1, read-bounds none s ∙ ap boundsBy q)
+
+  module _ {before after : List ℕ} {k m : ℕ} (t : Tidies s before after (Tidied.Put k m)) where
+    module _ {start end : ℕ} (d : boundsOf none s ≡ got (start, end)) where
+      -- 02, P14: "A PubAck of five bytes becomes six": more bytes are put than taken exactly for that, and then they are six
+      pub put-longer : (m < k) ↔ (BareAck (take n s) start end false × (m ≡ 5))
+      put-longer =
+          let (_, i, j) = tidy-puts s o v n e t in
+          let (w, l, c, _) = frame-there in
+          let h = tidy-longer v (take n s) w c start end (bounds-there d) in
+          (λ x. let (a, f) = h .0 (omega (arith, x, i, j, l)) in (a, omega (arith, f, j, l)), λ (a, f). let x = h .1 (a, omega (arith, f, j, l)) in omega (arith, x, i, j, l))
+
+      -- fewer are put than taken exactly for a ping with bytes behind its length, and for success with no properties in more than four bytes
+      pub put-shorter : (k < m) ↔ (((layoutIn (take n s) ≡ some aPing) × (2 < m)) ⊎ (BareAck (take n s) start end true × (4 < m)))
+      put-shorter =
+          let (_, i, j) = tidy-puts s o v n e t in
+          let (w, l, c, _) = frame-there in
+          let q : length (take n s) ≡ m = l ∙ sym j in
+          rw (i, ← q) (tidy-shorter v (take n s) w c start end (bounds-there d))
+
+    -- no more bytes are put than taken, or six for five
+    pub put-length : (k ≤ m) ⊎ ((m ≡ 5) × (k ≡ 6))
+    put-length = go (leb k m) refl
+      where
+        go : (b : Bool) → leb k m ≡ b → (k ≤ m) ⊎ ((m ≡ 5) × (k ≡ 6))
+        go true h = inl (leb-true k m h)
+        go false h =
+            let (start, end, d) = bounds-read in
+            let (w, l, c, _) = frame-there in
+            let (a, f) = put-longer d .0 (leb-false k m h) in
+            inr (f, tidy-puts s o v n e t .1 ∙ bare-length v (take n s) w c start end (bounds-there d) false a)

@@ -3,10 +3,12 @@ use mathlib.Core.Path.{_≡_}
 use mathlib.Core.Bool.{Bool, true, false, cond}
 use mathlib.Core.Option.{Option, none, some}
 use mathlib.Core.List.{List, [], _∷_, _++_}
-use Prim.Native.Nat.{ℕ}
+use Prim.Native.Nat.{ℕ, _≤_}
 use lib.Dec.{leb}
-use lib.ListN.{length, drop}
-use Rattle.grammar.specs.Tables.{Layout, aPublish, anAck, aSubscribe, aReply, anUnsubscribe, aPing}
+use lib.ListN.{length, drop, getD}
+use Rattle.grammar.specs.Choice.{lookup}
+use Rattle.grammar.specs.Record.{kindOf}
+use Rattle.grammar.specs.Tables.{Layout, aPublish, anAck, aSubscribe, aReply, anUnsubscribe, aPing, kinds}
 use Rattle.reading.specs.Refusal.{nr, Answer, accepted, refused, refusedAs}
 use Rattle.reading.specs.Reader.{Fit, got, bad}
 use Rattle.reading.specs.Read.{readOf}
@@ -67,3 +69,11 @@ tidyLength (some aSubscribe) bare c = length c
 tidyLength (some (aReply rs)) bare c = length c
 tidyLength (some anUnsubscribe) bare c = length c
 tidyLength (some aPing) bare c = 2
+
+-- the layout of a frame, by the kind in its first byte
+abbrev pub layoutIn : List ℕ → Option Layout
+layoutIn c = lookup kinds (kindOf (getD c 0 0))
+
+-- an acknowledgement of a publish with no properties (02, P7: "When absent they are equal"), whose reason is success or not
+abbrev pub BareAck : List ℕ → ℕ → ℕ → Bool → Type 0
+BareAck c start end t = (rs : List ℕ) × (layoutIn c ≡ some (anAck rs)) × (end ≤ start) × (successIn c ≡ t)

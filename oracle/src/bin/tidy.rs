@@ -433,7 +433,7 @@ fn time() {
 fn main() {
     let args: Vec<String> = std::env::args().skip(1).collect();
     let after = |name: &str, or: u64| args.iter().position(|a| a == name).map_or(or, |i| args[i + 1].parse().unwrap());
-    let files = || args.iter().position(|a| a == "--files").map_or(vec![], |i| args[i + 1..].to_vec());
+    let files = || args.iter().position(|a| a == "--files").map_or(vec![], |i| args[i + 1..].iter().take_while(|a| !a.starts_with("--")).cloned().collect());
     match args.first().map(String::as_str) {
         Some("compare") => compare(after("--count", 1_200_000), after("--seed", 20_261_116), &files()),
         Some("archive") => archive(&args[1]),
