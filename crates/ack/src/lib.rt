@@ -85,7 +85,7 @@ fn read_reason(kind: AckKind, s: &[u8], at: usize, pkid: u16) -> GotAck
     GotAck::Refused(Error::InvalidReason(reason))
 }
 
-// The fields from index `at` to the end of the frame.
+// The acknowledgement of the kind in the fields from index `at` to the end of the frame, or the first refusal from the left.
 pub fn read(kind: AckKind, s: &[u8], at: usize) -> GotAck
     ensures { λ r. ⌜ ((x : ℕ) → kindOf x ≡ toldAckKind kind → onGot (record-of.ack (toldAckKind kind)) (toldGotAck r)
         ≡ fieldsFit asPlaces (anAck (reasonsOf (toldAckKind kind))) x (length (now (s .entry))) (drop at (now (s .entry)))) ⌝ }

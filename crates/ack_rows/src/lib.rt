@@ -36,7 +36,7 @@ pub fn rows_length(on: bool, text: &[u8], user: &[u8], user_lengths: &[usize]) -
     )
 }
 
-// Their texts: 18, then 9.
+// Their texts, the reason string first: 18, then 9.
 pub fn test_rows(on: bool, text: &[u8], user: &[u8], user_lengths: &[usize]) -> Tested
     ensures { λ r. ⌜ toldTested r ≡ judge (flat fieldTests (propsFields ackPlace (given on (now (text .entry)) (now (user .entry)) (now («user_lengths» .entry))))) ⌝ }
 {
@@ -46,7 +46,7 @@ pub fn test_rows(on: bool, text: &[u8], user: &[u8], user_lengths: &[usize]) -> 
     )
 }
 
-// L, cut off where it is too large, and the properties; gives the index behind them.
+// L, cut off where it is too large, and the properties, 31 before 38; gives the index behind them.
 pub fn put_rows(
     out: &mut [u8],
     at: usize,

@@ -154,7 +154,7 @@ fn put(out: &mut [u8], m: AckHead, reason_string: &[u8], user: &[u8], user_lengt
     }
 }
 
-// The frame from index 0 on, and its size; a refused write leaves the output as it stood.
+// The frame from index 0 on, and its size; a refused write leaves the output as it stood. 15 is tested before the texts.
 pub fn write(
     m: AckHead,
     reason_string: &[u8],

@@ -31,7 +31,7 @@ pub enum AliasError {
     AliasNoRoom,
 }
 
-// The number of a refusal; none has values.
+// The number of a refusal, 24 to 28; none has values.
 pub fn number(e: AliasError) -> u8
     ensures { λ r. ⌜ r ≡ rowOf (toldAlias e) ⌝ }
 {
@@ -101,7 +101,7 @@ fn judge_alias(table: &[u8], topic: &[u8], alias: u16) -> Judged
     Judged::Permitted
 }
 
-// Is a message with this topic, and perhaps an alias, refused?
+// Is a message with this topic, and perhaps an alias, refused on this table? 24 to 28, in P6's order.
 pub fn judge(table: &[u8], topic: &[u8], alias: MaybeU16) -> Judged
     ensures { λ r. ⌜ toldJudged r ≡ permit (now (table .entry)) (now (topic .entry)) (numberU16 alias) ⌝ }
 {

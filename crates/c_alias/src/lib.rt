@@ -73,7 +73,7 @@ pub extern "C" fn ecch_alias_learn(
     judged_number(judged)
 }
 
-// Where its topic in force lies: 0, or the refusal's number; which slice, start and length are stored.
+// Where the topic in force of such a Publish lies: 0, or the refusal's number; which slice, start and length are stored.
 #[no_mangle]
 pub extern "C" fn ecch_topic_in_force(
     stream: &[u8],

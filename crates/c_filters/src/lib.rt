@@ -87,7 +87,7 @@ fn store_answer(found: FilterTable, taken: usize, answer: &mut [u64]) -> u32
     table_number(found)
 }
 
-// The filters of the Subscribe at the start of the stream, read with no limit, in order: 0, or the refusal's number.
+// The filters of the Subscribe at the start of the stream, read with no limit, in order: 0, or the refusal's number, 37 and 38 among them.
 #[no_mangle]
 pub extern "C" fn ecch_filter_table(stream: &[u8], table: &mut [u64], answer: &mut [u64]) -> u32
     ensures number { λ r. ⌜ r ≡ tableNumber (saidOf (now (stream .entry)) (placesIn (now (table .entry)))) ⌝ }

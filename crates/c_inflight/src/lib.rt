@@ -297,7 +297,7 @@ pub extern "C" fn ecch_inflight_start(table: &mut [u8]) -> u32
     0
 }
 
-// An identifier for a message about to be sent.
+// An identifier for a message about to be sent: 0, or the refusal's number, 11 for a QoS above 2, 39 for bytes that are no table.
 #[no_mangle]
 pub extern "C" fn ecch_inflight_claim(qos: u8, table: &mut [u8], answer: &mut [u64]) -> u32
     ensures left { λ r. ⌜ Ends (claimGiven qos (now (table .entry))) r (now (table .exit)) ⌝ }
@@ -309,7 +309,7 @@ pub extern "C" fn ecch_inflight_claim(qos: u8, table: &mut [u8], answer: &mut [u
     o.number
 }
 
-// An acknowledgement that was read, by the number of its kind.
+// An acknowledgement that was read, by the number of its kind: 0, or 31, or 39.
 #[no_mangle]
 pub extern "C" fn ecch_inflight_acked(
     kind: u8,

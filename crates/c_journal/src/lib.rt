@@ -196,7 +196,7 @@ pub extern "C" fn ecch_journal_start(area: &mut [u8]) -> u32
     }
 }
 
-// Stores the table under the next number.
+// Stores the table under the next number: 0, or 32 before all else, 39 for bytes that are no table, 34.
 #[no_mangle]
 pub extern "C" fn ecch_journal_save(table: &[u8], area: &mut [u8], answer: &mut [u64]) -> u32
     ensures left { λ r. ⌜ Ends (saveGiven (now (table .entry)) (now (area .entry))) r (now (area .exit)) ⌝ }
@@ -208,7 +208,8 @@ pub extern "C" fn ecch_journal_save(table: &[u8], area: &mut [u8], answer: &mut 
     o.number
 }
 
-// The table of the latest save. 39 if the table has no room for a byte of each identifier, unless the area is bad.
+// The table of the latest save, and its number. 39 if the table has no room for a byte of each identifier, unless the area is bad: then the
+// lent table stays.
 #[no_mangle]
 pub extern "C" fn ecch_journal_recover(area: &[u8], table: &mut [u8], answer: &mut [u64]) -> u32
     ensures number { λ r. ⌜ r ≡ recoverNumber (recoverOf limit (now (area .entry))) (length (now (table .entry))) ⌝ }

@@ -166,7 +166,7 @@ fn step_of(limit: Limit, state: &mut [u64], buffer: &mut [u8], piece: &[u8]) -> 
     }
 }
 
-// The next frame, of the bytes held and the piece behind them: 0, or the refusal's number.
+// The next frame, of the bytes held and the piece behind them: 0, or the refusal's number; 35 too where the numbers stand for no state.
 #[no_mangle]
 pub extern "C" fn ecch_next_frame(
     limited: u8,

@@ -13,7 +13,7 @@ fn flag(b: bool) -> u8
     0
 }
 
-// Does a topic or filter have wildcards?
+// Does a topic or filter have wildcards? 1 or 0, here and below.
 #[no_mangle]
 pub extern "C" fn ecch_has_wildcards(s: &[u8]) -> u8
     ensures { λ r. ⌜ r ≡ flagOf (hasWild (now (s .entry))) ⌝ }

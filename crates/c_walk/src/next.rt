@@ -48,7 +48,7 @@ fn step_numbers(next: usize, item: UserItem) -> [u64; 5]
     }
 }
 
-// 0, or 21 when there is none left.
+// The next user property from an index on, in the bytes before another, in the row of a kind: 0, or 21 when there is none left.
 #[no_mangle]
 pub extern "C" fn ecch_next_user(
     frame: &[u8],

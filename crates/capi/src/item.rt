@@ -10,7 +10,7 @@ ghost use Rattle.layout.specs.Value.{fitNumber};
 ghost use Rattle.layout_item.specs.Item.{userNumbers, identifierNumbers, filterNumbers, reasonNumbers, topicNumbers};
 ghost use Rattle.given.specs.Kind.{userOf, reasonGiven};
 
-// Key and value.
+// Key and value of the n-th user property of a kind's block: 0, or 21.
 #[no_mangle]
 pub extern "C" fn ecch_user_property(
     stream: &[u8],
@@ -27,7 +27,7 @@ pub extern "C" fn ecch_user_property(
     layout_item::store_user(found, &mut *into)
 }
 
-// Of a Publish.
+// The n-th subscription identifier of a Publish: 0, or 21.
 #[no_mangle]
 pub extern "C" fn ecch_subscription_identifier(
     stream: &[u8],
@@ -43,7 +43,7 @@ pub extern "C" fn ecch_subscription_identifier(
     layout_item::store_identifier(found, &mut *into)
 }
 
-// Text and options.
+// Text and options of the n-th filter: 0, or 21.
 #[no_mangle]
 pub extern "C" fn ecch_filter(
     stream: &[u8],
@@ -59,7 +59,7 @@ pub extern "C" fn ecch_filter(
     layout_item::store_filter(found, &mut *into)
 }
 
-// Of a SubAck or UnsubAck.
+// The n-th reason of a SubAck or UnsubAck: 0, or 21.
 #[no_mangle]
 pub extern "C" fn ecch_reason(
     stream: &[u8],
@@ -76,7 +76,7 @@ pub extern "C" fn ecch_reason(
     layout_item::store_reason(found, &mut *into)
 }
 
-// Of an Unsubscribe.
+// Where the n-th topic of an Unsubscribe stands: 0, or 21.
 #[no_mangle]
 pub extern "C" fn ecch_topic(
     stream: &[u8],

@@ -12,7 +12,8 @@ ghost use Rattle.layout.specs.Value.{fitNumber};
 ghost use Rattle.layout_next.specs.Next.{propertyNumbers, nextFilterNumbers, nextTopicNumbers};
 ghost use Rattle.given_next.specs.UpTo.{propertyUpTo, filterUpTo, topicUpTo};
 
-// Identifier and value.
+// Identifier and value of the property at an index of a block that ends where C says: 0, or the refusal's number. What came before it is not
+// known, so it is never 22.
 #[no_mangle]
 pub extern "C" fn ecch_property(
     stream: &[u8],
@@ -28,7 +29,7 @@ pub extern "C" fn ecch_property(
     store_property(found, &mut *into)
 }
 
-// Text and options.
+// Text and options of the filter at an index of a run that ends where C says: 0, or the refusal's number.
 #[no_mangle]
 pub extern "C" fn ecch_next_filter(stream: &[u8], at: usize, end: usize, into: &mut [u64]) -> u32
     ensures number { λ r. ⌜ r ≡ fitNumber (filterUpTo (now (stream .entry)) at end) ⌝ }
@@ -38,7 +39,7 @@ pub extern "C" fn ecch_next_filter(stream: &[u8], at: usize, end: usize, into: &
     store_next_filter(found, &mut *into)
 }
 
-// Where it stands.
+// Where the topic at an index of a run that ends where C says stands: 0, or the refusal's number.
 #[no_mangle]
 pub extern "C" fn ecch_next_topic(stream: &[u8], at: usize, end: usize, into: &mut [u64]) -> u32
     ensures number { λ r. ⌜ r ≡ fitNumber (topicUpTo (now (stream .entry)) at end) ⌝ }

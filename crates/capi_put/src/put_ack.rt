@@ -62,6 +62,7 @@ fn ack_write(
     layout_answer::store_written(written, &mut *answer)
 }
 
+// The size of a PubAck: 0, or the refusal's number.
 #[no_mangle]
 pub extern "C" fn ecch_puback_size(
     pkid: u16,
@@ -89,6 +90,7 @@ pub extern "C" fn ecch_puback_size(
     )
 }
 
+// A PubAck written: 0, or the refusal's number.
 #[no_mangle]
 pub extern "C" fn ecch_puback_write(
     pkid: u16,
@@ -123,6 +125,7 @@ pub extern "C" fn ecch_puback_write(
     )
 }
 
+// The size of a PubRec: 0, or the refusal's number.
 #[no_mangle]
 pub extern "C" fn ecch_pubrec_size(
     pkid: u16,
@@ -150,6 +153,7 @@ pub extern "C" fn ecch_pubrec_size(
     )
 }
 
+// A PubRec written: 0, or the refusal's number.
 #[no_mangle]
 pub extern "C" fn ecch_pubrec_write(
     pkid: u16,
@@ -184,6 +188,7 @@ pub extern "C" fn ecch_pubrec_write(
     )
 }
 
+// The size of a PubRel: 0, or the refusal's number.
 #[no_mangle]
 pub extern "C" fn ecch_pubrel_size(
     pkid: u16,
@@ -211,6 +216,7 @@ pub extern "C" fn ecch_pubrel_size(
     )
 }
 
+// A PubRel written: 0, or the refusal's number.
 #[no_mangle]
 pub extern "C" fn ecch_pubrel_write(
     pkid: u16,
@@ -245,6 +251,7 @@ pub extern "C" fn ecch_pubrel_write(
     )
 }
 
+// The size of a PubComp: 0, or the refusal's number.
 #[no_mangle]
 pub extern "C" fn ecch_pubcomp_size(
     pkid: u16,
@@ -272,6 +279,7 @@ pub extern "C" fn ecch_pubcomp_size(
     )
 }
 
+// A PubComp written: 0, or the refusal's number.
 #[no_mangle]
 pub extern "C" fn ecch_pubcomp_write(
     pkid: u16,

@@ -11,7 +11,7 @@ ghost use Rattle.layout.specs.Value.{fitNumber};
 ghost use Rattle.layout_answer.specs.Answer.{answerNumbers};
 ghost use Rattle.given.specs.Given.{limitGiven};
 
-// Of either ping.
+// The size of either ping: 0, and 2 is stored.
 #[no_mangle]
 pub extern "C" fn ecch_ping_size(answer: &mut [u64]) -> u32
     ensures { λ r. ⌜ ((k : ℕ) → (r ≡ fitNumber (sizeOf (ping k))) × (now (answer .exit) ≡ sets (now (answer .entry)) 0 (answerNumbers (sizeOf (ping k))))) ⌝ }
@@ -20,6 +20,7 @@ pub extern "C" fn ecch_ping_size(answer: &mut [u64]) -> u32
     layout_answer::store_written(size, &mut *answer)
 }
 
+// A PingReq written: 0, or the refusal's number.
 #[no_mangle]
 pub extern "C" fn ecch_pingreq_write(
     limited: u8,
@@ -35,6 +36,7 @@ pub extern "C" fn ecch_pingreq_write(
     layout_answer::store_written(written, &mut *answer)
 }
 
+// A PingResp written: 0, or the refusal's number.
 #[no_mangle]
 pub extern "C" fn ecch_pingresp_write(
     limited: u8,

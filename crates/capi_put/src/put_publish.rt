@@ -12,6 +12,7 @@ ghost use Rattle.given.specs.Given.{limitGiven};
 ghost use Rattle.given_heads.specs.By.{handedBy, publishBy};
 ghost use Rattle.writing.specs.Write.{sizedBehind, answeredBehind, outBehind};
 
+// The size of a Publish: 0, or the refusal's number: 20, a number whose flag is off included, then 11 for a QoS above 2, then its own order.
 #[no_mangle]
 pub extern "C" fn ecch_publish_size(
     dup: u8,
@@ -71,6 +72,7 @@ pub extern "C" fn ecch_publish_size(
     layout_answer::store_written(size, &mut *answer)
 }
 
+// A Publish written: 0, or the refusal's number, in the same order.
 #[no_mangle]
 pub extern "C" fn ecch_publish_write(
     dup: u8,

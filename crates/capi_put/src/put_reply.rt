@@ -63,6 +63,7 @@ fn reply_write(
     layout_answer::store_written(written, &mut *answer)
 }
 
+// The size of a SubAck: 0, or the refusal's number.
 #[no_mangle]
 pub extern "C" fn ecch_suback_size(
     pkid: u16,
@@ -90,6 +91,7 @@ pub extern "C" fn ecch_suback_size(
     )
 }
 
+// A SubAck written: 0, or the refusal's number.
 #[no_mangle]
 pub extern "C" fn ecch_suback_write(
     pkid: u16,
@@ -124,6 +126,7 @@ pub extern "C" fn ecch_suback_write(
     )
 }
 
+// The size of an UnsubAck: 0, or the refusal's number.
 #[no_mangle]
 pub extern "C" fn ecch_unsuback_size(
     pkid: u16,
@@ -151,6 +154,7 @@ pub extern "C" fn ecch_unsuback_size(
     )
 }
 
+// An UnsubAck written: 0, or the refusal's number.
 #[no_mangle]
 pub extern "C" fn ecch_unsuback_write(
     pkid: u16,

@@ -12,6 +12,7 @@ ghost use Rattle.layout_answer.specs.Answer.{answerNumbers};
 ghost use Rattle.given.specs.Given.{limitGiven};
 ghost use Rattle.given_heads.specs.By.{handedBy, subscribeBy};
 
+// The size of a Subscribe: 0, or the refusal's number: 20, its identifier with the flag off included, then its own order.
 #[no_mangle]
 pub extern "C" fn ecch_subscribe_size(
     pkid: u16,
@@ -33,6 +34,7 @@ pub extern "C" fn ecch_subscribe_size(
     layout_answer::store_written(size, &mut *answer)
 }
 
+// A Subscribe written: 0, or the refusal's number, in the same order.
 #[no_mangle]
 pub extern "C" fn ecch_subscribe_write(
     pkid: u16,

@@ -12,6 +12,7 @@ ghost use Rattle.layout_answer.specs.Answer.{answerNumbers};
 ghost use Rattle.given.specs.Given.{limitGiven};
 ghost use Rattle.given_heads.specs.By.{unsubscribeBy};
 
+// The size of an Unsubscribe: 0, or the refusal's number.
 #[no_mangle]
 pub extern "C" fn ecch_unsubscribe_size(
     pkid: u16,
@@ -30,6 +31,7 @@ pub extern "C" fn ecch_unsubscribe_size(
     layout_answer::store_written(layout_answer::as_written(size), &mut *answer)
 }
 
+// An Unsubscribe written: 0, or the refusal's number.
 #[no_mangle]
 pub extern "C" fn ecch_unsubscribe_write(
     pkid: u16,

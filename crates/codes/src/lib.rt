@@ -19,7 +19,7 @@ pub fn qos_number(q: QoS) -> u8
     }
 }
 
-// The forward rule of a number, or refusal 14.
+// The forward rule of a number, or refusal 14 with it.
 pub fn retain_forward_rule(num: u8) -> GotRule
     ensures { λ r. ⌜ toldGotRule r ≡ ruleOf num ⌝ }
 {

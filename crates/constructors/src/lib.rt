@@ -14,7 +14,7 @@ ghost use Rattle.ack_write.specs.Handed as acknowledging;
 ghost use Rattle.subscribe_write.specs.Handed as subscribing;
 ghost use Rattle.constructors.specs.New.{headerOf, toldHeader, newAck, newSubscribe};
 
-// The first byte, how many bytes spell R, and R.
+// The first byte, one more than the bytes that spell R (the largest usize where there is no such number), and R.
 pub fn new_fixed_header(byte1: u8, remaining_len_len: usize, remaining_len: usize) -> FixedHeader
     ensures { λ r. ⌜ toldHeader r ≡ headerOf byte1 «remaining_len_len» «remaining_len» ⌝ }
 {
@@ -33,7 +33,7 @@ pub fn new_fixed_header(byte1: u8, remaining_len_len: usize, remaining_len: usiz
     }
 }
 
-// A success, of any publish acknowledgement.
+// A success of the kind, any publish acknowledgement, with this identifier and presence.
 pub fn new_ack(kind: AckKind, pkid: u16, block: bool, reason_string: bool) -> AckHead
     ensures { λ r. ⌜ ((text user lengths : List ℕ) → ack (toldAckKind (r .kind)) (acknowledging.handed r text user lengths) ≡ ack (toldAckKind kind) (newAck pkid block «reason_string» text user lengths)) ⌝ }
 {

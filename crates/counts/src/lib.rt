@@ -18,6 +18,7 @@ pub fn kind_at(num: u8) -> usize
     48 + num as usize
 }
 
+// No counts.
 pub fn none() -> [u64; 64]
     ensures { λ r. ⌜ r ≡ replicate 64 0 ⌝ }
 {
@@ -53,14 +54,14 @@ pub fn number_in(p: Packet) -> u8
     number_of(kind_in(p))
 }
 
-// A packet more.
+// One more of the packet's kind.
 pub fn add_packet(tally: &mut [u64], p: Packet)
     ensures { λ r. ⌜ now (tally .exit) ≡ kindMore (now (tally .entry)) p ⌝ }
 {
     add(&mut *tally, kind_at(number_in(p)));
 }
 
-// A refusal more.
+// One more of the refusal's number and of all refusals.
 pub fn add_refused(tally: &mut [u64], e: Error)
     ensures { λ r. ⌜ now (tally .exit) ≡ refusedMore (now (tally .entry)) e ⌝ }
 {

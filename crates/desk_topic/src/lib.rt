@@ -37,7 +37,7 @@ fn matches_force(filter: &[u8], stream: &[u8], table: &[u8], m: Publish) -> bool
     }
 }
 
-// Is a packet shown? Every one is, if there is no filter.
+// Is a packet shown? Every one is, if there is no filter; else a Publish that is not refused and whose topic in force matches.
 pub fn is_shown(filter: &[u8], stream: &[u8], table: &[u8], p: Packet) -> bool
     ensures { λ r. ⌜ r ≡ shows (now (filter .entry)) (now (stream .entry)) (now (table .entry)) p ⌝ }
 {

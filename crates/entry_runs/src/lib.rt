@@ -48,7 +48,7 @@ fn nth_reason(kind: ReplyKind, s: &[u8], at: usize, n: usize) -> ReasonItem
     item
 }
 
-// The n-th reason of the run at a place, n from 0, in a frame of this kind; any bytes, any place.
+// The n-th reason of the run at a place, n from 0, in a frame of this kind, or 21; any bytes, any place.
 pub fn reason(kind: ReplyKind, s: &[u8], p: Span, n: usize) -> ReasonItem
     ensures { λ r. ⌜ NthReason (now (s .entry)) p kind n r ⌝ }
 {
@@ -92,7 +92,7 @@ fn nth_topic(s: &[u8], at: usize, n: usize) -> TopicItem
     item
 }
 
-// The n-th topic of the run at a place, n from 0; any bytes, any place.
+// The n-th topic of the run at a place, n from 0, or 21; any bytes, any place.
 pub fn topic(s: &[u8], p: Span, n: usize) -> TopicItem
     ensures { λ r. ⌜ NthTopic (now (s .entry)) p n r ⌝ }
 {

@@ -32,7 +32,7 @@ fn broken(s: &[u8], at: usize) -> GotFilters
     }
 }
 
-// One filter or more, to the end.
+// One filter or more, to the end; 13 if there is none, or the first refusal.
 pub fn read_filters(s: &[u8], at: usize) -> GotFilters
     ensures { λ r. ⌜ toldGotFilters r ≡ placeFit (length (now (s .entry))) (drop at (now (s .entry))) ⌝ }
 {
@@ -82,7 +82,7 @@ fn nth(s: &[u8], at: usize, n: usize) -> FilterItem
     item
 }
 
-// The n-th filter of the run at a place, n from 0; any bytes, any place.
+// The n-th filter of the run at a place, n from 0, or 21; any bytes, any place.
 pub fn filter(s: &[u8], p: Span, n: usize) -> FilterItem
     ensures { λ r. ⌜ NthFilter (now (s .entry)) p n r ⌝ }
 {

@@ -82,7 +82,7 @@ fn to_entry(f: Filter) -> FilterEntry
     }
 }
 
-// The entry at an index of the bytes before `end`.
+// The entry at an index of the bytes before `end`, and the index after it; zeros and the index itself where none stands.
 pub fn entry_at(s: &[u8], at: usize, end: usize) -> NextEntry
     ensures { λ r. ⌜ EntryIs (now (s .entry)) at end (r .entry) (r .next) ⌝ }
 {
@@ -216,7 +216,8 @@ fn put_entries(s: &[u8], at: usize, end: usize, n: usize, table: &mut [FilterEnt
     }
 }
 
-// The filters of the Subscribe at the start of `frame`, read with no limit, in order.
+// The filters of the Subscribe at the start of `frame`, read with no limit, in order: how many; or the reader's refusal, NotSubscribe (38) or
+// FilterTableFull (37) with the number needed, and the table as it was.
 pub fn fill_filters(frame: &[u8], table: &mut [FilterEntry]) -> FilterTable
     ensures { λ r. ⌜ Fills (now (frame .entry)) (now (table .entry)) r (now (table .exit)) ⌝ }
 {

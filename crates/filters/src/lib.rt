@@ -48,7 +48,7 @@ fn with_options(path: Span, options: u8, next: usize) -> GotFilter
     }
 }
 
-// One filter and the index after it.
+// One filter and the index after it; else 7, 8, 9, 14, then 11.
 pub fn read_filter(s: &[u8], at: usize) -> GotFilter
     ensures { λ r. ⌜ toldGotFilter r ≡ fromAt (filterOf asPlaces (length (now (s .entry)))) (now (s .entry)) at ⌝ }
 {

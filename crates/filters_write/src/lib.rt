@@ -65,7 +65,7 @@ fn test_filter(s: &[u8], options: u8) -> Tested
     }
 }
 
-// Filters one after the other, as far as there are both lengths and options.
+// Filters one after the other, as far as there are both lengths and options: 18, 9, 14, then 11, the first refusal.
 pub fn test_filters(bytes: &[u8], lengths: &[usize], options: &[u8]) -> Tested
     ensures { λ r. ⌜ toldTested r ≡ judge (flat fieldTests (map filterField (filtersOf (runOf (now (bytes .entry)) (now (lengths .entry))) (now (options .entry))))) ⌝ }
 {
@@ -103,7 +103,7 @@ fn put_filter(out: &mut [u8], at: usize, s: &[u8], options: u8) -> usize
     3 + s.len()
 }
 
-// Filters one after the other, as far as there are both lengths and options.
+// Filters one after the other, as far as there are both lengths and options, bits 6 and 7 of which are put as 0.
 pub fn put_filters(
     out: &mut [u8],
     at: usize,

@@ -15,7 +15,7 @@ pub enum Checked {
     Refused(Error),
 }
 
-// The first byte and R, whether or not R bytes follow.
+// The first byte, R, and where the R bytes start, whether or not they follow; 1 with n, or 2.
 pub fn parse_fixed_header(stream: &[u8]) -> Checked
     ensures { λ r. ⌜ (toldHeader r ≡ fromAt headerOf (now (stream .entry)) 0) × Small r ⌝ }
 {
@@ -71,7 +71,7 @@ fn then(a: Checked, b: Checked) -> Checked
     }
 }
 
-// The header, if the limit lets F pass and R bytes follow.
+// The header, if the limit lets F pass and R bytes follow; else 1, 2 or 3 (with F), in 01's order.
 pub fn check(stream: &[u8], limit: Limit) -> Checked
     ensures { λ r. ⌜ toldChecked (now (stream .entry)) r ≡ frameAt (limitOf limit) (now (stream .entry)) ⌝ }
 {

@@ -16,7 +16,7 @@ pub struct FixedHeader {
 }
 
 impl FixedHeader {
-    // The kind that the high four bits name.
+    // The kind that the high four bits of the first byte name.
     pub fn packet_type(self) -> Kind
         ensures { λ r. ⌜ toldKind r ≡ kindRow (kindOf (self .byte1)) ⌝ }
     {

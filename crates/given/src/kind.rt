@@ -14,7 +14,7 @@ ghost use Rattle.records.specs.Told.{toldSpan};
 ghost use Rattle.records.specs.Answered.{toldUser, toldReasonItem};
 ghost use Rattle.given.specs.Kind.{userOf, reasonGiven, PropertyGiven};
 
-// Of the block of a kind that has one.
+// The n-th user property of a kind's block; 21 for a kind without properties.
 pub fn user_item(stream: &[u8], kind: u8, p: Span, n: usize) -> UserItem
     ensures { λ r. ⌜ toldUser r ≡ userOf kind (now (stream .entry)) (toldSpan p) n ⌝ }
 {
@@ -24,7 +24,7 @@ pub fn user_item(stream: &[u8], kind: u8, p: Span, n: usize) -> UserItem
     }
 }
 
-// In the row of a kind that has one.
+// The property at an index, in the row of a kind; 21 for a kind without properties.
 pub fn property_at(stream: &[u8], kind: u8, at: usize) -> GotProperty
     ensures { λ r. ⌜ PropertyGiven kind (now (stream .entry)) at r ⌝ }
 {
@@ -34,7 +34,7 @@ pub fn property_at(stream: &[u8], kind: u8, at: usize) -> GotProperty
     }
 }
 
-// The n-th reason of a kind that has reasons.
+// The n-th reason of a SubAck or UnsubAck; 21 for another kind.
 pub fn reason_item(stream: &[u8], kind: u8, p: Span, n: usize) -> ReasonItem
     ensures { λ r. ⌜ toldReasonItem r ≡ reasonGiven kind (now (stream .entry)) (toldSpan p) n ⌝ }
 {

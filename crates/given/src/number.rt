@@ -7,12 +7,14 @@ ghost use mathlib.Core.Path.{_≡_};
 ghost use Rattle.records.specs.Told.{limitOf, numberU8, numberU16, numberU32};
 ghost use Rattle.given.specs.Given.{isOn, limitGiven, maybe};
 
+// A flag: false if it is 0.
 pub fn is_on(n: u8) -> bool
     ensures { λ r. ⌜ r ≡ isOn n ⌝ }
 {
     n != 0
 }
 
+// The limit, if the flag says that there is one.
 pub fn bound(limited: u8, limit: usize) -> Limit
     ensures { λ r. ⌜ limitOf r ≡ limitGiven limited limit ⌝ }
 {
@@ -22,6 +24,7 @@ pub fn bound(limited: u8, limit: usize) -> Limit
     Limit::AtMost(limit)
 }
 
+// The number, if the flag says that it is present.
 pub fn maybe_u8(on: u8, n: u8) -> MaybeU8
     ensures { λ r. ⌜ numberU8 r ≡ maybe on n ⌝ }
 {
@@ -31,6 +34,7 @@ pub fn maybe_u8(on: u8, n: u8) -> MaybeU8
     MaybeU8::Absent
 }
 
+// The same of a u16.
 pub fn maybe_u16(on: u8, n: u16) -> MaybeU16
     ensures { λ r. ⌜ numberU16 r ≡ maybe on n ⌝ }
 {
@@ -40,6 +44,7 @@ pub fn maybe_u16(on: u8, n: u16) -> MaybeU16
     MaybeU16::Absent
 }
 
+// The same of a u32.
 pub fn maybe_u32(on: u8, n: u32) -> MaybeU32
     ensures { λ r. ⌜ numberU32 r ≡ maybe on n ⌝ }
 {

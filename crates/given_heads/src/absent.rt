@@ -3,6 +3,7 @@ use given::number::is_on;
 ghost use mathlib.Core.Path.{_≡_};
 ghost use Rattle.given_heads.specs.By.{zeroIfOff};
 
+// Whether a number is 0 if its flag is off.
 pub fn zero_if_off(on: u8, n: u32) -> bool
     ensures { λ r. ⌜ r ≡ zeroIfOff (on, n) ⌝ }
 {

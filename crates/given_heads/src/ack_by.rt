@@ -10,6 +10,7 @@ ghost use Rattle.records.specs.Told.{toldAckKind};
 ghost use Rattle.ack_write.specs.Handed.{handed};
 ghost use Rattle.given_heads.specs.By.{ackBy};
 
+// Numbers and presence of a publish acknowledgement to write, whatever its reason.
 pub fn ack_head(kind: AckKind, pkid: u16, reason: u8, block: u8, reason_string_on: u8) -> AckHead
     ensures { λ r. ⌜ ((text user lengths : List ℕ) → ack (toldAckKind (r .kind)) (handed r text user lengths) ≡ ackBy (toldAckKind kind) pkid reason block «reason_string_on» text user lengths) ⌝ }
 {

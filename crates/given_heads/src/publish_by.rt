@@ -108,6 +108,7 @@ fn numbers(
     }
 }
 
+// Of a Publish to write: whether each number whose flag is off is 0 (20), 11 for a QoS above 2, and numbers and presence.
 pub fn publish_head(
     dup: u8,
     qos: u8,

@@ -10,6 +10,7 @@ ghost use Rattle.records.specs.Told.{toldReplyKind};
 ghost use Rattle.reply_write.specs.Handed.{handed};
 ghost use Rattle.given_heads.specs.By.{replyBy};
 
+// Numbers and presence of a SubAck or UnsubAck to write.
 pub fn reply_head(kind: ReplyKind, pkid: u16, block: u8, reason_string_on: u8) -> ReplyHead
     ensures { λ r. ⌜ ((text user lengths reasons : List ℕ) → reply (toldReplyKind (r .kind)) (handed r text user lengths reasons) ≡ replyBy (toldReplyKind kind) pkid block «reason_string_on» text user lengths reasons) ⌝ }
 {

@@ -15,6 +15,7 @@ pub struct SubscribeBy {
     pub head: SubscribeHead,
 }
 
+// Of a Subscribe to write: whether its identifier is 0 where the flag is off (20), and numbers and presence.
 pub fn subscribe_head(pkid: u16, block: u8, identifier_on: u8, identifier: u32) -> SubscribeBy
     ensures { λ r. ⌜ ((user lengths filters filterLengths options : List ℕ) → subscribeHanded r user lengths filters filterLengths options ≡ testsOf (subscribeBy pkid block «identifier_on» identifier user lengths filters filterLengths options)) ⌝ }
 {

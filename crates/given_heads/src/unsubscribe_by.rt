@@ -7,6 +7,7 @@ ghost use Prim.Native.Nat.{ℕ};
 ghost use Rattle.unsubscribe_write.specs.Handed.{handed};
 ghost use Rattle.given_heads.specs.By.{unsubscribeBy};
 
+// Numbers and presence of an Unsubscribe to write.
 pub fn unsubscribe_head(pkid: u16, block: u8) -> UnsubscribeHead
     ensures { λ r. ⌜ ((user lengths topics topicLengths : List ℕ) → handed r user lengths topics topicLengths ≡ unsubscribeBy pkid block user lengths topics topicLengths) ⌝ }
 {

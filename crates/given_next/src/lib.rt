@@ -13,7 +13,7 @@ ghost use Rattle.filters.specs.Told.{toldGotFilter};
 ghost use Rattle.wire.specs.Told.{toldPart};
 ghost use Rattle.given_next.specs.UpTo.{propertyUpTo, filterUpTo, topicUpTo};
 
-// In the row of a kind that has one.
+// The property at an index of the bytes before the end, in the row of a kind; 21 for a kind without properties and an end beyond the stream.
 pub fn property_up_to(stream: &[u8], kind: u8, at: usize, end: usize) -> GotProperty
     ensures { λ r. ⌜ toldProperty r ≡ propertyUpTo kind (now (stream .entry)) at end ⌝ }
 {
@@ -24,7 +24,7 @@ pub fn property_up_to(stream: &[u8], kind: u8, at: usize, end: usize) -> GotProp
     property_at(block, kind, at)
 }
 
-// Text and options.
+// The same of a filter.
 pub fn filter_up_to(stream: &[u8], at: usize, end: usize) -> GotFilter
     ensures { λ r. ⌜ toldGotFilter r ≡ filterUpTo (now (stream .entry)) at end ⌝ }
 {
@@ -35,7 +35,7 @@ pub fn filter_up_to(stream: &[u8], at: usize, end: usize) -> GotFilter
     read_filter(run, at)
 }
 
-// Where it stands.
+// The same of a topic.
 pub fn topic_up_to(stream: &[u8], at: usize, end: usize) -> GotSpan
     ensures { λ r. ⌜ toldPart r ≡ topicUpTo (now (stream .entry)) at end ⌝ }
 {

@@ -11,6 +11,7 @@ ghost use Rattle.writing.specs.Handed.{publish, belongs};
 ghost use Rattle.records.specs.Told.{toldError};
 ghost use Rattle.publish_plan.specs.Handed.{handed};
 
+// 20 if what is handed over of a Publish does not belong together, else the refusal of its QoS.
 pub fn mismatch_or(
     e: Error,
     head: PublishHead,

@@ -12,6 +12,7 @@ ghost use Rattle.given_heads.specs.By.{behind};
 ghost use Rattle.given_heads.specs.Head.{publishHanded, subscribeHanded};
 ghost use Rattle.writing.specs.Write.{sizedBehind};
 
+// The size of what the head and the lists hand over, after 20 and 11.
 pub fn size_publish(
     by: PublishBy,
     topic: &[u8],
@@ -55,6 +56,7 @@ pub fn size_publish(
     }
 }
 
+// The size of a Subscribe, after 20 for its identifier.
 pub fn size_subscribe(
     by: SubscribeBy,
     user: &[u8],

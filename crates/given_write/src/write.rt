@@ -12,6 +12,7 @@ ghost use Rattle.given_heads.specs.By.{behind};
 ghost use Rattle.given_heads.specs.Head.{publishHanded, subscribeHanded};
 ghost use Rattle.writing.specs.Write.{WrittenBehind};
 
+// The same written: the answer and every byte of the output.
 pub fn write_publish(
     by: PublishBy,
     topic: &[u8],
@@ -59,6 +60,7 @@ pub fn write_publish(
     }
 }
 
+// The same written: the answer and every byte of the output.
 pub fn write_subscribe(
     by: SubscribeBy,
     user: &[u8],

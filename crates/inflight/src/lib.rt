@@ -116,7 +116,7 @@ impl InFlight {
         }
     }
 
-    // An identifier for a message about to be sent.
+    // The smallest free identifier for a message about to be sent, which now waits for PubAck or PubRec; 29 if none is free, 30 for QoS 0.
     pub fn claim(self, qos: QoS) -> Claimed
         ensures { λ r. ⌜ afterClaim r ≡ claimed (toldQoS qos) (waitsOf self) ⌝ }
     {
@@ -180,14 +180,14 @@ impl InFlight {
         }
     }
 
-    // A PubAck came.
+    // A PubAck came: it frees an identifier that waits for it, else 31.
     pub fn puback(self, id: u16) -> Answered
         ensures { λ r. ⌜ afterAnswer r ≡ call (pubAck id) (waitsOf self) ⌝ }
     {
         self.settle(id, Wait::PubAck, Wait::Free)
     }
 
-    // A PubRec came with that reason.
+    // A PubRec came with that reason: it moves an identifier that waits for it on to PubComp, or frees it from 0x80 on; else 31.
     pub fn pubrec(self, id: u16, reason: u8) -> Answered
         ensures { λ r. ⌜ afterAnswer r ≡ call (pubRec id reason) (waitsOf self) ⌝ }
     {
@@ -197,14 +197,14 @@ impl InFlight {
         self.settle(id, Wait::PubRec, Wait::Free)
     }
 
-    // A PubComp came.
+    // A PubComp came: it frees an identifier that waits for it, else 31.
     pub fn pubcomp(self, id: u16) -> Answered
         ensures { λ r. ⌜ afterAnswer r ≡ call (pubComp id) (waitsOf self) ⌝ }
     {
         self.settle(id, Wait::PubComp, Wait::Free)
     }
 
-    // An acknowledgement that was read. A PubRel is the sender's own, and answers nothing.
+    // An acknowledgement that was read, by its kind. A PubRel is the sender's own, and answers nothing: 31.
     pub fn acked(self, kind: AckKind, ack: Ack) -> Answered
         ensures { λ r. ⌜ afterAnswer r ≡ call (answerBy (toldAckKind kind) (ack .pkid) (ack .reason)) (waitsOf self) ⌝ }
     {

@@ -96,7 +96,7 @@ fn nth_value(place: PropertyPlace, id: u8, s: &[u8], p: Span, n: usize) -> Seek
     Seek::Left(n)
 }
 
-// The n-th user property of the block at a place.
+// The n-th user property of the block at a place, n from 0, or 21.
 pub fn user_property(place: PropertyPlace, s: &[u8], p: Span, n: usize) -> UserItem
     ensures { λ r. ⌜ NthUser (placeOf place) (now (s .entry)) p n r ⌝ }
 {
@@ -111,7 +111,7 @@ pub fn user_property(place: PropertyPlace, s: &[u8], p: Span, n: usize) -> UserI
     }
 }
 
-// Of a Publish.
+// The n-th subscription identifier of a Publish, n from 0, or 21.
 pub fn subscription_identifier(s: &[u8], p: Span, n: usize) -> IdentifierItem
     ensures { λ r. ⌜ NthIdentifier (now (s .entry)) p n r ⌝ }
 {

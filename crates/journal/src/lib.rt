@@ -362,7 +362,7 @@ fn find(area: &[u8], count: usize) -> Best
     best
 }
 
-// Zeroes the area.
+// Zeroes the area; 32 if it is not two or more whole blocks.
 pub fn start(area: &mut [u8]) -> Started
     ensures { λ r. ⌜ left (now (area .exit)) (startOf r) ≡ start (now (area .entry)) ⌝ }
 {
@@ -373,7 +373,7 @@ pub fn start(area: &mut [u8]) -> Started
     Started::Zeroed
 }
 
-// Stores the table under the next number.
+// Stores the table under the number after the highest good one, in that number's block, and tells both; 32 or 34, and nothing changed.
 pub fn save(area: &mut [u8], table: InFlight) -> Saved
     ensures { λ r. ⌜ left (now (area .exit)) (saveOf r) ≡ save limit (waitsOf table) (now (area .entry)) ⌝ }
 {
@@ -396,7 +396,7 @@ pub fn save(area: &mut [u8], table: InFlight) -> Saved
     }
 }
 
-// The table of the latest save.
+// Number and table of the good block with the highest number, the first of equals; 32, or 33 if no block is good, and a fresh table.
 pub fn recover(area: &[u8]) -> Recovered
     ensures { λ r. ⌜ Recovers (now (area .entry)) r ⌝ }
 {

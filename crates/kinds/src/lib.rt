@@ -35,7 +35,7 @@ pub struct Word {
     pub len: usize,
 }
 
-// The kind of a number.
+// The kind of a number: one of eleven, reserved (0 and 15), or not carried.
 pub fn kind_of(num: u8) -> Kind
     ensures { λ r. ⌜ toldKind r ≡ kindRow num ⌝ }
 {
@@ -93,7 +93,7 @@ pub fn number_of(kind: Kind) -> u8
     }
 }
 
-// The place of the block of a number's kind.
+// The place whose row the block of a number's kind has; none for a ping and for a kind that is not carried.
 pub fn place_of(num: u8) -> KindPlace
     ensures { λ r. ⌜ toldPlace r ≡ placeAt num ⌝ }
 {

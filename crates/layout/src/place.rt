@@ -49,7 +49,7 @@ pub struct Block {
     pub subscription: Number,
 }
 
-// Each number at its index in the header.
+// Each of the 44 numbers of head and block at its index in the header.
 pub fn numbers(h: Head, b: Block) -> [u64; 44]
     ensures { λ r. ⌜ r ≡ laidOut h b ⌝ }
 {

@@ -115,7 +115,7 @@ fn topic_numbers(item: TopicItem) -> [u64; 2]
     }
 }
 
-// 0, or 21 if there is none; key and value are stored.
+// 0, or 21 if there is none; key and value are stored, zeros if there is none.
 pub fn store_user(item: UserItem, into: &mut [u64]) -> u32
     ensures number { λ r. ⌜ r ≡ fitNumber (toldUser item) ⌝ }
     ensures stored { λ r. ⌜ now (into .exit) ≡ sets (now (into .entry)) 0 (userNumbers (toldUser item)) ⌝ }

@@ -98,12 +98,14 @@ fn plain_block(place: Text, reason: Text, subscription: Number) -> Block
     }
 }
 
+// Zeros for every property.
 pub fn no_block() -> Block
     ensures { λ r. ⌜ r ≡ noBlock ⌝ }
 {
     plain_block(NO_TEXT, NO_TEXT, NO_NUMBER)
 }
 
+// Each property of a Publish under its name, with 1 before it if it is present; zeros elsewhere.
 pub fn publish_block(m: MaybePublishProperties) -> Block
     ensures { λ r. ⌜ r ≡ publishBlock (toldPublishBlock m) ⌝ }
 {
@@ -138,7 +140,7 @@ pub fn publish_block(m: MaybePublishProperties) -> Block
     }
 }
 
-// Of every kind but Publish.
+// The same of every kind but Publish.
 pub fn props_block(m: MaybeProperties) -> Block
     ensures { λ r. ⌜ r ≡ propsBlock (toldBlock m) ⌝ }
 {

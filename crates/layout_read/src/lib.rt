@@ -271,7 +271,7 @@ fn read_number(read: Read) -> u32
     }
 }
 
-// 0, or the refusal's number; every number of the layout is stored.
+// 0, or the refusal's number; taken is stored, then the record and where its properties start and end, or the refusal's values.
 pub fn store_read(read: Read, into: &mut [u64]) -> u32
     ensures number { λ r. ⌜ r ≡ readNumber (told read) ⌝ }
     ensures stored { λ r. ⌜ now (into .exit) ≡ sets (now (into .entry)) 0 (encoded (told read) (carried read)) ⌝ }

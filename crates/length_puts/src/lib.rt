@@ -62,7 +62,8 @@ pub fn put_length(out: &mut [u8], at: usize, n: usize) -> usize
     }
 }
 
-// Writes the shortest spelling, and gives how many bytes it has: 17 above the largest number, then 19 where there is no room.
+// Writes the shortest spelling, and gives how many bytes it has: 17 above 268,435,455, then 19 with the size where there is no room; a refusal
+// leaves the output as it stood.
 pub fn write_remaining_length(out: &mut [u8], n: usize) -> Written
     ensures { λ r. ⌜ LeafWritten (small n) (short n) (now (out .entry)) (now (out .exit)) (toldWritten r) ⌝ }
 {

@@ -42,7 +42,7 @@ fn number(out: &mut [u8], at: usize, w: &[u8], n: u64) -> usize
     decimal(&mut *out, next, n)
 }
 
-// The same, of any index that 16 bits hold; gives the index behind it.
+// Words and a number behind them, as far as there is room, at any index that 16 bits hold; gives the index behind it.
 pub fn put_number(out: &mut [u8], at: u16, w: &[u8], n: u64) -> usize
     ensures placed { λ r. ⌜ PutAt (now (out .entry)) at (now (w .entry) ++ decimalOf n) (now (out .exit)) r ⌝ }
     ensures short { λ r. ⌜ r ≤ at + length (now (w .entry)) + 20 ⌝ }
@@ -50,7 +50,7 @@ pub fn put_number(out: &mut [u8], at: u16, w: &[u8], n: u64) -> usize
     number(&mut *out, at as usize, w, n)
 }
 
-// Words alone, the same way.
+// Words alone, as far as there is room; gives the index behind them.
 pub fn put_word(out: &mut [u8], at: u16, w: &[u8]) -> usize
     ensures { λ r. ⌜ PutAt (now (out .entry)) at (now (w .entry)) (now (out .exit)) r ⌝ }
 {

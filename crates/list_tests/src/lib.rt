@@ -31,7 +31,8 @@ fn test_each(bytes: &[u8], lengths: &[usize]) -> Tested
     Tested::Fine
 }
 
-// Texts one after the other, as the lengths cut the run: mostly they are few bytes and ASCII, and so is every part of the run.
+// Texts one after the other, as the lengths cut the run, the first refusal: mostly they are few bytes and ASCII, and so is every part of the
+// run.
 pub fn test_words(bytes: &[u8], lengths: &[usize]) -> Tested
     ensures { λ r. ⌜ toldTested r ≡ judge (flat fieldTests (map word (strings (runOf (now (bytes .entry)) (now (lengths .entry)))))) ⌝ }
 {
@@ -43,7 +44,7 @@ pub fn test_words(bytes: &[u8], lengths: &[usize]) -> Tested
     test_each(bytes, lengths)
 }
 
-// Subscription identifiers in order.
+// Subscription identifiers in order, the first refusal.
 pub fn test_numbers(ids: &[u32]) -> Tested
     ensures { λ r. ⌜ toldTested r ≡ judge (flat numberTests (now (ids .entry))) ⌝ }
 {

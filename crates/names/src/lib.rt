@@ -89,7 +89,7 @@ pub fn name_at(number: u32) -> Name
     }
 }
 
-// The name of the case.
+// The name of the refusal's row.
 pub fn name(e: Error) -> Name
     ensures { λ r. ⌜ r ≡ padded (nameOf e) ⌝ }
 {

@@ -3,7 +3,7 @@ ghost use mathlib.Core.Path.{_≡_};
 ghost use lib.Seq.{sets};
 ghost use Rattle.writing.specs.Spell.{wide};
 
-// The byte n at index `at`.
+// The byte n at index `at`; nothing is stored past the end, here and below.
 pub fn put_u8(out: &mut [u8], at: usize, n: u8)
     ensures { λ r. ⌜ now (out .exit) ≡ sets (now (out .entry)) at (wide 1 n) ⌝ }
 {
@@ -12,7 +12,7 @@ pub fn put_u8(out: &mut [u8], at: usize, n: u8)
     }
 }
 
-// The two bytes of n from index `at` on.
+// The two bytes of n, big-endian, from index `at` on.
 pub fn put_u16(out: &mut [u8], at: usize, n: u16)
     ensures { λ r. ⌜ now (out .exit) ≡ sets (now (out .entry)) at (wide 2 n) ⌝ }
 {
@@ -22,7 +22,7 @@ pub fn put_u16(out: &mut [u8], at: usize, n: u16)
     }
 }
 
-// The four bytes of n from index `at` on.
+// The four bytes of n, big-endian, from index `at` on.
 pub fn put_u32(out: &mut [u8], at: usize, n: u32)
     ensures { λ r. ⌜ now (out .exit) ≡ sets (now (out .entry)) at (wide 4 n) ⌝ }
 {

@@ -35,7 +35,7 @@ pub fn flag(n: u8) -> bool
     n % 2 == 1
 }
 
-// The byte at index `at`.
+// The byte at index `at` and the index after it, or 7.
 pub fn read_u8(s: &[u8], at: usize) -> GotU8
     ensures { λ r. ⌜ toldGotU8 r ≡ fromAt (byteOf cut) (now (s .entry)) at ⌝ }
 {
@@ -45,7 +45,7 @@ pub fn read_u8(s: &[u8], at: usize) -> GotU8
     GotU8::Value(s[at], at + 1)
 }
 
-// The number of the two bytes from index `at` on.
+// The big-endian number of the two bytes from index `at` on and the index after them, or 7.
 pub fn read_u16(s: &[u8], at: usize) -> GotU16
     ensures { λ r. ⌜ toldGotU16 r ≡ fromAt (bigOf cut 2) (now (s .entry)) at ⌝ }
 {
@@ -60,7 +60,7 @@ pub fn read_u16(s: &[u8], at: usize) -> GotU16
     GotU16::Value(digit(digit(0, high), low) as u16, at + 2)
 }
 
-// The number of the four bytes from index `at` on.
+// The big-endian number of the four bytes from index `at` on and the index after them, or 7.
 pub fn read_u32(s: &[u8], at: usize) -> GotU32
     ensures { λ r. ⌜ toldGotU32 r ≡ fromAt (bigOf cut 4) (now (s .entry)) at ⌝ }
 {

@@ -64,7 +64,7 @@ enum Judged {
     Stopped(Stop),
 }
 
-// The number of a refusal.
+// The number of a refusal: one of 01's, 35 or 36.
 pub fn number(why: Stop) -> u8
     ensures { λ r. ⌜ r ≡ rowOf (toldStop why) ⌝ }
 {
@@ -75,7 +75,7 @@ pub fn number(why: Stop) -> u8
     }
 }
 
-// Its values.
+// Its values; 35 and 36 have none.
 pub fn values(why: Stop) -> Values
     ensures { λ r. ⌜ toldValues r ≡ valuesOf (toldStop why) ⌝ }
 {
@@ -86,7 +86,7 @@ pub fn values(why: Stop) -> Values
     }
 }
 
-// The state before the first piece.
+// The state before the first piece: nothing held, nothing ended.
 pub fn start() -> State
     ensures { λ r. ⌜ toldState r ≡ fresh ⌝ }
 {

@@ -12,7 +12,7 @@ ghost use Rattle.writing.specs.Write.{sizeOf, Written as WrittenOf};
 ghost use Rattle.records.specs.Told.{limitOf};
 ghost use Rattle.records.specs.Answered.{toldSized, toldWritten};
 
-// Of either ping.
+// The size of either ping: 2.
 pub fn ping_size() -> Sized
     ensures { λ r. ⌜ ((k : ℕ) → toldSized r ≡ sizeOf (ping k)) ⌝ }
 {
@@ -31,14 +31,14 @@ fn write_ping(first: u8, limit: Limit, out: &mut [u8]) -> Written
     }
 }
 
-// A PingReq, and its size; a refused write leaves the output as it stood.
+// A PingReq, C0 00, and its size; a refused write leaves the output as it stood.
 pub fn write_ping_req(limit: Limit, out: &mut [u8]) -> Written
     ensures { λ r. ⌜ WrittenOf (limitOf limit) (ping 12) (now (out .entry)) (now (out .exit)) (toldWritten r) ⌝ }
 {
     write_ping(kinds::first_byte(12), limit, &mut *out)
 }
 
-// A PingResp, likewise.
+// A PingResp, D0 00, likewise.
 pub fn write_ping_resp(limit: Limit, out: &mut [u8]) -> Written
     ensures { λ r. ⌜ WrittenOf (limitOf limit) (ping 13) (now (out .entry)) (now (out .exit)) (toldWritten r) ⌝ }
 {

@@ -84,7 +84,8 @@ fn has(p: Properties, k: u8) -> bool
     false
 }
 
-// The block that stands at `block`, which ends where the slice does: no read goes past it (D2).
+// The block that stands at `block`, which ends where the slice does: no read goes past it (D2). The single values, and the place of the lists;
+// 22 where a single one is met again, or the first refusal.
 pub fn fill(place: OtherPlace, s: &[u8], block: Span) -> GotBlock
     ensures { λ r. ⌜ toldBlockAt r ≡ filledAt (propsRow (placeOf (otherOf place))) (now (s .entry)) (toldSpan block) ⌝ }
 {

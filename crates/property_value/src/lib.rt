@@ -99,7 +99,7 @@ fn read_value(form: PropertyForm, k: u8, s: &[u8], at: usize) -> GotProperty
     }
 }
 
-// The property at index `at` of a block: its identifier and its value.
+// The property at index `at` of a block: its identifier, its value in the form of its row, and the index after it; else 2, 7, 8, 9, 10 or 23.
 pub fn read_property(place: PropertyPlace, s: &[u8], at: usize) -> GotProperty
     ensures { λ r. ⌜ PropertyRead (placeOf place) (now (s .entry)) at r ⌝ }
 {

@@ -61,7 +61,8 @@ fn read_pkid(s: &[u8], at: usize, qos: QoS) -> GotU16
     }
 }
 
-// The fields from index `at` to the end of the frame, whose first byte is given: QoS, then left to right.
+// The Publish in the fields from index `at` to the end of the frame, whose first byte is given: 11 for its QoS, then the first refusal from
+// the left.
 pub fn read(s: &[u8], at: usize, byte1: u8) -> GotPublish
     ensures { λ r. ⌜ toldGotPublish r ≡ fieldsFit asPlaces aPublish byte1 (length (now (s .entry))) (drop at (now (s .entry))) ⌝ }
 {

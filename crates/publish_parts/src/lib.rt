@@ -13,7 +13,7 @@ ghost use Rattle.records.specs.Told.{toldSpan};
 ghost use Rattle.wire.specs.Part.{PartAt, placeIf};
 ghost use Rattle.publish_parts.specs.Parts.{Strings, response, correlation, content};
 
-// The topic of `m`, which was read from `s`; the empty part if it lies outside. The same goes for every part.
+// The topic of `m`, which was read from `s`; the empty part at 0 if it lies outside. The same goes for every part.
 pub fn topic<'a>(s: &'a [u8], m: Publish) -> &'a [u8]
     ensures { λ r. ⌜ PartAt (s .entry) (toldSpan (m .topic)) r ⌝ }
 {
@@ -46,7 +46,7 @@ fn given(m: Publish) -> PublishProperties
     }
 }
 
-// Empty if it is absent, as the next two.
+// The response topic of `m`; empty if it is absent, as the next two.
 pub fn response_topic<'a>(s: &'a [u8], m: Publish) -> &'a [u8]
     ensures { λ r. ⌜ PartAt (s .entry) (placeIf (response m)) r ⌝ }
 {

@@ -8,7 +8,7 @@ ghost use Prim.Native.Nat.{ℕ};
 ghost use Rattle.writing.specs.Handed.{publish, belongs};
 ghost use Rattle.publish_plan.specs.Handed.{handed};
 
-// 20: the eight rows.
+// 20: nothing stands for an absent value or block, and lengths add up, of the eight rows.
 pub fn all_belong(
     head: PublishHead,
     response_topic: &[u8],

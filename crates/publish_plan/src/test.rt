@@ -41,7 +41,7 @@ fn test_fields(
     )
 }
 
-// 20, then the fields.
+// 20, then 18 and 9 field by field.
 pub fn early(
     head: PublishHead,
     topic: &[u8],
@@ -87,7 +87,7 @@ fn is_named(qos: u8, pkid: u16) -> bool
     pkid != 0
 }
 
-// 12, then 17 for identifiers.
+// 12, then 17 or 23 for the identifiers in order.
 pub fn late(head: PublishHead, subscription_identifiers: &[u32]) -> Tested
     ensures { λ r. ⌜ ((t a b u l c p : List ℕ) → toldTested r ≡ lateOf (publish (handed head t a b u l (now («subscription_identifiers» .entry)) c p))) ⌝ }
 {

@@ -207,7 +207,8 @@ fn pass_lists(s: &[u8], from: usize) -> usize
     at
 }
 
-// The block that stands at `block`, which ends where the slice does: no read goes past it (D2).
+// The block that stands at `block`, which ends where the slice does: no read goes past it (D2). The single values, and the place of the lists;
+// 22 where a single one is met again, or the first refusal.
 pub fn fill(s: &[u8], block: Span) -> GotPublishBlock
     ensures { λ r. ⌜ toldPublishBlockAt r ≡ filledAt publishRow (now (s .entry)) (toldSpan block) ⌝ }
 {

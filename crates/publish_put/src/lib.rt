@@ -178,7 +178,7 @@ fn put_back(
     put_bytes(&mut *out, third, payload);
 }
 
-// The frame, from index 0 on, where R and L are given.
+// The frame, from index 0 on, where R and L are given: first byte, R, topic, identifier, L, properties, payload.
 pub fn put_frame(
     out: &mut [u8],
     head: PublishHead,

@@ -76,7 +76,7 @@ pub struct Lengths {
     pub properties: usize,
 }
 
-// R and L of a record.
+// R and L of a record, each cut off just above the largest R.
 pub fn sizes(
     head: PublishHead,
     topic: &[u8],

@@ -4,7 +4,7 @@ use records::values::Values;
 ghost use mathlib.Core.Path.{_≡_};
 ghost use Rattle.records.specs.Told.{toldError, rowOf, valuesOf, toldValues};
 
-// The number of the row.
+// 01's number of a refusal.
 pub fn number(e: Error) -> u8
     ensures { λ r. ⌜ r ≡ rowOf (toldError e) ⌝ }
 {
@@ -35,7 +35,7 @@ pub fn number(e: Error) -> u8
     }
 }
 
-// The values of the row.
+// The values in the refusal's brackets.
 pub fn values(e: Error) -> Values
     ensures { λ r. ⌜ toldValues r ≡ valuesOf (toldError e) ⌝ }
 {

@@ -33,7 +33,7 @@ fn hex_digit(d: u8) -> u8
     55 + n
 }
 
-// Two digits.
+// Two upper-case digits.
 pub fn put_hex(out: &mut [u8], at: usize, b: u8)
     ensures { λ r. ⌜ now (out .exit) ≡ sets (now (out .entry)) at (hexOf b) ⌝ }
 {
@@ -43,7 +43,7 @@ pub fn put_hex(out: &mut [u8], at: usize, b: u8)
     }
 }
 
-// The fewest digits; gives how many, at most 20.
+// The decimal digits, the fewest; gives how many, at most 20.
 pub fn put_decimal(out: &mut [u8], at: usize, n: u64) -> usize
     ensures count { λ r. ⌜ r ≡ length (decimalOf n) ⌝ }
     ensures stores { λ r. ⌜ now (out .exit) ≡ sets (now (out .entry)) at (decimalOf n) ⌝ }

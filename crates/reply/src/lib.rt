@@ -32,7 +32,7 @@ pub enum GotReply {
     Refused(Error),
 }
 
-// One reason of the kind or more, to the end.
+// One reason of the kind or more, to the end; 13 if there is none, or 15 with the first that the kind does not list.
 pub fn read_reasons(kind: ReplyKind, s: &[u8], at: usize) -> GotReasons
     ensures { λ r. ⌜ toldGotReasons r ≡ placedRun (reasonOf (reasonsOf (toldReplyKind kind))) (length (now (s .entry))) (drop at (now (s .entry))) ⌝ }
 {
@@ -52,7 +52,7 @@ pub fn read_reasons(kind: ReplyKind, s: &[u8], at: usize) -> GotReasons
     GotReasons::Place(Span { start: at, len })
 }
 
-// The fields from index `at` to the end of the frame.
+// The SubAck or UnsubAck in the fields from index `at` to the end of the frame, or the first refusal from the left.
 pub fn read(kind: ReplyKind, s: &[u8], at: usize) -> GotReply
     ensures { λ r. ⌜ ((x : ℕ) → kindOf x ≡ toldReplyKind kind → onGot (record-of.reply (toldReplyKind kind)) (toldGotReply r)
         ≡ fieldsFit asPlaces (aReply (reasonsOf (toldReplyKind kind))) x (length (now (s .entry))) (drop at (now (s .entry)))) ⌝ }

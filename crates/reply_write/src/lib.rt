@@ -180,7 +180,7 @@ fn put(
     put_bytes(&mut *out, third, reasons);
 }
 
-// The frame from index 0 on, and its size; a refused write leaves the output as it stood.
+// The frame from index 0 on, and its size; a refused write leaves the output as it stood. 15 is tested behind the texts, reason by reason.
 pub fn write(
     m: ReplyHead,
     reason_string: &[u8],

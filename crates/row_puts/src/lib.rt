@@ -83,7 +83,7 @@ pub fn put_number_if(out: &mut [u8], at: usize, id: u8, v: MaybeU32) -> usize
     }
 }
 
-// Text or bytes.
+// Text or bytes that may be absent, the identifier byte before them.
 pub fn put_lent(out: &mut [u8], at: usize, id: u8, on: bool, s: &[u8]) -> usize
     ensures { λ r. ⌜ ((f : Form) → Put (now (out .entry)) at (rowBytes (id, f) (givenLent on (now (s .entry)))) (now (out .exit)) r) ⌝ }
 {

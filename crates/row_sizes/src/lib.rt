@@ -12,7 +12,7 @@ ghost use Rattle.writing.specs.Handed.{several};
 ghost use Rattle.writing.specs.Size.{lenLen, withLength, givenSize, cap};
 ghost use Rattle.rows.specs.Given.{givenU8, givenU16, givenU32, givenLent, givenPairs};
 
-// The sum, cut off.
+// The sum, cut off just above the largest R.
 pub fn add(a: usize, b: usize) -> usize
     ensures { λ r. ⌜ r ≡ cap (a + b) ⌝ }
 {
@@ -25,7 +25,7 @@ pub fn add(a: usize, b: usize) -> usize
     a + b
 }
 
-// n bytes with their number in front.
+// n bytes with the spelling of their number in front, cut off.
 pub fn with_length(n: usize) -> usize
     ensures { λ r. ⌜ r ≡ cap (withLength n) ⌝ }
 {
@@ -39,7 +39,7 @@ fn number_size(n: u32) -> usize
     1 + len_len(n as usize)
 }
 
-// The bytes of a u8 that may be absent, its identifier byte among them.
+// The bytes of a u8 that may be absent, its identifier byte among them; 0 if it is.
 pub fn one_size_u8(v: MaybeU8) -> usize
     ensures { λ r. ⌜ r ≡ cap (givenSize u8 (givenU8 v)) ⌝ }
 {
@@ -79,7 +79,7 @@ pub fn one_size_number(v: MaybeU32) -> usize
     }
 }
 
-// Of text and of bytes.
+// The same of text and of bytes.
 pub fn lent_size(on: bool, s: &[u8]) -> usize
     ensures { λ r. ⌜ ((f : Form) → r ≡ cap (givenSize f (givenLent on (now (s .entry))))) ⌝ }
 {
@@ -89,14 +89,14 @@ pub fn lent_size(on: bool, s: &[u8]) -> usize
     0
 }
 
-// Of user properties.
+// The same of all user properties.
 pub fn pairs_size(bytes: &[u8], lengths: &[usize]) -> usize
     ensures { λ r. ⌜ r ≡ cap (givenSize pair (givenPairs (now (bytes .entry)) (now (lengths .entry)))) ⌝ }
 {
     add(bytes.len(), 5 * (lengths.len() / 2))
 }
 
-// Of subscription identifiers.
+// The same of all subscription identifiers.
 pub fn ids_size(ids: &[u32]) -> usize
     ensures { λ r. ⌜ r ≡ cap (givenSize number (several (now (ids .entry)))) ⌝ }
 {

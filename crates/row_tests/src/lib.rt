@@ -56,7 +56,7 @@ pub fn test_word(s: &[u8]) -> Tested
     }
 }
 
-// A text that may be absent.
+// A text that may be absent: 18, then 9.
 pub fn test_text(on: bool, s: &[u8]) -> Tested
     ensures { λ r. ⌜ toldTested r ≡ judge (flat fieldTests (givenFields text (givenLent on (now (s .entry))))) ⌝ }
 {
@@ -66,7 +66,7 @@ pub fn test_text(on: bool, s: &[u8]) -> Tested
     Tested::Fine
 }
 
-// Bytes that may be absent.
+// Bytes that may be absent: 18.
 pub fn test_bytes(on: bool, s: &[u8]) -> Tested
     ensures { λ r. ⌜ toldTested r ≡ judge (flat fieldTests (givenFields bytesForm (givenLent on (now (s .entry))))) ⌝ }
 {

@@ -5,7 +5,7 @@ ghost use Rattle.writing.specs.Handed.{addsUp};
 ghost use Rattle.rows.specs.Given.{run as runOf};
 ghost use Rattle.rows.specs.Piece.{PieceAt};
 
-// The index n bytes after `at`, where there are `room` in all.
+// The index n bytes after `at`, cut off at the end, where there are `room` in all.
 pub fn after(room: usize, at: usize, n: usize) -> usize
     ensures { λ r. ⌜ r ≡ min (at + n) room ⌝ }
 {

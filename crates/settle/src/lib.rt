@@ -91,7 +91,7 @@ pub fn settle(early: Tested, rest: usize, limit: Limit, late: Tested, room: usiz
     }
 }
 
-// The first byte and R.
+// The first byte and R; gives how many bytes they are.
 pub fn put_header(out: &mut [u8], first: u8, rest: usize) -> usize
     ensures { λ r. ⌜ Put (now (out .entry)) 0 (first ∷ short rest) (now (out .exit)) r ⌝ }
 {

@@ -8,7 +8,7 @@ ghost use Rattle.reading.specs.Read.{isText, numOf};
 ghost use Rattle.positions.specs.Position.{fromAt, nextOr};
 ghost use Rattle.speed_leaves.specs.Numbers.{numberOr, numbersSum};
 
-// Is s well-formed UTF-8?
+// Is s well-formed UTF-8 without U+0000?
 #[no_mangle]
 pub extern "C" fn speed_leaves_is_utf8(s: &[u8]) -> bool
     ensures { λ r. ⌜ r ≡ isText (now (s .entry)) ⌝ }

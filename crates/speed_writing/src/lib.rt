@@ -41,7 +41,7 @@ fn head(pkid: u16) -> PublishHead
     }
 }
 
-// The size, or 0 where the write is refused.
+// The size of the Publish, or 0 where the write is refused.
 #[no_mangle]
 pub extern "C" fn speed_writing_publish(
     pkid: u16,

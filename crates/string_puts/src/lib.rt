@@ -20,7 +20,7 @@ pub enum GotStringLength {
     Refused(Error),
 }
 
-// Every writer asks before it puts a byte (D5: the crate cuts the length to 16 bits).
+// The length, or 18 with it above 65,535. Every writer asks before it puts a byte (D5: the crate cuts the length to 16 bits).
 pub fn string_length(s: &[u8]) -> GotStringLength
     ensures { λ r. ⌜ toldStringLength r ≡ stringLength (now (s .entry)) ⌝ }
 {
@@ -31,7 +31,7 @@ pub fn string_length(s: &[u8]) -> GotStringLength
     GotStringLength::Value(len)
 }
 
-// The length is written modulo 65,536, as `string` has it: `string_length` refuses what is longer.
+// Two bytes of length and the bytes. The length is written modulo 65,536, as `string` has it: `string_length` refuses what is longer.
 pub fn put_string(out: &mut [u8], at: usize, s: &[u8])
     ensures { λ r. ⌜ now (out .exit) ≡ sets (now (out .entry)) at (string (now (s .entry))) ⌝ }
 {
@@ -54,7 +54,8 @@ fn write_string(out: &mut [u8], s: &[u8]) -> Written
     Written::Size(size)
 }
 
-// Writes a length and the bytes, and gives how many they are together: 18 above 65,535 bytes, then 19 where there is no room.
+// Writes a length and the bytes, and gives how many they are together: 18 above 65,535 bytes, then 19 with the size where there is no room; a
+// refusal leaves the output as it stood.
 pub fn write_mqtt_bytes(out: &mut [u8], s: &[u8]) -> Written
     ensures { λ r. ⌜ LeafWritten (fits (now (s .entry))) (string (now (s .entry))) (now (out .entry)) (now (out .exit)) (toldWritten r) ⌝ }
 {

@@ -21,7 +21,8 @@ pub enum GotSubscribe {
     Refused(Error),
 }
 
-// Whatever the first byte x of the frame: its flags are ignored.
+// The Subscribe in the fields from index `at` on, or the first refusal from the left; whatever the first byte x of the frame: its flags are
+// ignored.
 pub fn read(s: &[u8], at: usize) -> GotSubscribe
     ensures { λ r. ⌜ ((x : ℕ) → toldGotSubscribe r ≡ fieldsFit asPlaces aSubscribe x (length (now (s .entry))) (drop at (now (s .entry)))) ⌝ }
 {

@@ -80,7 +80,7 @@ fn unsubscribe_property(num: u8) -> PropertyForm
     }
 }
 
-// One of those places, as a place.
+// One of the places beside Publish's, as a place.
 pub fn as_place(other: OtherPlace) -> PropertyPlace
     ensures { λ r. ⌜ r ≡ otherOf other ⌝ }
 {
@@ -91,7 +91,7 @@ pub fn as_place(other: OtherPlace) -> PropertyPlace
     }
 }
 
-// The form of a property at a place.
+// The form of a property in the row of a place, or none.
 pub fn property(place: PropertyPlace, num: u8) -> PropertyForm
     ensures { λ r. ⌜ toldForm r ≡ formAt (placeOf place) num ⌝ }
 {

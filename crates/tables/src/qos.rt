@@ -9,7 +9,7 @@ pub enum GotQos {
     Refused(Error),
 }
 
-// The quality of service of a number, or refusal 11.
+// The quality of service of a number, or refusal 11 with it.
 pub fn qos(num: u8) -> GotQos
     ensures { λ r. ⌜ toldGotQos r ≡ qosOf num ⌝ }
 {

@@ -6,7 +6,7 @@ ghost use lib.ListN.{length};
 ghost use Rattle.reading.specs.Read.{isText};
 ghost use Rattle.text_chars.specs.Text.{continues, lowOf, highOf, flawOf, Followed, Passed};
 
-// The least and the greatest byte that may follow one that begins a character of three bytes or more.
+// The least byte that may follow one that begins a character of three bytes or more.
 pub fn low_of(b: u8) -> u8
     ensures { λ r. ⌜ r ≡ lowOf b ⌝ }
 {
@@ -17,6 +17,7 @@ pub fn low_of(b: u8) -> u8
     }
 }
 
+// The greatest.
 pub fn high_of(b: u8) -> u8
     ensures { λ r. ⌜ r ≡ highOf b ⌝ }
 {
@@ -27,7 +28,7 @@ pub fn high_of(b: u8) -> u8
     }
 }
 
-// Does a byte continue a character?
+// Does a byte continue a character? 80 to BF do.
 pub fn goes_on(b: u8) -> bool
     ensures { λ r. ⌜ r ≡ continues b ⌝ }
 {
@@ -127,7 +128,7 @@ fn next_char(s: &[u8], at: usize) -> usize
     at
 }
 
-// Is `s` well-formed UTF-8? Character by character.
+// Is `s` well-formed UTF-8 without U+0000? Character by character.
 pub fn by_chars(s: &[u8]) -> bool
     ensures { λ r. ⌜ r ≡ isText (now (s .entry)) ⌝ }
 {

@@ -280,8 +280,8 @@ fn by_eights(s: &[u8]) -> bool
     is_whole(s, end)
 }
 
-// Is `s` well-formed UTF-8? Chunks that are ASCII are passed at once, and what stands behind them is tested by windows. Less than sixteen
-// bytes go character by character.
+// Is `s` well-formed UTF-8 without U+0000? Chunks that are ASCII are passed at once, and what stands behind them is tested by windows. Less
+// than sixteen bytes go character by character.
 pub fn is_text(s: &[u8]) -> bool
     ensures { λ r. ⌜ r ≡ isText (now (s .entry)) ⌝ }
 {

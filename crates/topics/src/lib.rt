@@ -126,7 +126,7 @@ fn wild_long(s: &[u8]) -> bool
     wild_sixteens(s)
 }
 
-// Does a topic or filter have wildcards?
+// Does a topic or filter have wildcards, a + or a # somewhere?
 pub fn has_wildcards(s: &[u8]) -> bool
     ensures { λ r. ⌜ r ≡ hasWild (now (s .entry)) ⌝ }
 {
@@ -136,7 +136,7 @@ pub fn has_wildcards(s: &[u8]) -> bool
     wild_long(s)
 }
 
-// Is a topic valid?
+// Is a topic valid? It has no wildcards; the empty one is.
 pub fn valid_topic(topic: &[u8]) -> bool
     ensures { λ r. ⌜ r ≡ validTopic (now (topic .entry)) ⌝ }
 {
@@ -299,7 +299,8 @@ fn levels_fine(filter: &[u8]) -> bool
     level_fine(rest, true)
 }
 
-// Is a filter valid? One of eight bytes and more that has no wildcards is; else level by level.
+// Is a filter valid? It is not empty, + and # fill their levels, and # stands last. One of eight bytes and more that has no wildcards is; else
+// level by level.
 pub fn valid_filter(filter: &[u8]) -> bool
     ensures { λ r. ⌜ r ≡ validFilter (now (filter .entry)) ⌝ }
 {
@@ -419,7 +420,7 @@ fn is_barred(topic: &[u8], filter: &[u8]) -> bool
     is_wild(filter[0])
 }
 
-// Does the filter match the topic? Neither is tested here.
+// Does the filter match the topic, level by level, and is not barred by a leading $? Neither is tested here.
 pub fn matches(topic: &[u8], filter: &[u8]) -> bool
     ensures { λ r. ⌜ r ≡ matchesOf (now (topic .entry)) (now (filter .entry)) ⌝ }
 {

@@ -29,7 +29,7 @@ pub enum GotUnsubscribe {
     Refused(Error),
 }
 
-// One topic or more, to the end.
+// One topic or more, to the end; 13 if there is none, or the first refusal.
 pub fn read_topics(s: &[u8], at: usize) -> GotTopics
     ensures { λ r. ⌜ toldGotTopics r ≡ placedRun (textOf asPlaces (length (now (s .entry)))) (length (now (s .entry))) (drop at (now (s .entry))) ⌝ }
 {
@@ -49,7 +49,8 @@ pub fn read_topics(s: &[u8], at: usize) -> GotTopics
     GotTopics::Place(Span { start: at, len })
 }
 
-// Whatever the first byte x of the frame: its flags are ignored.
+// The Unsubscribe in the fields from index `at` on, or the first refusal from the left; whatever the first byte x of the frame: its flags are
+// ignored.
 pub fn read(s: &[u8], at: usize) -> GotUnsubscribe
     ensures { λ r. ⌜ ((x : ℕ) → toldGotUnsubscribe r ≡ fieldsFit asPlaces anUnsubscribe x (length (now (s .entry))) (drop at (now (s .entry)))) ⌝ }
 {

@@ -89,7 +89,7 @@ fn is_short_utf8(s: &[u8]) -> bool
     by_chunks(s)
 }
 
-// Is `s` well-formed UTF-8? All but the chunks is small, and compiled into its callers: a short ASCII text costs no call.
+// Is `s` well-formed UTF-8 without U+0000? All but the chunks is small, and compiled into its callers: a short ASCII text costs no call.
 pub fn is_utf8(s: &[u8]) -> bool
     ensures { λ r. ⌜ r ≡ isText (now (s .entry)) ⌝ }
 {

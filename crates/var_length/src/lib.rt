@@ -37,7 +37,8 @@ fn is_shortest(n: u32, unit: u32, count: usize) -> bool
     unit <= n
 }
 
-// The variable length number at index `at`, and how many bytes spell it.
+// The variable length number at index `at`, and how many bytes spell it; cut off; or malformed: four bytes without an end, or more than
+// needed.
 pub fn length(s: &[u8], at: usize) -> GotLength
     ensures { λ r. ⌜ ((c : Refusal) → toldLength c at r ≡ fromAt (numOf c 4) (now (s .entry)) at) ⌝ }
 {
@@ -66,7 +67,7 @@ pub fn length(s: &[u8], at: usize) -> GotLength
     }
 }
 
-// The same inside a frame.
+// The same inside a frame: the number and the index after it, or 7, or 2.
 pub fn read_length(s: &[u8], at: usize) -> GotU32
     ensures { λ r. ⌜ toldGotU32 r ≡ fromAt (numOf cut 4) (now (s .entry)) at ⌝ }
 {

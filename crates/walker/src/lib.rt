@@ -77,7 +77,7 @@ fn step_in(s: &[u8], at: usize, place: PropertyPlace) -> Step
     Step { item, at: i }
 }
 
-// The same in the bytes before `end`.
+// The next user property from an index on, in the bytes before `end`, and the index after it.
 pub fn step_at(s: &[u8], at: usize, end: usize, place: PropertyPlace) -> Step
     ensures { λ r. ⌜ Goes place (now (s .entry)) end at (r .item) (r .at) ⌝ }
 {
@@ -163,7 +163,7 @@ fn of_packet(s: &[u8], p: Packet) -> Block
     }
 }
 
-// The walk over the user properties of the frame at the start of s, read with no limit.
+// Where the walk over the user properties of the frame at the start of s, read with no limit, begins and ends, and its row.
 pub fn begin_at(s: &[u8]) -> Block
     ensures { λ r. ⌜ Begins (now (s .entry)) (r .at) (r .end) (r .place) ⌝ }
 {
@@ -186,7 +186,7 @@ pub fn make<'a>(frame: &'a [u8]) -> Walker<'a>
     }
 }
 
-// The next user property, or NoItem when there is none left.
+// The next user property, and the walker behind it; or NoItem when there is none left.
 pub fn next<'s, 'a>(w: &'s mut Walker<'a>) -> UserItem
     ensures { λ r. ⌜ Moves (now (w .entry)) r (now (w .exit)) ⌝ }
 {

@@ -15,7 +15,7 @@ ghost use Rattle.records.specs.Told.{toldSpan, toldString};
 ghost use Rattle.wire.specs.Part.{PartAt, placeIf};
 ghost use Rattle.wire.specs.Told.{toldPart};
 
-// The place of a string of any bytes.
+// The place of a string of any bytes, behind its length, and the index after it; 7, or 8 with the length.
 pub fn read_mqtt_bytes(s: &[u8], at: usize) -> GotSpan
     ensures { λ r. ⌜ toldPart r ≡ fromAt (bytesOf asPlaces (length (now (s .entry)))) (now (s .entry)) at ⌝ }
 {
@@ -31,7 +31,7 @@ pub fn read_mqtt_bytes(s: &[u8], at: usize) -> GotSpan
     }
 }
 
-// The place of a string of text.
+// The same of a string of text; 9 last.
 pub fn read_mqtt_string(s: &[u8], at: usize) -> GotSpan
     ensures { λ r. ⌜ toldPart r ≡ fromAt (textOf asPlaces (length (now (s .entry)))) (now (s .entry)) at ⌝ }
 {
@@ -58,7 +58,7 @@ pub fn within(s: &[u8], p: Span) -> bool
     len <= s.len() - start
 }
 
-// The part of `s` at a place; the empty part if it does not lie within.
+// The part of `s` at a place; the empty part at 0 if it does not lie within.
 pub fn part<'a>(s: &'a [u8], p: Span) -> &'a [u8]
     ensures { λ r. ⌜ PartAt (s .entry) (toldSpan p) r ⌝ }
 {
@@ -71,7 +71,7 @@ pub fn part<'a>(s: &'a [u8], p: Span) -> &'a [u8]
     &s[..0]
 }
 
-// The same of a place that may be absent, which gives the empty part.
+// The same of a place that may be absent, which gives the empty part at 0.
 pub fn part_if<'a>(s: &'a [u8], p: MaybeSpan) -> &'a [u8]
     ensures { λ r. ⌜ PartAt (s .entry) (placeIf (toldString p)) r ⌝ }
 {

@@ -130,7 +130,7 @@ fn with_name(a: Asked, w: &[u8], i: usize) -> Asked
     }
 }
 
-// Before the first word.
+// What is asked before the first word.
 pub fn none() -> Asked
     ensures { λ r. ⌜ r ≡ unasked ⌝ }
 {
@@ -146,7 +146,7 @@ pub fn none() -> Asked
     }
 }
 
-// With the i-th word, w, behind those before it.
+// What is asked with the i-th word, w, behind those before it.
 pub fn with_word(a: Asked, w: &[u8], i: usize) -> Asked
     ensures { λ r. ⌜ r ≡ withWord a (now (w .entry)) i ⌝ }
 {
@@ -175,7 +175,7 @@ pub fn with_word(a: Asked, w: &[u8], i: usize) -> Asked
     with_name(a, w, i)
 }
 
-// After the last word: a limit or a filter that is awaited still is bad.
+// What is asked after the last word: a limit or a filter that is awaited still is bad.
 pub fn ended(a: Asked) -> Asked
     ensures { λ r. ⌜ r ≡ withEnd a ⌝ }
 {
