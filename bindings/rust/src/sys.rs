@@ -2,7 +2,7 @@
 //! tests/header.rs holds every line of this file that matters against the header.
 #![allow(missing_docs)]
 
-// x86-64 is what is handed on; on aarch64 bindings/library compiles the proved modules for trying (oracle/native)
+// x86-64 is what is handed on; on aarch64 bindings/library compiles the proved modules for trying (scripts/native)
 #[cfg(not(all(any(target_arch = "x86_64", target_arch = "aarch64"), target_os = "linux")))]
 compile_error!("the proved library is built for x86-64 Linux");
 
