@@ -1,8 +1,11 @@
 // A Publish, written, after `write` and `size` of publish.rs: first every refusal and the size, touching nothing, then the bytes.
+mod frame;
+
+use crate::frame::put_frame;
 use publish_plan::belong;
 use publish_plan::head::PublishHead;
+use publish_plan::sizes;
 use publish_plan::test;
-use publish_put::put_frame;
 use records::answer::Limit;
 use records::answer::Sized;
 use records::answer::Written;
@@ -36,7 +39,7 @@ pub fn size(
         subscription_identifiers,
         content_type,
     );
-    let sizes = publish_sizes::sizes(
+    let sizes = sizes::sizes(
         head,
         topic,
         response_topic,
@@ -76,7 +79,7 @@ pub fn write(
         subscription_identifiers,
         content_type,
     );
-    let sizes = publish_sizes::sizes(
+    let sizes = sizes::sizes(
         head,
         topic,
         response_topic,
