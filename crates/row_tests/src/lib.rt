@@ -1,5 +1,5 @@
 // The tests of fields as they are written (01, writing order): 18, and 9 for text; 17 for an identifier; then those of lists of them.
-// Those of filters are in `filters_write`. The crate makes none of them before it writes.
+// Those of filters are in `subscribe_write`. The crate makes none of them before it writes.
 use records::error::Error;
 use records::span::MaybeU32;
 use row_sizes::MOST;
