@@ -1,16 +1,16 @@
 // The property, filter or topic at an index of a block or run of the stream, and the index after it: a list walked item by item costs each
 // byte once.
-use given_next::filter_up_to;
-use given_next::property_up_to;
-use given_next::topic_up_to;
-use layout_next::store_next_filter;
-use layout_next::store_next_topic;
-use layout_next::store_property;
+use given::up_to::filter_up_to;
+use given::up_to::property_up_to;
+use given::up_to::topic_up_to;
+use layout_item::next::store_next_filter;
+use layout_item::next::store_next_topic;
+use layout_item::next::store_property;
 ghost use mathlib.Core.Path.{_≡_};
 ghost use lib.Seq.{sets};
 ghost use Rattle.layout.specs.Value.{fitNumber};
-ghost use Rattle.layout_next.specs.Next.{propertyNumbers, nextFilterNumbers, nextTopicNumbers};
-ghost use Rattle.given_next.specs.UpTo.{propertyUpTo, filterUpTo, topicUpTo};
+ghost use Rattle.layout_item.specs.Next.{propertyNumbers, nextFilterNumbers, nextTopicNumbers};
+ghost use Rattle.given.specs.UpTo.{propertyUpTo, filterUpTo, topicUpTo};
 
 // Identifier and value of the property at an index of a block that ends where C says: 0, or the refusal's number. What came before it is not
 // known, so it is never 22.

@@ -1,6 +1,6 @@
 // PingReq and PingResp: their size, and written.
 use given::number::bound;
-use layout_answer;
+use layout::answer as layout_answer;
 ghost use mathlib.Core.Path.{_≡_};
 ghost use lib.ListN.{length};
 ghost use lib.Seq.{sets};
@@ -8,7 +8,7 @@ ghost use Prim.Native.Nat.{ℕ};
 ghost use Rattle.writing.specs.Handed.{ping};
 ghost use Rattle.writing.specs.Write.{sizeOf, answerOf, outOf};
 ghost use Rattle.layout.specs.Value.{fitNumber};
-ghost use Rattle.layout_answer.specs.Answer.{answerNumbers};
+ghost use Rattle.layout.specs.Answer.{answerNumbers};
 ghost use Rattle.given.specs.Given.{limitGiven};
 
 // The size of either ping: 0, and 2 is stored.

@@ -1,7 +1,7 @@
 // SubAck and UnsubAck: their size, and written; one function over the kind, and two that C calls.
 use given::number::bound;
 use given_heads::reply_by::reply_head;
-use layout_answer;
+use layout::answer as layout_answer;
 use records::reply_record::ReplyKind;
 ghost use mathlib.Core.Path.{_≡_};
 ghost use lib.ListN.{length};
@@ -9,7 +9,7 @@ ghost use lib.Seq.{sets};
 ghost use Rattle.writing.specs.Write.{sizeOf, answerOf, outOf};
 ghost use Rattle.records.specs.Told.{toldReplyKind};
 ghost use Rattle.layout.specs.Value.{fitNumber};
-ghost use Rattle.layout_answer.specs.Answer.{answerNumbers};
+ghost use Rattle.layout.specs.Answer.{answerNumbers};
 ghost use Rattle.given.specs.Given.{limitGiven};
 ghost use Rattle.given_heads.specs.By.{replyBy};
 

@@ -3,12 +3,12 @@ use given::number::bound;
 use given_heads::subscribe_by::subscribe_head;
 use given_write::size::size_subscribe;
 use given_write::write::write_subscribe;
-use layout_answer;
+use layout::answer as layout_answer;
 ghost use mathlib.Core.Path.{_≡_};
 ghost use lib.Seq.{sets};
 ghost use Rattle.writing.specs.Write.{sizedBehind, answeredBehind, outBehind};
 ghost use Rattle.layout.specs.Value.{fitNumber};
-ghost use Rattle.layout_answer.specs.Answer.{answerNumbers};
+ghost use Rattle.layout.specs.Answer.{answerNumbers};
 ghost use Rattle.given.specs.Given.{limitGiven};
 ghost use Rattle.given_heads.specs.By.{handedBy, subscribeBy};
 

@@ -1,14 +1,14 @@
 // An Unsubscribe: its size, and written.
 use given::number::bound;
 use given_heads::unsubscribe_by::unsubscribe_head;
-use layout_answer;
+use layout::answer as layout_answer;
 ghost use mathlib.Core.Path.{_≡_};
 ghost use lib.ListN.{length};
 ghost use lib.Seq.{sets};
 ghost use Rattle.writing.specs.Handed.{unsubscribe};
 ghost use Rattle.writing.specs.Write.{sizeOf, answerOf, outOf};
 ghost use Rattle.layout.specs.Value.{fitNumber};
-ghost use Rattle.layout_answer.specs.Answer.{answerNumbers};
+ghost use Rattle.layout.specs.Answer.{answerNumbers};
 ghost use Rattle.given.specs.Given.{limitGiven};
 ghost use Rattle.given_heads.specs.By.{unsubscribeBy};
 

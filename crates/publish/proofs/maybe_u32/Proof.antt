@@ -1,0 +1,13 @@
+-- `publish::maybe_u32` meets its contract: by the flag. Assumes nothing.
+use borrow.Author.Needs.{needs}
+use Rattle.publish.proofs.maybe_u32.Statement.{statement}
+use Rattle.publish.proofs.maybe_u32.Tie as tie
+
+returns : tie.Need-returns
+returns c = rw (c .if1 .taken)
+
+returns-2 : tie.Need-returns-2
+returns-2 c = search needs
+
+pub maybe-u32-spec : {M : Type 1} → statement M
+maybe-u32-spec = tie.close (tie.spec returns returns-2)

@@ -1,0 +1,4 @@
+pub mod Frames
+pub mod Spellings
+pub mod Bounds
+pub mod Writes
