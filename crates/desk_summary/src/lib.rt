@@ -32,6 +32,7 @@ fn kind_at(num: u8) -> usize
     48 + num as usize
 }
 
+// Counts of nothing: all zero.
 pub fn none() -> [u64; 64]
     ensures { λ r. ⌜ r ≡ replicate 64 0 ⌝ }
 {
