@@ -42,7 +42,7 @@ pub fn test_rows(on: bool, text: &[u8], user: &[u8], user_lengths: &[usize]) -> 
 {
     row_tests::then(
         row_tests::test_text(on, text),
-        list_tests::test_words(user, user_lengths),
+        row_tests::test_words(user, user_lengths),
     )
 }
 

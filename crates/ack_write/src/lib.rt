@@ -145,7 +145,7 @@ fn put(out: &mut [u8], m: AckHead, reason_string: &[u8], user: &[u8], user_lengt
     let len = rest(m, reason_string, user, user_lengths);
     let kind = m.kind;
     let byte1 = first_byte(kind);
-    let n = settle::put_header(&mut *out, byte1, len);
+    let n = row_puts::put_header(&mut *out, byte1, len);
     let first = run::after(out.len(), 0, n);
     fixed::put_u16(&mut *out, first, m.pkid);
     if !is_plain(m) {

@@ -3,7 +3,7 @@ use crate::show;
 use crate::text;
 use ack_write::AckHead;
 use length_puts::write_remaining_length;
-use packet_parts::head::PacketHead;
+use packet_write::head::PacketHead;
 use packet_write::size;
 use packet_write::write;
 use publish_plan::head::PublishHead;

@@ -1,35 +1,18 @@
-// The variable length number as it is written, after `len_len` and `write_remaining_length` of v5/mod.rs: the shortest spelling, low group
-// first. The put has no refusal, for callers that have tested; `write_remaining_length` tests for itself.
+// The variable length number as it is written, after `write_remaining_length` of v5/mod.rs: the shortest spelling, low group first.
+// The put has no refusal, for callers that have tested; `write_remaining_length` tests for itself.
 use number_puts::fixed;
 use records::answer::Written;
 use records::error::Error;
+use row_sizes::MOST;
+use row_sizes::len_len;
 ghost use mathlib.Core.Path.{_≡_};
 ghost use Prim.Native.Nat.{_<_};
 ghost use lib.ListN as list;
 ghost use lib.Seq.{sets};
-ghost use Rattle.writing.specs.Size.{lenLen};
 ghost use Rattle.writing.specs.Spell.{short};
 ghost use Rattle.writing.specs.Order.{small};
 ghost use Rattle.records.specs.Answered.{toldWritten};
 ghost use Rattle.number_puts.specs.Leaf.{LeafWritten};
-
-// The largest number that can be spelled.
-pub const MOST: usize = 268435455;
-
-// How many bytes the shortest spelling has; four where the number is too large to spell.
-pub fn len_len(n: usize) -> usize
-    ensures { λ r. ⌜ r ≡ lenLen n ⌝ }
-{
-    if n < 128 {
-        1
-    } else if n < 16384 {
-        2
-    } else if n < 2097152 {
-        3
-    } else {
-        4
-    }
-}
 
 fn put_groups(out: &mut [u8], at: usize, n: usize) -> usize
     requires { ⌜ at < list.length (now out) ⌝ }

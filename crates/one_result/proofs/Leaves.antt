@@ -22,11 +22,9 @@ use Rattle.numbers.specs.declared.got.GotU16.{GotU16}
 use Rattle.numbers.specs.declared.got.GotU32.{GotU32}
 use Rattle.var_length.specs.declared.GotLength.{GotLength}
 use Rattle.wire.specs.Told.{toldPart}
-use Rattle.string_puts.specs.Written.{toldStringLength}
 use Rattle.tables.specs.Qos.{toldGotQos}
 use Rattle.tables.specs.Property.{placeOf, toldForm}
 use Rattle.wire.specs.declared.got.GotSpan.{GotSpan}
-use Rattle.string_puts.specs.declared.GotStringLength.{GotStringLength}
 use Rattle.tables.specs.declared.qos.GotQos.{GotQos}
 use Rattle.tables.specs.declared.property.PropertyForm.{PropertyForm}
 use Rattle.tables.specs.declared.property.PropertyPlace.{PropertyPlace}
@@ -101,16 +99,6 @@ back-part (GotSpan.Refused e) = ap GotSpan.Refused (back-error e)
 
 pub part-same : OneResult toldPart
 part-same = one-by toldPart backPart back-part
-
-abbrev backStringLength : Fit ℕ → GotStringLength
-backStringLength = backFit GotStringLength.Value GotStringLength.Refused
-
-back-string-length : (r : GotStringLength) → backStringLength (toldStringLength r) ≡ r
-back-string-length (GotStringLength.Value n) = refl
-back-string-length (GotStringLength.Refused e) = ap GotStringLength.Refused (back-error e)
-
-pub string-length-same : OneResult toldStringLength
-string-length-same = one-by toldStringLength backStringLength back-string-length
 
 -- ---- a quality of service, and the form of a property
 

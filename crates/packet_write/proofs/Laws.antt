@@ -8,8 +8,8 @@ use Rattle.grammar.specs.Choice.{isEmpty, all}
 use Rattle.reading.specs.Refusal.{nr}
 use Rattle.reading.specs.Reader.{Fit, got, bad}
 use Rattle.writing.specs.Write.{sizeOf, outOf, Written, sizedBehind, answeredBehind, outBehind, WrittenBehind}
-use Rattle.packet_parts.specs.Parts.{Parts, foreign}
-use Rattle.packet_parts.specs.declared.head.PacketHead.{PacketHead}
+use Rattle.packet_write.specs.Parts.{Parts, foreign}
+use Rattle.packet_write.specs.declared.head.PacketHead.{PacketHead}
 use Rattle.packet_write.specs.Union.{own, unionOf}
 
 module _ (m : PacketHead) (p : Parts) where

@@ -10,8 +10,8 @@ use Rattle.reply_write.specs.Handed as reply-of
 use Rattle.unsubscribe_write.specs.Handed as unsubscribe-of
 use Rattle.subscribe_write.specs.Handed as subscribe-of
 use Rattle.publish_plan.specs.Handed as publish-of
-use Rattle.packet_parts.specs.Parts.{Parts, foreign}
-use Rattle.packet_parts.specs.declared.head.PacketHead.{PacketHead}
+use Rattle.packet_write.specs.Parts.{Parts, foreign}
+use Rattle.packet_write.specs.declared.head.PacketHead.{PacketHead}
 
 -- ---- what is handed over
 

@@ -1,6 +1,9 @@
 // A packet of any kind, written, after `write` and `size` of `Packet` in v5/mod.rs: 20 for what does not belong to the record, then its kind.
-use packet_parts::head::PacketHead;
-use packet_parts::nothing_else;
+pub mod head;
+mod parts;
+
+use crate::head::PacketHead;
+use crate::parts::nothing_else;
 use records::answer::Limit;
 use records::answer::Sized;
 use records::answer::Written;
@@ -8,7 +11,7 @@ use records::error::Error;
 ghost use mathlib.Core.Path.{_≡_};
 ghost use Rattle.records.specs.Told.{limitOf};
 ghost use Rattle.records.specs.Answered.{toldSized, toldWritten};
-ghost use Rattle.packet_parts.specs.Parts.{parts};
+ghost use Rattle.packet_write.specs.Parts.{parts};
 ghost use Rattle.writing.specs.Write.{sizedBehind, WrittenBehind};
 ghost use Rattle.packet_write.specs.Union.{unionOf};
 

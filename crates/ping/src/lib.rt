@@ -25,7 +25,7 @@ fn write_ping(first: u8, limit: Limit, out: &mut [u8]) -> Written
     match settle::settle(Tested::Fine, 0, limit, Tested::Fine, out.len()) {
         Written::Refused(e) => Written::Refused(e),
         Written::Size(n) => {
-            settle::put_header(&mut *out, first, 0);
+            row_puts::put_header(&mut *out, first, 0);
             Written::Size(n)
         }
     }

@@ -49,9 +49,9 @@ use Rattle.promises.proofs.Reading.{sentence-read}
 use Rattle.promises.proofs.Reading as promises
 use Rattle.promises.proofs.Parts.{publish-parts, ack-parts, reply-parts}
 use Rattle.promises.proofs.Items.{publish-items, ack-items, subscribe-items, reply-items, unsubscribe-items, filter-items, reason-items, topic-items}
-use Rattle.packet_parts.specs.Parts.{Parts, foreign}
+use Rattle.packet_write.specs.Parts.{Parts, foreign}
 use Rattle.packet_write.specs.Union.{own, unionOf}
-use Rattle.packet_parts.specs.declared.head.PacketHead.{PacketHead}
+use Rattle.packet_write.specs.declared.head.PacketHead.{PacketHead}
 use Rattle.promises_writing.specs.Writing.{Obeys, ReadsAs, Widths, LentOctets}
 use Rattle.promises_writing.proofs.Writing as writing
 

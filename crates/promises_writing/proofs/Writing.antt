@@ -30,9 +30,9 @@ use Rattle.records.specs.declared.answer.Limit.{Limit}
 use Rattle.records.specs.declared.answer.Sized.{Sized}
 use Rattle.records.specs.declared.answer.Written.{Written}
 use Rattle.records.specs.declared.error.Error.{Error}
-use Rattle.packet_parts.specs.Parts.{Parts, foreign}
+use Rattle.packet_write.specs.Parts.{Parts, foreign}
 use Rattle.packet_write.specs.Union.{own, unionOf}
-use Rattle.packet_parts.specs.declared.head.PacketHead.{PacketHead}
+use Rattle.packet_write.specs.declared.head.PacketHead.{PacketHead}
 use Rattle.promises_writing.specs.Writing.{Obeys, Counts, Refusing, writerRows}
 use Rattle.promises_writing.specs.Writing as refusing
 

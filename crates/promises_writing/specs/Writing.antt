@@ -21,9 +21,9 @@ use Rattle.records.specs.declared.answer.Written.{Written}
 use Rattle.records.specs.declared.packet_record.Packet as code
 use Rattle.publish_plan.specs.declared.head.PublishHead.{PublishHead}
 use Rattle.ack_write.specs.declared.AckHead.{AckHead}
-use Rattle.packet_parts.specs.Parts.{Parts}
+use Rattle.packet_write.specs.Parts.{Parts}
 use Rattle.writing.specs.Write.{sizedBehind, WrittenBehind}
-use Rattle.packet_parts.specs.declared.head.PacketHead.{PacketHead}
+use Rattle.packet_write.specs.declared.head.PacketHead.{PacketHead}
 
 -- ---- the contract
 

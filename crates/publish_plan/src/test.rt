@@ -32,7 +32,7 @@ fn test_fields(
     ensures { λ r. ⌜ ((i p : List ℕ) → toldTested r ≡ judge (flat fieldTests (fieldsOf (publish (handed head (now (topic .entry)) (now («response_topic» .entry)) (now («correlation_data» .entry)) (now (user .entry)) (now («user_lengths» .entry)) i (now («content_type» .entry)) p))))) ⌝ }
 {
     let content = row_tests::test_text(head.content_type, content_type);
-    let lists = then(list_tests::test_words(user, user_lengths), content);
+    let lists = then(row_tests::test_words(user, user_lengths), content);
     let correlation = row_tests::test_bytes(head.correlation_data, correlation_data);
     let response = row_tests::test_text(head.response_topic, response_topic);
     then(
@@ -95,5 +95,5 @@ pub fn late(head: PublishHead, subscription_identifiers: &[u32]) -> Tested
     if !is_named(qos_number(qos), head.pkid) {
         return Tested::Refused(Error::PacketIdZero);
     }
-    list_tests::test_numbers(subscription_identifiers)
+    row_tests::test_numbers(subscription_identifiers)
 }

@@ -138,7 +138,7 @@ fn put_front(out: &mut [u8], head: PublishHead, rest: usize, topic: &[u8]) -> us
     ensures { λ r. ⌜ ((a b u l i c p : List ℕ) → Behind (now (out .entry)) 0 (firstByte (publish (handed head (now (topic .entry)) a b u l i c p)) ∷ (short rest ++ (spelled (now (topic .entry)) ++ identBytes (toldQoS (head .qos)) (head .pkid)))) (now (out .exit)) r) ⌝ }
 {
     let qos = head.qos;
-    let n = settle::put_header(&mut *out, first_byte(head), rest);
+    let n = row_puts::put_header(&mut *out, first_byte(head), rest);
     let second = after(out.len(), 0, n);
     put_string(&mut *out, second, topic);
     let third = after(out.len(), second, 2 + topic.len());

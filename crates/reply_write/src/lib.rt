@@ -165,7 +165,7 @@ fn put(
     let len = rest(m, reason_string, user, user_lengths, reasons);
     let kind = m.kind;
     let byte1 = first_byte(kind);
-    let n = settle::put_header(&mut *out, byte1, len);
+    let n = row_puts::put_header(&mut *out, byte1, len);
     let first = run::after(out.len(), 0, n);
     fixed::put_u16(&mut *out, first, m.pkid);
     let second = run::after(out.len(), first, 2);

@@ -1,5 +1,6 @@
-// The bytes of a row, after `write` of the properties in publish.rs, subscribe.rs and puback.rs: each function puts them at an index of
-// an output and gives how many they are. What would lie past the end is not stored. The rows that are lists are put by `list_puts`.
+// The bytes of a row, after `write` of the properties in publish.rs, subscribe.rs and puback.rs, and a frame's first bytes: each function
+// puts them at an index of an output and gives how many they are. What would lie past the end is not stored. The rows that are lists are
+// put by `list_puts`.
 use length_puts::put_length;
 use number_puts::fixed;
 use records::span::MaybeU8;
@@ -65,12 +66,26 @@ pub fn put_u32_if(out: &mut [u8], at: usize, id: u8, v: MaybeU32) -> usize
     }
 }
 
-// An identifier byte, and the shortest spelling, of four bytes at most.
+// A byte, and behind it the shortest spelling, of four bytes at most.
+fn put_counted(out: &mut [u8], at: usize, first: u8, n: usize) -> usize
+    ensures { λ r. ⌜ Put (now (out .entry)) at (first ∷ short n) (now (out .exit)) r × (r ≤ 5) ⌝ }
+{
+    let next = put_id(&mut *out, at, first);
+    1 + put_length(&mut *out, next, n)
+}
+
+// The first byte of a frame, and R.
+pub fn put_header(out: &mut [u8], first: u8, rest: usize) -> usize
+    ensures { λ r. ⌜ Put (now (out .entry)) 0 (first ∷ short rest) (now (out .exit)) r ⌝ }
+{
+    put_counted(&mut *out, 0, first, rest)
+}
+
+// An identifier byte, and a variable length number.
 pub fn put_number(out: &mut [u8], at: usize, id: u8, n: u32) -> usize
     ensures { λ r. ⌜ Put (now (out .entry)) at (id ∷ short n) (now (out .exit)) r × (r ≤ 5) ⌝ }
 {
-    let next = put_id(&mut *out, at, id);
-    1 + put_length(&mut *out, next, n as usize)
+    put_counted(&mut *out, at, id, n as usize)
 }
 
 // The same of a variable length number.

@@ -1,7 +1,6 @@
-// The bytes that a row takes, after `len` of the properties in publish.rs, subscribe.rs and puback.rs. A sum is cut off one above the
+// How many bytes a length takes, after `len_len` of v5/mod.rs, and a row, after `len` of the properties in publish.rs, subscribe.rs and
+// puback.rs. A sum is cut off one above the
 // largest R, which is as much of it as refusal 17 needs: no sum can wrap.
-use length_puts::MOST;
-use length_puts::len_len;
 use records::span::MaybeU8;
 use records::span::MaybeU16;
 use records::span::MaybeU32;
@@ -11,6 +10,24 @@ ghost use Rattle.grammar.specs.Tables.{Form, u8, u16, u32, number, pair};
 ghost use Rattle.writing.specs.Handed.{several};
 ghost use Rattle.writing.specs.Size.{lenLen, withLength, givenSize, cap};
 ghost use Rattle.rows.specs.Given.{givenU8, givenU16, givenU32, givenLent, givenPairs};
+
+// The largest number that can be spelled.
+pub const MOST: usize = 268435455;
+
+// How many bytes the shortest spelling has; four where the number is too large to spell.
+pub fn len_len(n: usize) -> usize
+    ensures { λ r. ⌜ r ≡ lenLen n ⌝ }
+{
+    if n < 128 {
+        1
+    } else if n < 16384 {
+        2
+    } else if n < 2097152 {
+        3
+    } else {
+        4
+    }
+}
 
 // The sum, cut off.
 pub fn add(a: usize, b: usize) -> usize

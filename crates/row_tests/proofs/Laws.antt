@@ -7,22 +7,12 @@ use borrow.Author.Tests.{le-leb, lt-leb, ne-eqb}
 use Rattle.reading.specs.Refusal.{Refusal, nr}
 use Rattle.reading.specs.Reader.{Fit, got, bad, _>>_}
 use Rattle.reading.specs.Read.{isText}
-use Rattle.reading.proofs.Reading.{bad-got}
 use Rattle.writing.specs.Lists.{flat}
 use Rattle.writing.specs.Size.{most}
 use Rattle.writing.specs.Order.{judge, Field, raw, word, reads, fieldTests, numberTests}
 use Rattle.writing.proofs.Judge.{judge-append, fields-more}
 
 -- ---- one field
-
--- what is decided before a value is given
-pub then-bad : {B : Type 0} (m : Fit (Unit {0})) (b : B) (k : Refusal) → bad k ≡ (m >> got b) → bad k ≡ m
-then-bad (got tt) b k e = absurd (bad-got e)
-then-bad (bad j) b k e = cc
-
-pub then-got : {B : Type 0} (m : Fit (Unit {0})) (b x : B) → got x ≡ (m >> got b) → got tt ≡ m
-then-got (got tt) b x e = refl
-then-got (bad j) b x e = absurd (bad-got (sym e))
 
 module _ (s : List ℕ) where
   word-tests : judge (fieldTests (word s)) ≡ (judge (fieldTests (raw s)) >> judge (reads s ∷ []))

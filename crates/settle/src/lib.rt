@@ -1,25 +1,19 @@
-// How every kind is written (01, writing order): the refusals in their order from what a kind has found, its size, and the first bytes
-// of its frame. The crate's `write` of each kind repeats these lines, and tests the limit first (D7).
-use length_puts::MOST;
-use length_puts::len_len;
-use length_puts::put_length;
-use number_puts::fixed;
+// How every kind is written (01, writing order): the refusals in their order from what a kind has found, and its size. The crate's
+// `write` of each kind repeats these lines, and tests the limit first (D7).
 use records::answer::Limit;
 use records::answer::Sized;
 use records::answer::Written;
 use records::error::Error;
+use row_sizes::MOST;
+use row_sizes::len_len;
 use row_tests::Tested;
-use rows::run;
 ghost use mathlib.Core.Path.{_≡_};
-ghost use mathlib.Core.List.{_∷_};
 ghost use Prim.Native.Nat.{_+_, _≤_};
 ghost use Rattle.writing.specs.Size.{most, withLength};
-ghost use Rattle.writing.specs.Spell.{short};
 ghost use Rattle.writing.specs.Order.{judge, limitTests};
 ghost use Rattle.records.specs.Told.{limitOf};
 ghost use Rattle.records.specs.Answered.{toldSized, toldWritten};
 ghost use Rattle.row_tests.specs.Tested.{toldTested};
-ghost use Rattle.row_puts.specs.Put.{Put};
 ghost use Rattle.settle.specs.Found.{withinRoom, settledOf, sizeAlone};
 
 // One byte, R, and R bytes.
@@ -89,13 +83,4 @@ pub fn settle(early: Tested, rest: usize, limit: Limit, late: Tested, room: usiz
             }
         }
     }
-}
-
-// The first byte and R.
-pub fn put_header(out: &mut [u8], first: u8, rest: usize) -> usize
-    ensures { λ r. ⌜ Put (now (out .entry)) 0 (first ∷ short rest) (now (out .exit)) r ⌝ }
-{
-    fixed::put_u8(&mut *out, 0, first);
-    let next = run::after(out.len(), 0, 1);
-    1 + put_length(&mut *out, next, rest)
 }

@@ -7,10 +7,10 @@ use Rattle.positions.specs.Count.{orZero}
 use Rattle.records.specs.Answered.{toldWritten}
 use Rattle.records.specs.declared.answer.Written.{Written}
 use Rattle.publish_plan.specs.declared.head.PublishHead.{PublishHead}
-use Rattle.packet_parts.specs.Parts.{Parts}
+use Rattle.packet_write.specs.Parts.{Parts}
 use Rattle.writing.specs.Write.{WrittenBehind}
 use Rattle.packet_write.specs.Union.{unionOf}
-use Rattle.packet_parts.specs.declared.head.PacketHead.{PacketHead}
+use Rattle.packet_write.specs.declared.head.PacketHead.{PacketHead}
 use Rattle.speed_writing.specs.Count.{benchHead, Counted}
 
 -- the head h and the answer w are those of the call, v is what was matched

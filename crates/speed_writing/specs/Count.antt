@@ -11,10 +11,10 @@ use Rattle.records.specs.declared.span.MaybeU8.{MaybeU8}
 use Rattle.records.specs.declared.span.MaybeU16.{MaybeU16}
 use Rattle.records.specs.declared.span.MaybeU32.{MaybeU32}
 use Rattle.publish_plan.specs.declared.head.PublishHead.{PublishHead}
-use Rattle.packet_parts.specs.Parts.{Parts}
+use Rattle.packet_write.specs.Parts.{Parts}
 use Rattle.writing.specs.Write.{answeredBehind, outBehind}
 use Rattle.packet_write.specs.Union.{unionOf}
-use Rattle.packet_parts.specs.declared.head.PacketHead.{PacketHead}
+use Rattle.packet_write.specs.declared.head.PacketHead.{PacketHead}
 
 -- QoS 0 for the identifier 0, else QoS 1
 abbrev pub qosFor : ℕ → QoS

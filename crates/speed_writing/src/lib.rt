@@ -1,5 +1,5 @@
 // Writing a Publish, for the benchmark in oracle/, as a function that Rust calls.
-use packet_parts::head::PacketHead;
+use packet_write::head::PacketHead;
 use packet_write::write;
 use publish_plan::head::PublishHead;
 use records::answer::Limit;
@@ -10,7 +10,7 @@ use records::span::MaybeU16;
 use records::span::MaybeU32;
 ghost use mathlib.Core.Path.{_≡_};
 ghost use mathlib.Core.List.{[]};
-ghost use Rattle.packet_parts.specs.Parts.{parts};
+ghost use Rattle.packet_write.specs.Parts.{parts};
 ghost use Rattle.speed_writing.specs.Count.{qosFor, benchHead, Counted};
 
 fn qos(pkid: u16) -> QoS

@@ -11,12 +11,11 @@ use Rattle.reading.specs.Refusal.{Refusal, nr}
 use Rattle.reading.specs.Reader.{Fit, got, bad}
 use Rattle.reading.proofs.Reading.{bad-got}
 use Rattle.writing.specs.Spell.{wide, string}
-use Rattle.writing.specs.Order.{judge, fits}
+use Rattle.writing.specs.Order.{judge, fits, raw, fieldTests}
 use Rattle.byte_puts.proofs.Laws.{sets-append}
 use Rattle.number_puts.specs.Leaf.{LeafWritten}
 use Rattle.writing.proofs.Says.{length-wide}
 use Rattle.number_puts.proofs.Laws.Leaf.{leaf-refused}
-use Rattle.string_puts.specs.Written.{stringLength}
 
 -- the length of a string, cut to 16 bits
 pub wide-cut : (n : ℕ) → wide 2 (n % 65536) ≡ wide 2 n
@@ -34,26 +33,27 @@ put-string l l₁ l₂ xs at e f =
 
 -- ---- the length's test
 
--- a string that is given a length passes the test, and one that is refused does not
+-- a string that is fine passes the test, and one that is refused does not
 module _ (xs : List ℕ) where
-  pub string-fits : (n : ℕ) → got n ≡ stringLength xs → fits xs .0 ≡ true
+  pub string-fits : got tt ≡ judge (fieldTests (raw xs)) → fits xs .0 ≡ true
   unfolding judge
-  string-fits n e = go (leb (length xs) 65535) refl
+  string-fits e = go (leb (length xs) 65535) refl
     where
       go : (b : Bool) → leb (length xs) 65535 ≡ b → fits xs .0 ≡ true
       go true h = h
       go false h =
-          let z : got n ≡ bad (nr 18 (length xs ∷ [])) = rw h at e in
+          let z : got tt ≡ bad (nr 18 (length xs ∷ [])) = rw h at e in
           absurd (bad-got (sym z))
 
-  pub string-refused : (k : Refusal) (before : List ℕ) → bad k ≡ stringLength xs → LeafWritten (fits xs) (string xs) before before (bad k)
+  pub string-refused : (k : Refusal) (before : List ℕ) → bad k ≡ judge (fieldTests (raw xs)) → LeafWritten (fits xs) (string xs) before before (bad k)
   unfolding judge
   string-refused k before e = go (leb (length xs) 65535) refl
     where
       go : (b : Bool) → leb (length xs) 65535 ≡ b → LeafWritten (fits xs) (string xs) before before (bad k)
       go true h =
-          let z : bad k ≡ got (length xs) = rw h at e in
+          let z : bad k ≡ got tt = rw h at e in
           absurd (bad-got z)
       go false h =
-          let z : _≡_ {A = Fit ℕ} (bad k) (bad (nr 18 (length xs ∷ []))) = rw h at e in
-          rw z (leaf-refused (fits xs) (string xs) before h)
+          let z : _≡_ {A = Fit (Unit {0})} (bad k) (bad (nr 18 (length xs ∷ []))) = rw h at e in
+          let y : k ≡ nr 18 (length xs ∷ []) = cc in
+          rw y (leaf-refused (fits xs) (string xs) before h)

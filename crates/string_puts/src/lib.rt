@@ -4,6 +4,8 @@ use byte_puts::put_bytes;
 use number_puts::fixed;
 use records::answer::Written;
 use records::error::Error;
+use row_tests::Tested;
+use row_tests::test_raw;
 ghost use mathlib.Core.Path.{_≡_};
 ghost use Prim.Native.Nat.{_≤_};
 ghost use lib.ListN.{length};
@@ -12,26 +14,8 @@ ghost use Rattle.writing.specs.Spell.{string};
 ghost use Rattle.writing.specs.Order.{fits};
 ghost use Rattle.records.specs.Answered.{toldWritten};
 ghost use Rattle.number_puts.specs.Leaf.{LeafWritten};
-ghost use Rattle.string_puts.specs.Written.{toldStringLength, stringLength};
 
-// The length to be written before a string, or 18.
-pub enum GotStringLength {
-    Value(u16),
-    Refused(Error),
-}
-
-// Every writer asks before it puts a byte (D5: the crate cuts the length to 16 bits).
-pub fn string_length(s: &[u8]) -> GotStringLength
-    ensures { λ r. ⌜ toldStringLength r ≡ stringLength (now (s .entry)) ⌝ }
-{
-    if 65535 < s.len() {
-        return GotStringLength::Refused(Error::StringTooLong(s.len()));
-    }
-    let len = s.len() as u16;
-    GotStringLength::Value(len)
-}
-
-// The length is written modulo 65,536, as `string` has it: `string_length` refuses what is longer.
+// The length is written modulo 65,536, as `string` has it: `test_raw` refuses what is longer.
 pub fn put_string(out: &mut [u8], at: usize, s: &[u8])
     ensures { λ r. ⌜ now (out .exit) ≡ sets (now (out .entry)) at (string (now (s .entry))) ⌝ }
 {
@@ -58,8 +42,8 @@ fn write_string(out: &mut [u8], s: &[u8]) -> Written
 pub fn write_mqtt_bytes(out: &mut [u8], s: &[u8]) -> Written
     ensures { λ r. ⌜ LeafWritten (fits (now (s .entry))) (string (now (s .entry))) (now (out .entry)) (now (out .exit)) (toldWritten r) ⌝ }
 {
-    match string_length(s) {
-        GotStringLength::Refused(e) => Written::Refused(e),
-        GotStringLength::Value(_) => write_string(&mut *out, s),
+    match test_raw(s) {
+        Tested::Refused(e) => Written::Refused(e),
+        Tested::Fine => write_string(&mut *out, s),
     }
 }

@@ -1,5 +1,7 @@
 // A Subscribe, written, after `write` and `size` of subscribe.rs: first every refusal and the size, touching nothing, then the bytes. An
 // empty filter list is refused (D6).
+mod filter;
+
 use kinds;
 use length_puts::put_length;
 use number_puts::fixed;
@@ -54,7 +56,7 @@ fn belongs(
     );
     row_belongs::both(
         block,
-        filters_write::filters_belong(filters, filter_lengths, options),
+        filter::filters_belong(filters, filter_lengths, options),
     )
 }
 
@@ -81,7 +83,7 @@ fn rest(
 {
     let block = row_sizes::with_length(block_length(m, user, user_lengths));
     row_sizes::add(
-        row_sizes::add(block, filters_write::filters_size(filters, options)),
+        row_sizes::add(block, filter::filters_size(filters, options)),
         2,
     )
 }
@@ -118,8 +120,8 @@ fn early(
         return Tested::Refused(Error::ListMismatch);
     }
     row_tests::then(
-        list_tests::test_words(user, user_lengths),
-        filters_write::test_filters(filters, filter_lengths, options),
+        row_tests::test_words(user, user_lengths),
+        filter::test_filters(filters, filter_lengths, options),
     )
 }
 
@@ -130,7 +132,7 @@ fn late(m: SubscribeHead, filter_lengths: &[usize], options: &[u8]) -> Tested
     let id = m.id;
     row_tests::then(
         row_tests::test_number(id),
-        filters_write::test_asked(filter_lengths, options),
+        filter::test_asked(filter_lengths, options),
     )
 }
 
@@ -168,12 +170,12 @@ fn put(
 {
     let len = rest(m, user, user_lengths, filters, options);
     let byte1 = kinds::first_byte(8);
-    let n = settle::put_header(&mut *out, byte1, len);
+    let n = row_puts::put_header(&mut *out, byte1, len);
     let first = run::after(out.len(), 0, n);
     fixed::put_u16(&mut *out, first, m.pkid);
     let second = run::after(out.len(), first, 2);
     let third = put_block(&mut *out, second, m, user, user_lengths);
-    filters_write::put_filters(&mut *out, third, filters, filter_lengths, options);
+    filter::put_filters(&mut *out, third, filters, filter_lengths, options);
 }
 
 // The frame from index 0 on, and its size; a refused write leaves the output as it stood.

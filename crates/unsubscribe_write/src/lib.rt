@@ -1,5 +1,7 @@
 // An Unsubscribe, written, after `write` and `size` of unsubscribe.rs: first every refusal and the size, touching nothing, then the bytes.
 // An empty topic list is refused.
+mod topic;
+
 use kinds;
 use length_puts::put_length;
 use number_puts::fixed;
@@ -63,7 +65,7 @@ fn rest(
 {
     let block = row_sizes::with_length(row_sizes::pairs_size(user, user_lengths));
     row_sizes::add(
-        row_sizes::add(block, topics_write::topics_size(topics, topic_lengths)),
+        row_sizes::add(block, topic::topics_size(topics, topic_lengths)),
         2,
     )
 }
@@ -98,8 +100,8 @@ fn early(
         return Tested::Refused(Error::ListMismatch);
     }
     row_tests::then(
-        list_tests::test_words(user, user_lengths),
-        list_tests::test_words(topics, topic_lengths),
+        row_tests::test_words(user, user_lengths),
+        row_tests::test_words(topics, topic_lengths),
     )
 }
 
@@ -127,12 +129,12 @@ fn put(
 {
     let len = rest(m, user, user_lengths, topics, topic_lengths);
     let byte1 = kinds::first_byte(10);
-    let n = settle::put_header(&mut *out, byte1, len);
+    let n = row_puts::put_header(&mut *out, byte1, len);
     let first = run::after(out.len(), 0, n);
     fixed::put_u16(&mut *out, first, m.pkid);
     let second = run::after(out.len(), first, 2);
     let third = put_block(&mut *out, second, user, user_lengths);
-    topics_write::put_topics(&mut *out, third, topics, topic_lengths);
+    topic::put_topics(&mut *out, third, topics, topic_lengths);
 }
 
 // The frame from index 0 on, and its size; a refused write leaves the output as it stood.
@@ -149,7 +151,7 @@ pub fn write(
 {
     let fields = early(m, user, user_lengths, topics, topic_lengths);
     let len = rest(m, user, user_lengths, topics, topic_lengths);
-    let end = topics_write::test_asked(topic_lengths);
+    let end = topic::test_asked(topic_lengths);
     match settle::settle(fields, len, limit, end, out.len()) {
         Written::Refused(e) => Written::Refused(e),
         Written::Size(n) => {

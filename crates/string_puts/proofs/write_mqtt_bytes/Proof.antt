@@ -3,13 +3,13 @@ use mathlib.Core.Path.{ap, sym, _∙_}
 use borrow.Author.Needs.{needs}
 use borrow.Author.Tests.{leb-true}
 use denote.Ref.{now}
-use Rattle.string_puts.specs.Written.{toldStringLength}
+use Rattle.row_tests.specs.Tested.{toldTested}
 use Rattle.string_puts.proofs.Laws.{string-fits, string-refused}
 use Rattle.string_puts.proofs.write_mqtt_bytes.Statement.{statement}
 use Rattle.string_puts.proofs.write_mqtt_bytes.Tie as tie
 
-string-length-requires : tie.Need-string-length-requires
-string-length-requires c κs = search needs
+test-raw-requires : tie.Need-test-raw-requires
+test-raw-requires c κs = search needs
 
 enum-known-e : tie.Need-enum-known-e
 enum-known-e c = search needs
@@ -19,12 +19,12 @@ enum-told c = search needs
 
 write-string-requires : tie.Need-write-string-requires
 write-string-requires c κs =
-    leb-true _ 65535 (string-fits (now (c .before .before .before .before .before .before .args .s)) _ (sym (ap toldStringLength (c .before .enum-told .given .1)) ∙ c .before .before .before .string-length .ensures))
+    leb-true _ 65535 (string-fits (now (c .before .before .before .before .before .before .args .s)) (sym (ap toldTested (c .before .enum-told .given .1)) ∙ c .before .before .before .test-raw .ensures))
 
 returns : tie.Need-returns
 returns c =
     let a = c .before .before .before .before .before .before .args in
-    string-refused (now (a .s)) _ (now (a .out)) (sym (ap toldStringLength (c .before .e .given .1)) ∙ c .before .before .before .string-length .ensures)
+    string-refused (now (a .s)) _ (now (a .out)) (sym (ap toldTested (c .before .e .given .1)) ∙ c .before .before .before .test-raw .ensures)
 
 same-length : tie.Need-same-length
 same-length c = search needs
@@ -36,7 +36,7 @@ pub write-mqtt-bytes-spec : {M : Type 1} → statement M
 write-mqtt-bytes-spec =
     tie.close
     (tie.spec
-    string-length-requires
+    test-raw-requires
     enum-known-e
     enum-told
     write-string-requires

@@ -1,0 +1,62 @@
+// The topics of an Unsubscribe as they are written, after unsubscribe.rs: their size, whether there is one, and their bytes. Their tests
+// are those of user properties (`row_tests`).
+use records::error::Error;
+use row_tests::Tested;
+use rows::run;
+use string_puts::put_string;
+ghost use mathlib.Core.Path.{_≡_};
+ghost use mathlib.Core.Bool.{not};
+ghost use mathlib.Core.List.{List, []};
+ghost use Prim.Native.Nat.{ℕ};
+ghost use Rattle.grammar.specs.Choice.{isEmpty};
+ghost use Rattle.reading.specs.Refusal.{nr};
+ghost use Rattle.reading.specs.Reader.{guard};
+ghost use Rattle.writing.specs.Lists.{flat};
+ghost use Rattle.writing.specs.Handed.{strings};
+ghost use Rattle.writing.specs.Spell.{string};
+ghost use Rattle.writing.specs.Size.{topicsSize, cap};
+ghost use Rattle.rows.specs.Given.{run as runOf};
+ghost use Rattle.row_tests.specs.Tested.{toldTested};
+ghost use Rattle.row_puts.specs.Put.{Put};
+
+// Their bytes, cut off where they are too many: a topic has two bytes of length.
+pub fn topics_size(bytes: &[u8], lengths: &[usize]) -> usize
+    ensures { λ r. ⌜ r ≡ cap (topicsSize (runOf (now (bytes .entry)) (now (lengths .entry)))) ⌝ }
+{
+    let n = lengths.len();
+    row_sizes::add(row_sizes::add(n, n), bytes.len())
+}
+
+// 13 if there is no topic.
+pub fn test_asked(lengths: &[usize]) -> Tested
+    ensures { λ r. ⌜ ((bytes : List ℕ) → toldTested r ≡ guard (not (isEmpty (strings (runOf bytes (now (lengths .entry)))))) (nr 13 [])) ⌝ }
+{
+    if lengths.len() == 0 {
+        return Tested::Refused(Error::EmptySubscription);
+    }
+    Tested::Fine
+}
+
+fn put_topic(out: &mut [u8], at: usize, s: &[u8]) -> usize
+    ensures { λ r. ⌜ Put (now (out .entry)) at (string (now (s .entry))) (now (out .exit)) r ⌝ }
+{
+    put_string(&mut *out, at, s);
+    2 + s.len()
+}
+
+// Topics one after the other, as the lengths cut the run.
+pub fn put_topics(out: &mut [u8], at: usize, bytes: &[u8], lengths: &[usize]) -> usize
+    ensures { λ r. ⌜ Put (now (out .entry)) at (flat string (strings (runOf (now (bytes .entry)) (now (lengths .entry))))) (now (out .exit)) r ⌝ }
+{
+    let mut n: usize = 0;
+    let mut from: usize = 0;
+    let mut i: usize = 0;
+    while i < lengths.len() {
+        let k = lengths[i];
+        let to = run::after(out.len(), at, n);
+        n = n + put_topic(&mut *out, to, run::piece(bytes, from, k));
+        from = run::after(bytes.len(), from, k);
+        i = i + 1;
+    }
+    n
+}
