@@ -12,10 +12,10 @@ use borrow.Author.Tests.{eq-eqb, ne-eqb, eqb-true, eqb-false, le-leb, lt-leb, le
 use Rattle.reading.specs.Refusal.{Refusal}
 use Rattle.reading.specs.Reader.{Fit, got, bad, _>>_, guard}
 use Rattle.reading.proofs.Reading.{bad-got}
 use Rattle.alias.specs.Table.{storedLen, lengthsGood, tableGood}
 use Rattle.alias.specs.Alias.{aliasTableBad, aliasInvalid, topicMissing, aliasUnknown, aliasNoRoom, isAlias, ofAlias, empty, permit}
 use Rattle.alias.proofs.Laws.{length-good}
-use Rattle.alias.specs.Rows.{TableBad, Invalid, Missing, Unknown, NoRoom, OrElse, Refuses}
+use Rattle.alias_theorem.specs.Rows.{TableBad, Invalid, Missing, Unknown, NoRoom, OrElse, Refuses}
 
 -- ---- a guard is a row
 

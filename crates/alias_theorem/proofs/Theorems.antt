@@ -18,12 +18,12 @@ use Rattle.reading.specs.Place.{Span, heldOf, partOf}
 use Rattle.reading.proofs.Reading.{bad-got, got-inj}
 use denote.Ref.{RefT, now}
 use Rattle.wire.proofs.Laws.{held-within}
 use Rattle.alias.specs.Table.{slot, storedLen, storedTopic, lengthsGood, tableGood, topicOf, setAlias, inTurn, Nth, first, later}
-use Rattle.alias.specs.Alias.{empty, permit, tableAfter, Lies, in-packet, in-table, storedAt, inForce}
-use Rattle.alias.specs.Known.{Known, knownAfter, knownBy, forced, bytesAt, forceBytes, Agrees, Reached, fresh, learnt}
+use Rattle.alias.specs.Alias.{empty, permit, tableAfter, Lies, in-packet, in-table, storedAt, inForce, bytesAt}
+use Rattle.alias_theorem.specs.Known.{Known, knownAfter, knownBy, forced, forceBytes, Agrees, Reached, fresh, learnt}
 use Rattle.alias.specs.Told.{toldAlias, Learnt, PartIn}
 use Rattle.alias.specs.declared.Judged.{Judged}
 use Rattle.alias.proofs.Laws.{good-length, good-lengths, good-is, length-good, in-range, has-room, permits, after-bad, after-got, permit-new, force-own}
 
 -- ---- where each alias stands
 

@@ -7,11 +7,10 @@ use Prim.Native.Nat.{ℕ, _≤_}
 use lib.Dec.{eqb}
 use lib.ListN.{replicate}
 use Rattle.reading.specs.Reader.{Fit, got, bad}
-use Rattle.reading.specs.Place.{heldOf}
 use Rattle.alias.specs.Table.{topicOf}
-use Rattle.alias.specs.Alias.{empty, Lies, in-packet, in-table}
+use Rattle.alias.specs.Alias.{empty, Lies, bytesAt}
 use Rattle.alias.specs.Told.{Learnt}
 use Rattle.alias.specs.declared.Judged.{Judged}
 
 -- the topic that each alias stands for, none if never set
 abbrev pub Known : Type 0
@@ -31,11 +30,6 @@ knownBy (Judged.Refused e) f topic a = f
 abbrev pub forced : Known → List ℕ → Option ℕ → Option (List ℕ)
 forced f topic none = some topic
 forced f topic (some a) = cond (empty topic) (f a) (some topic)
-
--- the bytes at a place of the stream s or of the table t
-abbrev pub bytesAt : List ℕ → List ℕ → Lies → List ℕ
-bytesAt s t (in-packet p) = heldOf s p
-bytesAt s t (in-table p) = heldOf t p
 
 -- the bytes in force; none where the message is refused
 abbrev pub forceBytes : List ℕ → List ℕ → Fit Lies → List ℕ

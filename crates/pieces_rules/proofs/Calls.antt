@@ -12,11 +12,11 @@ use borrow.Author.Tests.{leb-true, leb-false}
 use Rattle.reading.specs.Refusal.{Refusal, Answer}
 use Rattle.reading.specs.Read.{Shape, readAs}
 use Rattle.reading.specs.Place.{asPlaces, Placed, readPlacedOf}
-use Rattle.pieces.specs.Whole.{answerAs, Turn, lacks, ends, frame, turnOf}
-use Rattle.pieces.specs.Step.{State, waiting, fresh, inPiece, inBuffer, Step, serves, stepFrom, stepBy, lengthIn, called, stepOf, foundOf, readStep}
-use Rattle.pieces.specs.Judge.{Judge, unknown, forbids, spans, judgeOf}
-use Rattle.pieces.proofs.Says.{Says, lacking, refusing, framing, says, unknown-lacks, forbids-ends, spans-lacks, spans-frame}
-use Rattle.pieces.proofs.Feed.{put-front}
+use Rattle.pieces_rules.specs.Whole.{answerAs, Turn, lacks, ends, frame, turnOf}
+use Rattle.pieces_rules.specs.Step.{State, waiting, fresh, inPiece, inBuffer, Step, serves, stepFrom, stepBy, lengthIn, called, stepOf, foundOf, readStep}
+use Rattle.pieces_rules.specs.Judge.{Judge, unknown, forbids, spans, judgeOf}
+use Rattle.pieces_rules.proofs.Says.{Says, lacking, refusing, framing, says, unknown-lacks, forbids-ends, spans-lacks, spans-frame}
+use Rattle.pieces_rules.proofs.Feed.{put-front}
 
 -- what the test of a buffer says
 all-three : (a b c : Bool) → (a && (b && c)) ≡ true → (a ≡ true) × (b ≡ true) × (c ≡ true)

@@ -15,11 +15,11 @@ use Rattle.reading.specs.Reader.{Fit, got}
 use Rattle.grammar.specs.Record.{PacketOf}
 use Rattle.reading.specs.Read.{Shape, asBytes}
 use Rattle.reading.specs.Place.{asPlaces, sayAnswer}
-use Rattle.pieces.specs.Whole.{Turn, lacks, ends, frame, listOf, answerAs, turnOf}
-use Rattle.pieces.specs.Step.{State, waiting, fresh, Step, serves, stepFrom, stepBy, stepOf}
-use Rattle.pieces.specs.Feed.{Fed, feedFrom, feed, feedAll}
-use Rattle.pieces.proofs.Seen.{Seen, short, ended, framed, seen}
-use Rattle.pieces.proofs.Run.{Left, waits, over, Runs, stop, end, next, turnAt, nil-lacks, frame-stays, no-frame, run-waits, run-on, run-over, run-list}
+use Rattle.pieces_rules.specs.Whole.{Turn, lacks, ends, frame, listOf, answerAs, turnOf}
+use Rattle.pieces_rules.specs.Step.{State, waiting, fresh, Step, serves, stepFrom, stepBy, stepOf}
+use Rattle.pieces_rules.specs.Feed.{Fed, feedFrom, feed, feedAll}
+use Rattle.pieces_rules.proofs.Seen.{Seen, short, ended, framed, seen}
+use Rattle.pieces_rules.proofs.Run.{Left, waits, over, Runs, stop, end, next, turnAt, nil-lacks, frame-stays, no-frame, run-waits, run-on, run-over, run-list}
 
 -- 02, P10: "a lent buffer of 5 to 65,536 bytes"
 abbrev pub Serves : List ℕ → Type 0

@@ -17,7 +17,7 @@ use Rattle.reading.specs.Read.{byteOf, groupOf, groupsOf, numOf, lengthOf, fram
 use Rattle.reading.proofs.Reading.{bad-got, Reads, reads-then}
 use Rattle.reading.proofs.Fields.{reads-byte, reads-groups, reads-num}
 use Rattle.reading.proofs.Demand.{reads-length}
-use Rattle.pieces.specs.Whole.{headerUnder}
+use Rattle.pieces_rules.specs.Whole.{headerUnder}
 
 pub bad-inj : {A : Type 0} {k w : Refusal} → _≡_ {A = Fit A} (bad k) (bad w) → k ≡ w
 bad-inj e = cc

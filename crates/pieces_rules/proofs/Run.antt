@@ -10,9 +10,9 @@ use Rattle.grammar.specs.Sentence.{Packet}
 use Rattle.reading.specs.Refusal.{Refusal, nr, Answer, refusedAs}
 use Rattle.reading.specs.Reader.{Fit, got, bad, thenOf}
 use Rattle.reading.specs.Read.{byteOf, Shape, asBytes}
-use Rattle.pieces.specs.Whole.{headerUnder, answerAs, Turn, lacks, ends, frame, turnOf, listed, listFrom, listOf}
-use Rattle.pieces.proofs.Says.{answer-refused, turn-lacks}
-use Rattle.pieces.proofs.Seen.{Seen, short, ended, framed, seen}
+use Rattle.pieces_rules.specs.Whole.{headerUnder, answerAs, Turn, lacks, ends, frame, turnOf, listed, listFrom, listOf}
+use Rattle.pieces_rules.proofs.Says.{answer-refused, turn-lacks}
+use Rattle.pieces_rules.proofs.Seen.{Seen, short, ended, framed, seen}
 
 no-ends : {A : Type 0} {k : Refusal} {B : Type 0} → _≡_ {A = Turn A} lacks (ends k) → B
 no-ends e = let z : _≡_ {A = ℕ} 0 1 = cc in absurd (omega arith)

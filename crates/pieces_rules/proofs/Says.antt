@@ -15,9 +15,9 @@ use Rattle.reading.specs.Refusal.{Refusal, nr, Answer, refused, refusedAs}
 use Rattle.reading.specs.Reader.{Fit, got, bad}
 use Rattle.reading.specs.Read.{Shape, bodyFit, bodyAnswer, wholeAnswer, frameAnswer, readAs}
 use Rattle.reading.proofs.Reading.{Reads}
-use Rattle.pieces.specs.Whole.{frameTooLong, headerUnder, frameBytes, longer, answerAs, Turn, lacks, ends, frame, atOnce, turnOf}
-use Rattle.pieces.specs.Judge.{Judge, unknown, forbids, spans, judged, judgeOf}
-use Rattle.pieces.proofs.Head.{Header, reads-header, header-some, frame-header, header-refused}
+use Rattle.pieces_rules.specs.Whole.{frameTooLong, headerUnder, frameBytes, longer, answerAs, Turn, lacks, ends, frame, atOnce, turnOf}
+use Rattle.pieces_rules.specs.Judge.{Judge, unknown, forbids, spans, judged, judgeOf}
+use Rattle.pieces_rules.proofs.Head.{Header, reads-header, header-some, frame-header, header-refused}
 
 -- ---- turns
 

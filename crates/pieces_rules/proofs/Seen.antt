@@ -16,9 +16,9 @@ use Rattle.reading.specs.Reader.{got}
 use Rattle.reading.specs.Read.{Shape, asBytes, readAs}
 use Rattle.reading.specs.Place.{asPlaces, sayAnswer}
 use Rattle.reading.proofs.Places.{placed-says}
-use Rattle.pieces.specs.Whole.{answerAs, Turn, lacks, ends, frame, turnOf}
-use Rattle.pieces.specs.Judge.{Judge, spans, judgeOf}
-use Rattle.pieces.proofs.Says.{Says, lacking, refusing, framing, says, forbids-ends, spans-frame}
+use Rattle.pieces_rules.specs.Whole.{answerAs, Turn, lacks, ends, frame, turnOf}
+use Rattle.pieces_rules.specs.Judge.{Judge, spans, judgeOf}
+use Rattle.pieces_rules.proofs.Says.{Says, lacking, refusing, framing, says, forbids-ends, spans-frame}
 
 frame-inj : {A : Type 0} {a b : A} {n : ℕ} → _≡_ {A = Turn A} (frame a n) (frame b n) → a ≡ b
 frame-inj e = cc

@@ -11,9 +11,9 @@ use Rattle.reading.specs.Refusal.{Answer, accepted, refused, within, over}
 use Rattle.reading.specs.Reader.{Fit, got, bad, noneOf, neverOf, mapOf, onlyOf, onlyByOf, headOf, thenOf, sizedOf, isFit, mapFit, handFit, onlyFit, thenFit, exactFit, runFit, chainFit}
 use Rattle.reading.specs.Read.{bigOf, byteOf, groupOf, groupsOf, numOf, identOf, frameOf, bodyAnswer, stringFit, bytesOf, valueOf, valueAt, propertyOf, onceOf, propertiesFit, blockOf, messageFit, fieldsFit, layoutFit, bodyFit, wholeAnswer, frameAnswer, readAs}
 use Rattle.reading.specs.Place.{heldOf}
-use Rattle.pieces.specs.Whole.{headerUnder, longer, answerAs, atOnce, turnOf, listFrom, listOf}
-use Rattle.pieces.specs.Step.{fresh, serves, stepBy}
-use Rattle.pieces.specs.Feed.{feedFrom, feed, feedAll}
+use Rattle.pieces_rules.specs.Whole.{headerUnder, longer, answerAs, atOnce, turnOf, listFrom, listOf}
+use Rattle.pieces_rules.specs.Step.{fresh, serves, stepBy}
+use Rattle.pieces_rules.specs.Feed.{feedFrom, feed, feedAll}
 
 -- the number of the refusal, or 0 for a record; and the bytes taken
 brief : Answer Packet → ℕ × ℕ

@@ -7,7 +7,7 @@ use Rattle.grammar.specs.Sentence.{Packet}
 use Rattle.reading.specs.Refusal.{Refusal, Answer, refusedAs}
 use Rattle.reading.specs.Reader.{Fit, got}
 use Rattle.reading.specs.Place.{Placed, sayAnswer}
-use Rattle.pieces.specs.Step.{State, Gives, more, inPiece, inBuffer, stops, Step, stepOf}
+use Rattle.pieces_rules.specs.Step.{State, Gives, more, inPiece, inBuffer, stops, Step, stepOf}
 
 -- what is listed, records by what their places say; and the state and the buffer afterwards
 pub record Fed : Type 0 where

@@ -6,7 +6,7 @@ use Prim.Native.Nat.{ℕ}
 use lib.Dec.{eqb, ltb}
 use Rattle.reading.specs.Refusal.{Refusal, nr}
 use Rattle.reading.specs.Reader.{Fit, got, bad}
-use Rattle.pieces.specs.Whole.{frameTooLong, headerUnder, frameBytes}
+use Rattle.pieces_rules.specs.Whole.{frameTooLong, headerUnder, frameBytes}
 
 -- the header lacks bytes; its frame ends the stream; or F
 pub data Judge : Type 0 where

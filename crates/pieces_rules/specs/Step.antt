@@ -8,7 +8,7 @@ use lib.ListN.{length, take}
 use lib.Seq.{sets}
 use Rattle.reading.specs.Refusal.{Refusal, nr, Answer}
 use Rattle.reading.specs.Place.{Placed, asPlaces, readPlacedOf}
-use Rattle.pieces.specs.Whole.{answerAs, Turn, lacks, ends, frame, turnOf}
+use Rattle.pieces_rules.specs.Whole.{answerAs, Turn, lacks, ends, frame, turnOf}
 
 -- 02, P10: "BadBuffer"; docs/DECISIONS.md 29 has its number
 abbrev pub badBuffer : Refusal

@@ -10,11 +10,11 @@ use native.Mathlib.Omega.{arith}
 use lib.Dec.{eqb}
 use lib.ListN.{length, take}
 use borrow.Author.Tests.{eq-eqb, ne-eqb, eqb-true, eqb-false, not-true}
 use Rattle.topics.specs.Levels.{Level, slash, hash, plus, onFirst, levels, isWild, hasWild, lone, validTopic, levelFine, levelsFine, validFilter}
 use Rattle.topics.specs.Match.{same, meets, restMatches, begins, barred, matchesOf}
 use Rattle.topics.specs.Step.{levelLen}
-use Rattle.topics.specs.Standard.{joined, Without, Uncut, IsCut, Wild, has-plus, has-hash, further, ofHash, ofPlus, Matches, ends, hashes, pluses, equals, Covers, done, below, one, itself, Plain, Proper, last-hash, last-plus, last-plain, then-plus, then-plain, Barred, by-plus, by-hash, IsMatch, IsCovered}
+use Rattle.topics_theorem.specs.Standard.{joined, Without, Uncut, IsCut, Wild, has-plus, has-hash, further, ofHash, ofPlus, Matches, ends, hashes, pluses, equals, Covers, done, below, one, itself, Plain, Proper, last-hash, last-plus, last-plain, then-plus, then-plain, Barred, by-plus, by-hash, IsMatch, IsCovered}
 use Rattle.topics.proofs.Laws.{both, same-is, same-refl, tailLevels, levels-head}
 
 -- ---- split and join
 

@@ -3,9 +3,9 @@ use mathlib.Core.Path.{_≡_, refl}
 use mathlib.Core.Bool.{Bool, true, false, _&&_, not}
 use mathlib.Core.List.{List, [], _∷_, _++_}
 use Prim.Native.Nat.{ℕ}
 use Rattle.topics.specs.Levels.{Level, levels, hasWild, lone, levelsFine, validFilter}
 use Rattle.topics.specs.Match.{same, restMatches, matchesOf}
-use Rattle.topics.specs.Standard.{joined, ofHash, ofPlus}
+use Rattle.topics_theorem.specs.Standard.{joined, ofHash, ofPlus}
 
 -- does the test hold of each row?
 abbrev every : {A : Type 0} → (A → Bool) → List A → Bool
