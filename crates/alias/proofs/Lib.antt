@@ -1,4 +1,2 @@
 pub mod Laws
-pub mod Rows
-pub mod Theorems
 pub mod Answers

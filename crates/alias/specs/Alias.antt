@@ -83,3 +83,8 @@ unfoldable pub inForce : List ℕ → List ℕ → Span → Option ℕ → Fit L
 inForce s t p a = do
   permit t (heldOf s p) a
   got (cond (empty (heldOf s p)) (storedAt t p a) (in-packet p))
+
+-- the bytes at a place of the stream s or of the table t
+abbrev pub bytesAt : List ℕ → List ℕ → Lies → List ℕ
+bytesAt s t (in-packet p) = heldOf s p
+bytesAt s t (in-table p) = heldOf t p

@@ -1,5 +1,3 @@
 pub mod Table
 pub mod Alias
 pub mod Told
-pub mod Known
-pub mod Rows

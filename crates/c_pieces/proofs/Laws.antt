@@ -7,7 +7,7 @@ use lib.ListN.{length, getD}
 use lib.Seq.{sets}
 use borrow.Author.Tests.{le-leb}
 use Rattle.reading.specs.Refusal.{Refusal}
-use Rattle.pieces.specs.Step.{badBuffer, State, fresh, stops, Step, foundOf}
+use Rattle.pieces_rules.specs.Step.{badBuffer, State, fresh, stops, Step, foundOf}
 use Rattle.c_pieces.specs.Frame.{endGiven, holding, stateGiven, stateNumbers, frameFrom, frameFor, keptAs, stateAfter}
 
 module _ (s : List ℕ) (h : 4 ≤ length s) where

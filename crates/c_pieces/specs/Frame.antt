@@ -9,8 +9,8 @@ use lib.Seq.{sets}
 use Rattle.reading.specs.Refusal.{Refusal, nr}
 use Rattle.records.specs.Told.{rowOf, valuesOf}
 use Rattle.layout.specs.Value.{valueOrZero}
-use Rattle.pieces.specs.Whole.{frameTooLong}
-use Rattle.pieces.specs.Step.{badBuffer, State, fresh, Gives, more, inPiece, inBuffer, stops, Step, refuses, foundOf}
+use Rattle.pieces_rules.specs.Whole.{frameTooLong}
+use Rattle.pieces_rules.specs.Step.{badBuffer, State, fresh, Gives, more, inPiece, inBuffer, stops, Step, refuses, foundOf}
 use Rattle.pieces.specs.Told.{toldEnd, toldState}
 use Rattle.c_pieces.specs.declared.GotEnd.{GotEnd}
 use Rattle.c_pieces.specs.declared.GotState.{GotState}

@@ -7,9 +7,8 @@ use Rattle.reading.specs.Reader.{Fit, got, bad}
 use Rattle.records.specs.Told.{toldSpan}
 use Rattle.records.specs.declared.packet_record.Packet.{Packet}
 use Rattle.publish_parts.specs.Parts.{topicIn}
-use Rattle.alias.specs.Alias.{empty, tableAfter, Lies, inForce}
+use Rattle.alias.specs.Alias.{empty, tableAfter, Lies, inForce, bytesAt}
 use Rattle.alias.specs.Told.{aliasIn}
-use Rattle.alias.specs.Known.{bytesAt}
 use Rattle.topics.specs.Match.{matchesOf}
 
 -- 02, P6: the table t after the packet, which was read from s

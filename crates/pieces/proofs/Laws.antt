@@ -19,13 +19,13 @@ use Rattle.records.specs.Told.{rowOf}
 use Rattle.framing.specs.Told.{headerOf, limitedTo}
 use Rattle.framing.proofs.Laws.{behindFirst, header-within, header-left, frame-count}
 use Rattle.byte_puts.proofs.Laws.{sets-out}
-use Rattle.pieces.specs.Whole.{frameTooLong, headerUnder, frameBytes, lacks, frame}
-use Rattle.pieces.specs.Step.{badBuffer, State, waiting, fresh, more, inPiece, inBuffer, Step, serves, refuses, stepFrom, stepBy, called, foundOf}
-use Rattle.pieces.specs.Judge.{Judge, unknown, forbids, spans, judged, judgeOf}
-use Rattle.pieces.proofs.Head.{bad-inj}
-use Rattle.pieces.proofs.Says.{unknown-short, judge-front}
-use Rattle.pieces.proofs.Feed.{put-front}
-use Rattle.pieces.proofs.Calls.{from-buffer, joined-length, call-piece}
+use Rattle.pieces_rules.specs.Whole.{frameTooLong, headerUnder, frameBytes, lacks, frame}
+use Rattle.pieces_rules.specs.Step.{badBuffer, State, waiting, fresh, more, inPiece, inBuffer, Step, serves, refuses, stepFrom, stepBy, called, foundOf}
+use Rattle.pieces_rules.specs.Judge.{Judge, unknown, forbids, spans, judged, judgeOf}
+use Rattle.pieces_rules.proofs.Head.{bad-inj}
+use Rattle.pieces_rules.proofs.Says.{unknown-short, judge-front}
+use Rattle.pieces_rules.proofs.Feed.{put-front}
+use Rattle.pieces_rules.proofs.Calls.{from-buffer, joined-length, call-piece}
 
 -- ---- the header, as `framing` reads it
 

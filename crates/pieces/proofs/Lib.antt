@@ -1,9 +1,2 @@
-pub mod Head
-pub mod Says
-pub mod Seen
-pub mod Run
-pub mod Feed
-pub mod Calls
 pub mod Laws
 pub mod Same
-pub mod Worked

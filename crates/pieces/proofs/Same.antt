@@ -10,8 +10,8 @@ use Rattle.records.specs.Told.{toldError}
 use Rattle.records.proofs.Laws.{injective-by}
 use Rattle.records.proofs.Told.{backError, back-error}
 use Rattle.records.specs.declared.error.Error.{Error}
-use Rattle.pieces.specs.Step.{Gives, more, inPiece, inBuffer, stops}
-use Rattle.pieces.specs.Step as step
+use Rattle.pieces_rules.specs.Step.{Gives, more, inPiece, inBuffer, stops}
+use Rattle.pieces_rules.specs.Step as step
 use Rattle.pieces.specs.Told.{toldStop, toldEnd, toldState, toldGiven, toldStep}
 use Rattle.pieces.specs.declared.Stop.{Stop}
 use Rattle.pieces.specs.declared.End.{End}

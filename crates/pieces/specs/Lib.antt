@@ -1,5 +1,1 @@
-pub mod Whole
-pub mod Step
-pub mod Feed
-pub mod Judge
 pub mod Told

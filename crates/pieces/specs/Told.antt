@@ -4,10 +4,10 @@ use mathlib.Core.List.{List}
 use Prim.Native.Nat.{ℕ}
 use Rattle.reading.specs.Refusal.{Refusal}
 use Rattle.records.specs.Told.{toldError}
-use Rattle.pieces.specs.Whole.{frameTooLong}
-use Rattle.pieces.specs.Step.{badBuffer, Gives, more, inPiece, inBuffer, stops}
-use Rattle.pieces.specs.Step as step
-use Rattle.pieces.specs.Judge.{Judge, unknown, forbids, spans}
+use Rattle.pieces_rules.specs.Whole.{frameTooLong}
+use Rattle.pieces_rules.specs.Step.{badBuffer, Gives, more, inPiece, inBuffer, stops}
+use Rattle.pieces_rules.specs.Step as step
+use Rattle.pieces_rules.specs.Judge.{Judge, unknown, forbids, spans}
 use Rattle.pieces.specs.declared.Stop.{Stop}
 use Rattle.pieces.specs.declared.End.{End}
 use Rattle.pieces.specs.declared.State.{State}

@@ -12,12 +12,12 @@ use Rattle.reading.specs.Reader.{Fit, got}
 use Rattle.reading.specs.Place.{Placed, sayAnswer}
 use Rattle.records.specs.Told.{limitOf}
 use Rattle.records.specs.declared.answer.Limit.{Limit}
-use Rattle.pieces.specs.Whole.{lacks, listOf}
-use Rattle.pieces.specs.Step.{fresh, more, inPiece, inBuffer, stops, Step, stepBy, stepOf}
-use Rattle.pieces.specs.Step as step
-use Rattle.pieces.specs.Feed.{Fed, before, once, feedOn, feedFrom}
-use Rattle.pieces.proofs.Run.{Left, waits, over, Runs, stop, turnAt, nil-lacks, run-list}
-use Rattle.pieces.proofs.Feed.{Serves, serves-true, Feeds, feeds, Lists, lists-then}
+use Rattle.pieces_rules.specs.Whole.{lacks, listOf}
+use Rattle.pieces_rules.specs.Step.{fresh, more, inPiece, inBuffer, stops, Step, stepBy, stepOf}
+use Rattle.pieces_rules.specs.Step as step
+use Rattle.pieces_rules.specs.Feed.{Fed, before, once, feedOn, feedFrom}
+use Rattle.pieces_rules.proofs.Run.{Left, waits, over, Runs, stop, turnAt, nil-lacks, run-list}
+use Rattle.pieces_rules.proofs.Feed.{Serves, serves-true, Feeds, feeds, Lists, lists-then}
 use Rattle.pieces.specs.Told.{toldEnd, toldState}
 use Rattle.pieces.specs.declared.State.{State}
 use Rattle.pieces_read.specs.Told.{toldAnswer, toldReply}

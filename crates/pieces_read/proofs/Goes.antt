@@ -14,13 +14,13 @@ use Rattle.reading.specs.Reader.{Fit}
 use Rattle.reading.specs.Place.{Placed, asPlaces, sayAnswer}
 use Rattle.records.specs.Told.{limitOf}
 use Rattle.records.specs.declared.answer.Limit.{Limit}
-use Rattle.pieces.specs.Whole.{Turn, frame, turnOf, answerAs}
-use Rattle.pieces.specs.Step.{badBuffer, fresh, more, inPiece, inBuffer, stops, Step, serves, stepFrom, stepBy, stepOf}
-use Rattle.pieces.specs.Step as step
-use Rattle.pieces.specs.Feed.{once}
-use Rattle.pieces.proofs.Seen.{Seen, short, ended, framed, seen}
-use Rattle.pieces.proofs.Feed.{Serves, serves-true}
-use Rattle.pieces.proofs.Calls.{served, joined-length}
+use Rattle.pieces_rules.specs.Whole.{Turn, frame, turnOf, answerAs}
+use Rattle.pieces_rules.specs.Step.{badBuffer, fresh, more, inPiece, inBuffer, stops, Step, serves, stepFrom, stepBy, stepOf}
+use Rattle.pieces_rules.specs.Step as step
+use Rattle.pieces_rules.specs.Feed.{once}
+use Rattle.pieces_rules.proofs.Seen.{Seen, short, ended, framed, seen}
+use Rattle.pieces_rules.proofs.Feed.{Serves, serves-true}
+use Rattle.pieces_rules.proofs.Calls.{served, joined-length}
 use Rattle.pieces.specs.Told.{toldEnd, toldState}
 use Rattle.pieces.specs.declared.State.{State}
 use Rattle.pieces_read.specs.Told.{toldAnswer, toldReply}

@@ -17,12 +17,12 @@ use Rattle.reading.specs.Place.{Placed, asPlaces}
 use Rattle.reading.proofs.Reading.{bad-got, Reads}
 use Rattle.records.specs.Told.{rowOf, limitOf}
 use Rattle.records.specs.declared.answer.Limit.{Limit}
-use Rattle.pieces.specs.Whole.{frameTooLong, headerUnder, frameBytes, answerAs, Turn, lacks, ends, frame, turnOf}
-use Rattle.pieces.specs.Step.{badBuffer, Gives, more, inPiece, inBuffer, stops, Step, serves, waiting, stepFrom, stepBy, stepOf}
-use Rattle.pieces.specs.Judge.{Judge, unknown, forbids, spans, judged, judgeOf}
-use Rattle.pieces.proofs.Head.{bad-inj, reads-header}
-use Rattle.pieces.proofs.Says.{Says, lacking, refusing, framing, says, forbids-ends}
-use Rattle.pieces.proofs.Feed.{Serves, serves-true}
+use Rattle.pieces_rules.specs.Whole.{frameTooLong, headerUnder, frameBytes, answerAs, Turn, lacks, ends, frame, turnOf}
+use Rattle.pieces_rules.specs.Step.{badBuffer, Gives, more, inPiece, inBuffer, stops, Step, serves, waiting, stepFrom, stepBy, stepOf}
+use Rattle.pieces_rules.specs.Judge.{Judge, unknown, forbids, spans, judged, judgeOf}
+use Rattle.pieces_rules.proofs.Head.{bad-inj, reads-header}
+use Rattle.pieces_rules.proofs.Says.{Says, lacking, refusing, framing, says, forbids-ends}
+use Rattle.pieces_rules.proofs.Feed.{Serves, serves-true}
 use Rattle.pieces.specs.Told.{toldEnd, toldState}
 use Rattle.pieces.specs.declared.State.{State}
 use Rattle.pieces_read.specs.Told.{toldAnswer, toldReply}

@@ -9,8 +9,8 @@ use Rattle.reading.specs.Reader.{Fit}
 use Rattle.reading.specs.Place.{Placed, sayAnswer}
 use Rattle.records.specs.Told.{limitOf}
 use Rattle.records.specs.declared.answer.Limit.{Limit}
-use Rattle.pieces.specs.Step.{more, inPiece, inBuffer, stops, stepOf}
-use Rattle.pieces.specs.Feed.{once}
+use Rattle.pieces_rules.specs.Step.{more, inPiece, inBuffer, stops, stepOf}
+use Rattle.pieces_rules.specs.Feed.{once}
 use Rattle.pieces.specs.Told.{toldEnd, toldState}
 use Rattle.pieces.specs.declared.State.{State}
 use Rattle.pieces_read.specs.Told.{toldAnswer, toldReply}

@@ -4,7 +4,7 @@ use Prim.Native.Nat.{ℕ}
 use Rattle.reading.specs.Refusal.{Answer}
 use Rattle.reading.specs.Place.{Placed}
 use Rattle.records.specs.Answered.{told, Bounded}
-use Rattle.pieces.specs.Step.{Gives, more, inPiece, inBuffer, stops, Step}
+use Rattle.pieces_rules.specs.Step.{Gives, more, inPiece, inBuffer, stops, Step}
 use Rattle.pieces.specs.Told.{toldStop, toldState}
 use Rattle.pieces_read.specs.declared.Answer.the-variants as answer
 use Rattle.pieces_read.specs.declared.Answer as declared

@@ -9,7 +9,7 @@ use Rattle.grammar.specs.Gram.{Then, OnlyBy}
 use Rattle.grammar.specs.Number.{Byte, Spells}
 use Rattle.reading.specs.Refusal.{Refusal, passes}
 use Rattle.records.specs.Told.{rowOf}
-use Rattle.pieces.specs.Whole.{frameTooLong}
+use Rattle.pieces_rules.specs.Whole.{frameTooLong}
 
 -- "A frame longer than the buffer", of cap bytes, "as soon as its header is complete, after the limit test": s begins with a first byte and an R that
 -- passes the limit, spelt by c, and c and R together are more than the buffer has

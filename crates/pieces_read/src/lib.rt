@@ -9,7 +9,7 @@ use records::answer::Read;
 ghost use mathlib.Core.Path.{_≡_};
 ghost use lib.ListN.{take};
 ghost use Rattle.records.specs.Told.{limitOf};
-ghost use Rattle.pieces.specs.Step.{readIn, stepOf};
+ghost use Rattle.pieces_rules.specs.Step.{readIn, stepOf};
 ghost use Rattle.pieces.specs.Told.{toldState, toldGiven};
 ghost use Rattle.pieces_read.specs.Told.{toldAnswer, toldReply, Carries};
 

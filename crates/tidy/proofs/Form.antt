@@ -120,7 +120,7 @@ fields-form aPublish x e _ _ (only t (mapped (both {a = s} {b = b₁} {d = d₁}
     let (ps, u, w, j₃) = block-form publishPlace publishOf a b₃ k₃ (each-left b₃ d₃ q₂) in
     let n : Publish (List ℕ) List = record { dup = flagDup x; qos = flagQos x; retain = flagRetain x; topic = s; ident = i; props = a; payload = p } in
     let z : n ≡ m = cc in
-    subst (λ (n : Publish (List ℕ) List). Filled n x (b₁ ++ (b₂ ++ (b₃ ++ p)))) z (record { order = ps; single = u; props = w; first = first-again x (publish-three (kindOf x) e); bytes = rw (← j₁, ← j₂, ← j₃) })
+    subst (λ (n : Publish (List ℕ) List). Filled n x (b₁ ++ (b₂ ++ (b₃ ++ p)))) z (record { order = ps; single = u; props = w; first = first-again x (publish-three (kindOf x) e); bytes = ap (λ (c : List ℕ). b₁ ++ (c ++ (b₃ ++ p))) j₂ ∙ rw (← j₁, ← j₃) })
 fields-form (anAck rs) x e _ _ (mapped w) o m r = never (cc)
 fields-form aSubscribe x e _ _ (mapped w) o m r = never (cc)
 fields-form (aReply rs) x e _ _ (mapped w) o m r = never (cc)

@@ -1,4 +1,3 @@
 pub mod Levels
 pub mod Match
-pub mod Standard
 pub mod Step

@@ -133,7 +133,7 @@ module _ (limit : Option ℕ) (out : List ℕ) (h : Handed) where
   -- 01: "A refused write leaves the output as it stood"
   pub out-refused : (k : Refusal) → writeOf limit (length out) h ≡ bad k → outOf limit out h ≡ out
   unfolding outOf
-  out-refused k e = rw e
+  out-refused k e = ap (leaves out) e
 
   -- 01: "An accepted one sets the first size bytes, .. and keeps the rest"
   pub out-written : (b : List ℕ) → writeOf limit (length out) h ≡ got b → outOf limit out h ≡ b ++ drop (length b) out

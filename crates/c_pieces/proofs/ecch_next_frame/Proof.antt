@@ -3,7 +3,7 @@ use mathlib.Core.Path.{ap, _∙_}
 use Prim.Native.Nat.{ℕ}
 use lib.Seq.{sets}
 use denote.Ref.{now}
-use Rattle.pieces.specs.Step.{Step}
+use Rattle.pieces_rules.specs.Step.{Step}
 use Rattle.c_pieces.specs.Frame.{gaveNumber, frameNumbers, stateAfter}
 use borrow.Author.Needs.{needs}
 use Rattle.c_pieces.proofs.ecch_next_frame.Statement.{statement}

@@ -1,6 +1,6 @@
 -- `pieces::buffer_serves` is right since each test is one of the definition's, in its order. Assumes nothing.
 use borrow.Author.Tests.{le-leb, lt-leb}
-use Rattle.pieces.specs.Step.{serves}
+use Rattle.pieces_rules.specs.Step.{serves}
 use Rattle.pieces.proofs.buffer_serves.Statement.{statement}
 use Rattle.pieces.proofs.buffer_serves.Tie as tie
 

@@ -4,7 +4,7 @@ use Rattle.records.specs.Told.{limitOf}
 use lib.ListN.{length}
 use mathlib.Core.Path.{sym, ap, _∙_}
 use borrow.Author.Tests.{not-true, not-false}
-use Rattle.pieces.proofs.Calls.{served}
+use Rattle.pieces_rules.proofs.Calls.{served}
 use Rattle.pieces.specs.Told.{toldEnd, toldState}
 use Rattle.pieces.proofs.Laws.{refused-buffer, refused-again, goes-on}
 use borrow.Author.Needs.{needs}

@@ -2,7 +2,7 @@
 use denote.Ref.{now}
 use Rattle.records.specs.Told.{limitOf}
 use mathlib.Core.Path.{_∙_}
-use Rattle.pieces.proofs.Calls.{call-lacks, call-frame}
+use Rattle.pieces_rules.proofs.Calls.{call-lacks, call-frame}
 use Rattle.pieces.proofs.Laws.{whole-piece}
 use borrow.Author.Needs.{needs}
 use Rattle.pieces.proofs.next_length.Statement.{statement}

@@ -3,8 +3,8 @@ use denote.Ref.{now}
 use Rattle.records.specs.Told.{limitOf}
 use mathlib.Core.List.{_++_}
 use lib.ListN.{length, take}
-use Rattle.pieces.proofs.Says.{spans-within}
-use Rattle.pieces.proofs.Calls.{call-unknown, call-ends}
+use Rattle.pieces_rules.proofs.Says.{spans-within}
+use Rattle.pieces_rules.proofs.Calls.{call-unknown, call-ends}
 use Rattle.pieces.proofs.Laws.{open-room}
 use borrow.Author.Needs.{needs}
 use Rattle.pieces.proofs.next_open.Statement.{statement}

@@ -10,7 +10,7 @@ use Rattle.records.specs.Answered.{Bounded}
 use Rattle.records.specs.declared.answer.Limit.{Limit}
 use Rattle.records.specs.declared.answer.Read.{Read}
 use Rattle.packet.specs.Told.{Meets}
-use Rattle.pieces.specs.Step.{inPiece, inBuffer}
+use Rattle.pieces_rules.specs.Step.{inPiece, inBuffer}
 use borrow.Author.Needs.{needs}
 use Rattle.pieces_read.proofs.answer_in.Statement.{statement}
 use Rattle.pieces_read.proofs.answer_in.Tie as tie

@@ -2,8 +2,8 @@
 use mathlib.Core.Path.{ap, _∙_}
 use denote.Ref.{now}
 use Rattle.records.specs.Told.{limitOf}
-use Rattle.pieces.specs.Step.{readStep}
-use Rattle.pieces.proofs.Calls.{found-read}
+use Rattle.pieces_rules.specs.Step.{readStep}
+use Rattle.pieces_rules.proofs.Calls.{found-read}
 use Rattle.pieces.specs.Told.{toldState}
 use borrow.Author.Needs.{needs}
 use Rattle.pieces_read.proofs.next.Statement.{statement}

@@ -1,0 +1,4 @@
+pub mod Whole
+pub mod Step
+pub mod Feed
+pub mod Judge
