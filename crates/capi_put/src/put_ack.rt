@@ -1,7 +1,8 @@
 // The publish acknowledgements: their size, and written; one function over the kind, and four that C calls.
 use given::number::bound;
 use given_heads::ack_by::ack_head;
-use layout::answer as layout_answer;
+use layout::answer::as_written;
+use layout::answer::store_written;
 use records::ack_record::AckKind;
 ghost use mathlib.Core.Path.{_≡_};
 ghost use lib.ListN.{length};
@@ -29,7 +30,7 @@ fn ack_size(
 {
     let head = ack_head(kind, pkid, reason, block, reason_string_on);
     let size = ack_write::size(head, reason_string, user, user_lengths);
-    layout_answer::store_written(layout_answer::as_written(size), &mut *answer)
+    store_written(as_written(size), &mut *answer)
 }
 
 fn ack_write(
@@ -59,7 +60,7 @@ fn ack_write(
         bound(limited, limit),
         &mut *out,
     );
-    layout_answer::store_written(written, &mut *answer)
+    store_written(written, &mut *answer)
 }
 
 // The size of a PubAck: 0, or the refusal's number.

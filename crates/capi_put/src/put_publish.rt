@@ -3,7 +3,7 @@ use given::number::bound;
 use given_heads::publish_by::publish_head;
 use given_write::size::size_publish;
 use given_write::write::write_publish;
-use layout::answer as layout_answer;
+use layout::answer::store_written;
 ghost use mathlib.Core.Path.{_≡_};
 ghost use lib.Seq.{sets};
 ghost use Rattle.layout.specs.Value.{fitNumber};
@@ -69,7 +69,7 @@ pub extern "C" fn ecch_publish_size(
         content,
         payload,
     );
-    layout_answer::store_written(size, &mut *answer)
+    store_written(size, &mut *answer)
 }
 
 // A Publish written: 0, or the refusal's number, in the same order.
@@ -135,5 +135,5 @@ pub extern "C" fn ecch_publish_write(
         bound(limited, limit),
         &mut *out,
     );
-    layout_answer::store_written(written, &mut *answer)
+    store_written(written, &mut *answer)
 }

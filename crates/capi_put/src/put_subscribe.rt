@@ -3,7 +3,7 @@ use given::number::bound;
 use given_heads::subscribe_by::subscribe_head;
 use given_write::size::size_subscribe;
 use given_write::write::write_subscribe;
-use layout::answer as layout_answer;
+use layout::answer::store_written;
 ghost use mathlib.Core.Path.{_≡_};
 ghost use lib.Seq.{sets};
 ghost use Rattle.writing.specs.Write.{sizedBehind, answeredBehind, outBehind};
@@ -31,7 +31,7 @@ pub extern "C" fn ecch_subscribe_size(
 {
     let by = subscribe_head(pkid, block, identifier_on, identifier);
     let size = size_subscribe(by, user, user_lengths, filters, filter_lengths, options);
-    layout_answer::store_written(size, &mut *answer)
+    store_written(size, &mut *answer)
 }
 
 // A Subscribe written: 0, or the refusal's number, in the same order.
@@ -66,5 +66,5 @@ pub extern "C" fn ecch_subscribe_write(
         bound(limited, limit),
         &mut *out,
     );
-    layout_answer::store_written(written, &mut *answer)
+    store_written(written, &mut *answer)
 }

@@ -1,7 +1,8 @@
 // An Unsubscribe: its size, and written.
 use given::number::bound;
 use given_heads::unsubscribe_by::unsubscribe_head;
-use layout::answer as layout_answer;
+use layout::answer::as_written;
+use layout::answer::store_written;
 ghost use mathlib.Core.Path.{_≡_};
 ghost use lib.ListN.{length};
 ghost use lib.Seq.{sets};
@@ -28,7 +29,7 @@ pub extern "C" fn ecch_unsubscribe_size(
 {
     let head = unsubscribe_head(pkid, block);
     let size = unsubscribe_write::size(head, user, user_lengths, topics, topic_lengths);
-    layout_answer::store_written(layout_answer::as_written(size), &mut *answer)
+    store_written(as_written(size), &mut *answer)
 }
 
 // An Unsubscribe written: 0, or the refusal's number.
@@ -59,5 +60,5 @@ pub extern "C" fn ecch_unsubscribe_write(
         bound(limited, limit),
         &mut *out,
     );
-    layout_answer::store_written(written, &mut *answer)
+    store_written(written, &mut *answer)
 }

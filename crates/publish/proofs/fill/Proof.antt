@@ -10,7 +10,7 @@ use Rattle.records.specs.Told.{toldSpan}
 use Rattle.properties.specs.Block.{publishRow}
 use Rattle.publish.specs.Singles.{toldSingles}
 use Rattle.properties.proofs.Laws.Fold.{FillingBy, leftFrom, filling-start, filling-next, read-ahead, publish-lawful, filled-twice, filled-bad, filled-end}
-use Rattle.publish.proofs.Singles.{filling-lists}
+use Rattle.publish.proofs.BlockLaws.{filling-lists}
 use Rattle.publish.proofs.fill.Statement.{statement}
 use Rattle.publish.proofs.fill.Tie as tie
 

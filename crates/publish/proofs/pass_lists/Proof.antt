@@ -5,7 +5,7 @@ use lib.ListN.{length}
 use borrow.Author.Needs.{needs}
 use Rattle.properties.proofs.Laws.Fold.{over-ahead}
 use Rattle.publish.specs.Singles.{ListsPassed}
-use Rattle.publish.proofs.Singles.{lists-none, lists-next}
+use Rattle.publish.proofs.BlockLaws.{lists-none, lists-next}
 use Rattle.publish.proofs.pass_lists.Statement.{statement}
 use Rattle.publish.proofs.pass_lists.Tie as tie
 
