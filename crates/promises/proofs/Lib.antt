@@ -4,3 +4,13 @@ pub mod Places
 pub mod Items
 pub mod Item
 pub mod Walk
+pub mod Writing
+pub mod Back
+pub mod CRows
+pub mod OneLaws
+pub mod OneAnswers
+pub mod OneLeaves
+pub mod OnePackets
+pub mod OneWriters
+pub mod OneHeads
+pub mod OneRows

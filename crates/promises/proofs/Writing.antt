@@ -33,8 +33,8 @@ use Rattle.records.specs.declared.error.Error.{Error}
 use Rattle.packet_parts.specs.Parts.{Parts, foreign}
 use Rattle.packet_write.specs.Union.{own, unionOf}
 use Rattle.packet_parts.specs.declared.head.PacketHead.{PacketHead}
-use Rattle.promises_writing.specs.Writing.{Obeys, Counts, Refusing, writerRows}
-use Rattle.promises_writing.specs.Writing as refusing
+use Rattle.promises.specs.Writing.{Obeys, Counts, Refusing, writerRows}
+use Rattle.promises.specs.Writing as refusing
 
 -- ---- whose contract it is
 

@@ -8,8 +8,8 @@ use Rattle.records.specs.Answered.{told, carried, toldSized, toldWritten, toldU
 use Rattle.records.specs.Told.{toldValues, limitOf}
 use Rattle.records.proofs.Answered.{backRead, back-read, backSized, back-sized, backWritten, back-written, backUser, back-user, backIdentifier, back-identifier, backFilterItem, back-filter-item, backReasonItem, back-reason-item, backTopicItem, back-topic-item, backGotRule, back-got-rule}
 use Rattle.records.proofs.Told.{backValues, back-values, backLimit, back-limit}
-use Rattle.one_result.specs.OneResult.{OneResult}
-use Rattle.one_result.proofs.Laws.{one-by}
+use Rattle.promises.specs.OneResult.{OneResult}
+use Rattle.promises.proofs.OneLaws.{one-by}
 
 -- all that a read tells: 02's two numbers beside the rest
 abbrev pub toldRead : Read → Answer Placed × Fit (ℕ × ℕ)

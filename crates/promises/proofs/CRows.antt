@@ -22,7 +22,7 @@ use Rattle.given_heads.specs.By.{By, handedBy}
 use Rattle.given_heads.specs.Refuse.{InOrder, RefusesBy, UnsizedBy}
 use Rattle.given_heads.specs.Refuse as c
 use Rattle.given_heads.proofs.Order.{write-refused-when, size-refused-when}
-use Rattle.promises_c.specs.Rows.{writeRows, sizeRows, Quality}
+use Rattle.promises.specs.CRows.{writeRows, sizeRows, Quality}
 
 -- ---- fields
 

@@ -44,16 +44,16 @@ use Rattle.records.specs.declared.reply_record.ReplyKind.{ReplyKind}
 use Rattle.records.specs.declared.unsubscribe_record.Unsubscribe.{Unsubscribe}
 use Rattle.packet.specs.Told.{Says}
 use Rattle.packet.specs.Told as reading
 use Rattle.promises.specs.Reading.{PublishParts, ReasonPart, UserItems, IdentifierItems, FilterItems, ReasonItems, TopicItems}
 use Rattle.promises.proofs.Reading.{sentence-read}
 use Rattle.promises.proofs.Reading as promises
 use Rattle.promises.proofs.Parts.{publish-parts, ack-parts, reply-parts}
 use Rattle.promises.proofs.Items.{publish-items, ack-items, subscribe-items, reply-items, unsubscribe-items, filter-items, reason-items, topic-items}
 use Rattle.packet_parts.specs.Parts.{Parts, foreign}
 use Rattle.packet_write.specs.Union.{own, unionOf}
 use Rattle.packet_parts.specs.declared.head.PacketHead.{PacketHead}
-use Rattle.promises_writing.specs.Writing.{Obeys, ReadsAs, Widths, LentOctets}
-use Rattle.promises_writing.proofs.Writing as writing
+use Rattle.promises.specs.Writing.{Obeys, ReadsAs, Widths, LentOctets}
+use Rattle.promises.proofs.Writing as writing
 
 -- ---- what the types of the arguments ensure
 

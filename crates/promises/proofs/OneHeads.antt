@@ -28,9 +28,9 @@ use Rattle.row_tests.specs.declared.Tested.{Tested}
 use Rattle.given_heads.specs.declared.publish_by.PublishBy.{PublishBy}
 use Rattle.given_heads.specs.declared.subscribe_by.SubscribeBy.{SubscribeBy}
 use Rattle.given_heads.specs.Head.{publishHanded, subscribeHanded}
-use Rattle.one_result.specs.OneResult.{OneResult}
-use Rattle.one_result.proofs.Laws.{one-by}
-use Rattle.one_result.proofs.Writers.{backNumber, back-number-u8, back-number-u16, back-number-u32}
+use Rattle.promises.specs.OneResult.{OneResult}
+use Rattle.promises.proofs.OneLaws.{one-by}
+use Rattle.promises.proofs.OneWriters.{backNumber, back-number-u8, back-number-u16, back-number-u32}
 
 -- ---- a Publish
 

@@ -37,8 +37,8 @@ use Rattle.unsubscribe.specs.declared.GotTopics.{GotTopics}
 use Rattle.unsubscribe.specs.declared.GotUnsubscribe.{GotUnsubscribe}
 use Rattle.publish.specs.Told.{toldGotPublish}
 use Rattle.publish.specs.declared.GotPublish.{GotPublish}
-use Rattle.one_result.specs.OneResult.{OneResult}
-use Rattle.one_result.proofs.Laws.{one-by}
+use Rattle.promises.specs.OneResult.{OneResult}
+use Rattle.promises.proofs.OneLaws.{one-by}
 
 -- ---- blocks
 

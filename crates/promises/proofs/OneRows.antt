@@ -12,10 +12,10 @@ use Rattle.tables.specs.Property.{toldForm}
 use Rattle.tables.specs.declared.property.PropertyForm.{PropertyForm}
 use Rattle.kinds.specs.Kinds.{toldKind, kindRow}
 use Rattle.kinds.specs.declared.Kind.{Kind}
-use Rattle.one_result.specs.OneResult.{OneResult}
-use Rattle.one_result.specs.Rows.{orRow, kindTold, kindAnswer, formTold, formAnswer}
-use Rattle.one_result.proofs.Laws.{one-by}
-use Rattle.one_result.proofs.Leaves.{backForm, back-form, backKind, back-kind}
+use Rattle.promises.specs.OneResult.{OneResult}
+use Rattle.promises.specs.OneRows.{orRow, kindTold, kindAnswer, formTold, formAnswer}
+use Rattle.promises.proofs.OneLaws.{one-by}
+use Rattle.promises.proofs.OneLeaves.{backForm, back-form, backKind, back-kind}
 
 -- ---- kinds
 

@@ -10,8 +10,8 @@ use Rattle.records.specs.declared.span.MaybeU32.{MaybeU32}
 use Rattle.records.specs.Told.{numberU8, numberU16, numberU32}
 use Rattle.row_tests.specs.Tested.{toldTested}
 use Rattle.row_tests.specs.declared.Tested.{Tested}
-use Rattle.one_result.specs.OneResult.{OneResult}
-use Rattle.one_result.proofs.Laws.{one-by}
+use Rattle.promises.specs.OneResult.{OneResult}
+use Rattle.promises.proofs.OneLaws.{one-by}
 
 abbrev backTested : Fit (Unit {0}) → Tested
 backTested = backFit (λ _. Tested.Fine) Tested.Refused

@@ -40,8 +40,8 @@ use Rattle.property_value.specs.Told.{toldValue, formOf, toldProperty, OfForm, 
 use Rattle.property_value.specs.declared.Value.{Value}
 use Rattle.property_value.specs.declared.GotProperty.{GotProperty}
 use Rattle.given.specs.Kind.{propertyAt, formIn, PropertyGiven}
-use Rattle.one_result.specs.OneResult.{OneResult}
-use Rattle.one_result.proofs.Laws.{one-by}
+use Rattle.promises.specs.OneResult.{OneResult}
+use Rattle.promises.proofs.OneLaws.{one-by}
 
 -- ---- numbers
 

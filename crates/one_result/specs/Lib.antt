@@ -1,2 +1,0 @@
-pub mod OneResult
-pub mod Rows
