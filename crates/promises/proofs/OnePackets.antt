@@ -19,8 +19,8 @@ use Rattle.records.specs.declared.reply_record.ReplyKind.{ReplyKind}
 use Rattle.records.specs.declared.subscribe_record.Filter.{Filter}
 use Rattle.properties.specs.Block.{toldBlockAt}
 use Rattle.properties.specs.declared.place_block.GotBlock.{GotBlock}
-use Rattle.publish_properties.specs.Singles.{toldPublishBlockAt}
-use Rattle.publish_properties.specs.declared.GotPublishBlock.{GotPublishBlock}
+use Rattle.publish.specs.Singles.{toldPublishBlockAt}
+use Rattle.publish.specs.declared.GotPublishBlock.{GotPublishBlock}
 use Rattle.ack.specs.Told.{toldGotAck}
 use Rattle.ack.specs.declared.GotAck.{GotAck}
 use Rattle.filters.specs.Told.{toldGotFilter}

@@ -11,8 +11,8 @@ use Rattle.reading.specs.Place.{Span}
 use Rattle.records.specs.Told.{toldError, toldSpan}
 use Rattle.records.specs.Said.{toldPublishBlock}
 use Rattle.properties.specs.Block.{publishRow, loopFrom}
-use Rattle.publish_properties.specs.declared.GotPublishBlock.{GotPublishBlock}
-use Rattle.publish_properties.specs.declared.Singles.{Singles}
+use Rattle.publish.specs.declared.GotPublishBlock.{GotPublishBlock}
+use Rattle.publish.specs.declared.Singles.{Singles}
 
 -- 01, table of properties: a value, if it is given
 abbrev pub given : Bool → Val Span → Option (Val Span)

@@ -1,12 +1,12 @@
--- `publish_properties::apply` meets its contract: by the row, the form of a value tells which field it is of; the identifier is asked
+-- `publish::apply` meets its contract: by the row, the form of a value tells which field it is of; the identifier is asked
 -- for text alone. Assumes nothing.
 use mathlib.Core.Path.{_≡_}
 use mathlib.Core.Logic.{_⊎_, ⊎-elim}
 use Prim.Native.Nat.{ℕ}
 use borrow.Author.Needs.{needs}
 use Rattle.properties.proofs.Laws.Fold.{publish-is}
-use Rattle.publish_properties.proofs.apply.Statement.{statement}
-use Rattle.publish_properties.proofs.apply.Tie as tie
+use Rattle.publish.proofs.apply.Statement.{statement}
+use Rattle.publish.proofs.apply.Tie as tie
 
 not-eight : (k : ℕ) → (k ≡ 8 → ⊥) → (k ≡ 8) ⊎ (k ≡ 3) → k ≡ 3
 not-eight k n = ⊎-elim (λ e. absurd (n e)) (λ e. e)

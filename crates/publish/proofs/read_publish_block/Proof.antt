@@ -1,4 +1,4 @@
--- `publish_properties::read_publish_block` meets its contract: the room of the block is what `read_room` found; with no byte in it the block is absent,
+-- `publish::read_publish_block` meets its contract: the room of the block is what `read_room` found; with no byte in it the block is absent,
 -- else it is what `fill` makes of the slice that ends with it. Assumes nothing.
 use mathlib.Core.Path.{sym, _∙_}
 use native.Mathlib.Omega.{arith}
@@ -8,8 +8,8 @@ use denote.Ref.{now}
 use Rattle.properties.specs.Block.{publishRow}
 use Rattle.properties.proofs.Laws.Fold.{publish-lawful}
 use Rattle.properties.proofs.Laws.Block.{room-inside, block-bad, block-absent, block-present}
-use Rattle.publish_properties.proofs.read_publish_block.Statement.{statement}
-use Rattle.publish_properties.proofs.read_publish_block.Tie as tie
+use Rattle.publish.proofs.read_publish_block.Statement.{statement}
+use Rattle.publish.proofs.read_publish_block.Tie as tie
 
 read-room-requires : tie.Need-read-room-requires
 read-room-requires c κs = search needs

@@ -1,7 +1,7 @@
--- `publish_properties::made` meets its contract: field by field. Assumes nothing.
+-- `publish::made` meets its contract: field by field. Assumes nothing.
 use borrow.Author.Needs.{needs}
-use Rattle.publish_properties.proofs.made.Statement.{statement}
-use Rattle.publish_properties.proofs.made.Tie as tie
+use Rattle.publish.proofs.made.Statement.{statement}
+use Rattle.publish.proofs.made.Tie as tie
 
 maybe-u8-requires : tie.Need-maybe-u8-requires
 maybe-u8-requires c κs = search needs

@@ -1,7 +1,7 @@
--- `publish_properties::maybe_span` meets its contract: by the flag. Assumes nothing.
+-- `publish::maybe_span` meets its contract: by the flag. Assumes nothing.
 use borrow.Author.Needs.{needs}
-use Rattle.publish_properties.proofs.maybe_span.Statement.{statement}
-use Rattle.publish_properties.proofs.maybe_span.Tie as tie
+use Rattle.publish.proofs.maybe_span.Statement.{statement}
+use Rattle.publish.proofs.maybe_span.Tie as tie
 
 returns : tie.Need-returns
 returns c = rw (c .if1 .taken)

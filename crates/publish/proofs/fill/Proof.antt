@@ -1,4 +1,4 @@
--- `publish_properties::fill` meets its contract. The loop's invariant: the rest of the loop decides the whole. Each property takes a byte at
+-- `publish::fill` meets its contract. The loop's invariant: the rest of the loop decides the whole. Each property takes a byte at
 -- least, and what is left of the slice is the measure. Assumes nothing.
 use mathlib.Core.Path.{sym, ap, _∙_}
 use mathlib.Core.Option.{some}
@@ -8,11 +8,11 @@ use borrow.Author.Needs.{needs}
 use Rattle.reading.specs.Reader.{got}
 use Rattle.records.specs.Told.{toldSpan}
 use Rattle.properties.specs.Block.{publishRow}
-use Rattle.publish_properties.specs.Singles.{toldSingles}
+use Rattle.publish.specs.Singles.{toldSingles}
 use Rattle.properties.proofs.Laws.Fold.{FillingBy, leftFrom, filling-start, filling-next, read-ahead, publish-lawful, filled-twice, filled-bad, filled-end}
-use Rattle.publish_properties.proofs.Laws.{filling-lists}
-use Rattle.publish_properties.proofs.fill.Statement.{statement}
-use Rattle.publish_properties.proofs.fill.Tie as tie
+use Rattle.publish.proofs.BlockLaws.{filling-lists}
+use Rattle.publish.proofs.fill.Statement.{statement}
+use Rattle.publish.proofs.fill.Tie as tie
 
 abbrev Inv-loop : tie.InvT-loop
 Inv-loop = FillingBy publishRow toldSingles

@@ -1,13 +1,13 @@
--- `publish_properties::pass_lists` meets its contract. The loop's invariant: properties of lists stand from `from` to `at`. Assumes nothing.
+-- `publish::pass_lists` meets its contract. The loop's invariant: properties of lists stand from `from` to `at`. Assumes nothing.
 use Prim.Native.Nat.{_-_}
 use native.Mathlib.Omega.{arith}
 use lib.ListN.{length}
 use borrow.Author.Needs.{needs}
 use Rattle.properties.proofs.Laws.Fold.{over-ahead}
-use Rattle.publish_properties.specs.Singles.{ListsPassed}
-use Rattle.publish_properties.proofs.Laws.{lists-none, lists-next}
-use Rattle.publish_properties.proofs.pass_lists.Statement.{statement}
-use Rattle.publish_properties.proofs.pass_lists.Tie as tie
+use Rattle.publish.specs.Singles.{ListsPassed}
+use Rattle.publish.proofs.BlockLaws.{lists-none, lists-next}
+use Rattle.publish.proofs.pass_lists.Statement.{statement}
+use Rattle.publish.proofs.pass_lists.Tie as tie
 
 abbrev Inv-loop : tie.InvT-loop
 Inv-loop s from at₀ at = ListsPassed s from at

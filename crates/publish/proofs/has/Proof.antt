@@ -1,4 +1,4 @@
--- `publish_properties::has` is right since each single-valued property of the row has its flag. Assumes nothing.
+-- `publish::has` is right since each single-valued property of the row has its flag. Assumes nothing.
 use mathlib.Core.Path.{_≡_, refl}
 use mathlib.Core.Bool.{Bool, true, false}
 use Rattle.grammar.specs.Choice.{isSome}
@@ -6,9 +6,9 @@ use Rattle.grammar.specs.Record.{Val}
 use Rattle.reading.specs.Place.{Span}
 use Rattle.tables.proofs.Laws.{lookup-absent}
 use Rattle.properties.specs.Block.{publishSaid}
-use Rattle.publish_properties.specs.Singles.{given, toldSingles}
-use Rattle.publish_properties.proofs.has.Statement.{statement}
-use Rattle.publish_properties.proofs.has.Tie as tie
+use Rattle.publish.specs.Singles.{given, toldSingles}
+use Rattle.publish.proofs.has.Statement.{statement}
+use Rattle.publish.proofs.has.Tie as tie
 
 flag : (b : Bool) (v : Val Span) → b ≡ isSome (given b v)
 flag true v = refl

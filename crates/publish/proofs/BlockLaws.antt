@@ -8,7 +8,7 @@ use Rattle.reading.specs.Reader.{Fit}
 use Rattle.property_value.specs.Told.{publishLists, PropertyPassed}
 use Rattle.properties.specs.Block.{publishRow}
 use Rattle.properties.proofs.Laws.Fold.{Filling, over-ahead, loop-over}
-use Rattle.publish_properties.specs.Singles.{ListsPassed}
+use Rattle.publish.specs.Singles.{ListsPassed}
 
 pub lists-none : (s : List ℕ) (at : ℕ) → ListsPassed s at at
 lists-none s at = record { ahead = omega arith; rest = λ o σ t. refl }
