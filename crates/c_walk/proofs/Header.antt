@@ -11,7 +11,7 @@ use Rattle.reading.specs.Reader.{Fit, got}
 use Rattle.reading.specs.Place.{Span, Placed, readPlacedOf, onSome}
 use Rattle.reading.specs.Bounds.{boundsOf}
 use Rattle.records.specs.declared.span.Bounds.{Bounds}
-use Rattle.layout_properties.specs.Block.{publishBlock, propsBlock}
+use Rattle.layout_read.specs.Block.{publishBlock, propsBlock}
 use Rattle.layout_read.specs.Record.{packetNumbers, boundsAt, encoded}
 use Rattle.walker.specs.Walk.{blockIn, blockOf}
 use Rattle.walker.specs.Calls.{answersOf, usersIn}

@@ -3,13 +3,13 @@
 use given_next::filter_up_to;
 use given_next::property_up_to;
 use given_next::topic_up_to;
-use layout_next::store_next_filter;
-use layout_next::store_next_topic;
-use layout_next::store_property;
+use layout_item::next::store_next_filter;
+use layout_item::next::store_next_topic;
+use layout_item::next::store_property;
 ghost use mathlib.Core.Path.{_≡_};
 ghost use lib.Seq.{sets};
 ghost use Rattle.layout.specs.Value.{fitNumber};
-ghost use Rattle.layout_next.specs.Next.{propertyNumbers, nextFilterNumbers, nextTopicNumbers};
+ghost use Rattle.layout_item.specs.Next.{propertyNumbers, nextFilterNumbers, nextTopicNumbers};
 ghost use Rattle.given_next.specs.UpTo.{propertyUpTo, filterUpTo, topicUpTo};
 
 // Identifier and value.

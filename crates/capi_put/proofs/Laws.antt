@@ -9,7 +9,7 @@ use Rattle.reading.specs.Reader.{Fit}
 use Rattle.writing.specs.Handed.{Handed}
 use Rattle.writing.specs.Write.{Written, answerOf, outOf, answeredBehind, outBehind, WrittenBehind}
 use Rattle.layout.specs.Value.{fitNumber}
-use Rattle.layout_answer.specs.Answer.{answerNumbers}
+use Rattle.layout.specs.Answer.{answerNumbers}
 
 -- what is returned, and the array before and after
 abbrev Stored : ℕ → List ℕ → List ℕ → Fit ℕ → Type 0

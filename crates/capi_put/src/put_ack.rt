@@ -1,7 +1,8 @@
 // The publish acknowledgements: their size, and written; one function over the kind, and four that C calls.
 use given::number::bound;
 use given_heads::ack_by::ack_head;
-use layout_answer;
+use layout::answer::as_written;
+use layout::answer::store_written;
 use records::ack_record::AckKind;
 ghost use mathlib.Core.Path.{_≡_};
 ghost use lib.ListN.{length};
@@ -9,7 +10,7 @@ ghost use lib.Seq.{sets};
 ghost use Rattle.writing.specs.Write.{sizeOf, answerOf, outOf};
 ghost use Rattle.records.specs.Told.{toldAckKind};
 ghost use Rattle.layout.specs.Value.{fitNumber};
-ghost use Rattle.layout_answer.specs.Answer.{answerNumbers};
+ghost use Rattle.layout.specs.Answer.{answerNumbers};
 ghost use Rattle.given.specs.Given.{limitGiven};
 ghost use Rattle.given_heads.specs.By.{ackBy};
 
@@ -29,7 +30,7 @@ fn ack_size(
 {
     let head = ack_head(kind, pkid, reason, block, reason_string_on);
     let size = ack_write::size(head, reason_string, user, user_lengths);
-    layout_answer::store_written(layout_answer::as_written(size), &mut *answer)
+    store_written(as_written(size), &mut *answer)
 }
 
 fn ack_write(
@@ -59,7 +60,7 @@ fn ack_write(
         bound(limited, limit),
         &mut *out,
     );
-    layout_answer::store_written(written, &mut *answer)
+    store_written(written, &mut *answer)
 }
 
 #[no_mangle]

@@ -1,6 +1,7 @@
 // PingReq and PingResp: their size, and written.
 use given::number::bound;
-use layout_answer;
+use layout::answer::as_written;
+use layout::answer::store_written;
 ghost use mathlib.Core.Path.{_≡_};
 ghost use lib.ListN.{length};
 ghost use lib.Seq.{sets};
@@ -8,7 +9,7 @@ ghost use Prim.Native.Nat.{ℕ};
 ghost use Rattle.writing.specs.Handed.{ping};
 ghost use Rattle.writing.specs.Write.{sizeOf, answerOf, outOf};
 ghost use Rattle.layout.specs.Value.{fitNumber};
-ghost use Rattle.layout_answer.specs.Answer.{answerNumbers};
+ghost use Rattle.layout.specs.Answer.{answerNumbers};
 ghost use Rattle.given.specs.Given.{limitGiven};
 
 // Of either ping.
@@ -16,8 +17,8 @@ ghost use Rattle.given.specs.Given.{limitGiven};
 pub extern "C" fn ecch_ping_size(answer: &mut [u64]) -> u32
     ensures { λ r. ⌜ ((k : ℕ) → (r ≡ fitNumber (sizeOf (ping k))) × (now (answer .exit) ≡ sets (now (answer .entry)) 0 (answerNumbers (sizeOf (ping k))))) ⌝ }
 {
-    let size = layout_answer::as_written(ping::ping_size());
-    layout_answer::store_written(size, &mut *answer)
+    let size = as_written(ping::ping_size());
+    store_written(size, &mut *answer)
 }
 
 #[no_mangle]
@@ -32,7 +33,7 @@ pub extern "C" fn ecch_pingreq_write(
     ensures stored { λ r. ⌜ now (answer .exit) ≡ sets (now (answer .entry)) 0 (answerNumbers (answerOf (limitGiven limited limit) (length (now (out .entry))) (ping 12))) ⌝ }
 {
     let written = ping::write_ping_req(bound(limited, limit), &mut *out);
-    layout_answer::store_written(written, &mut *answer)
+    store_written(written, &mut *answer)
 }
 
 #[no_mangle]
@@ -47,5 +48,5 @@ pub extern "C" fn ecch_pingresp_write(
     ensures stored { λ r. ⌜ now (answer .exit) ≡ sets (now (answer .entry)) 0 (answerNumbers (answerOf (limitGiven limited limit) (length (now (out .entry))) (ping 13))) ⌝ }
 {
     let written = ping::write_ping_resp(bound(limited, limit), &mut *out);
-    layout_answer::store_written(written, &mut *answer)
+    store_written(written, &mut *answer)
 }

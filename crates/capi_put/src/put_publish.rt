@@ -3,11 +3,11 @@ use given::number::bound;
 use given_heads::publish_by::publish_head;
 use given_write::size::size_publish;
 use given_write::write::write_publish;
-use layout_answer;
+use layout::answer::store_written;
 ghost use mathlib.Core.Path.{_≡_};
 ghost use lib.Seq.{sets};
 ghost use Rattle.layout.specs.Value.{fitNumber};
-ghost use Rattle.layout_answer.specs.Answer.{answerNumbers};
+ghost use Rattle.layout.specs.Answer.{answerNumbers};
 ghost use Rattle.given.specs.Given.{limitGiven};
 ghost use Rattle.given_heads.specs.By.{handedBy, publishBy};
 ghost use Rattle.writing.specs.Write.{sizedBehind, answeredBehind, outBehind};
@@ -68,7 +68,7 @@ pub extern "C" fn ecch_publish_size(
         content,
         payload,
     );
-    layout_answer::store_written(size, &mut *answer)
+    store_written(size, &mut *answer)
 }
 
 #[no_mangle]
@@ -133,5 +133,5 @@ pub extern "C" fn ecch_publish_write(
         bound(limited, limit),
         &mut *out,
     );
-    layout_answer::store_written(written, &mut *answer)
+    store_written(written, &mut *answer)
 }

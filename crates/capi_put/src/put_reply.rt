@@ -1,7 +1,8 @@
 // SubAck and UnsubAck: their size, and written; one function over the kind, and two that C calls.
 use given::number::bound;
 use given_heads::reply_by::reply_head;
-use layout_answer;
+use layout::answer::as_written;
+use layout::answer::store_written;
 use records::reply_record::ReplyKind;
 ghost use mathlib.Core.Path.{_≡_};
 ghost use lib.ListN.{length};
@@ -9,7 +10,7 @@ ghost use lib.Seq.{sets};
 ghost use Rattle.writing.specs.Write.{sizeOf, answerOf, outOf};
 ghost use Rattle.records.specs.Told.{toldReplyKind};
 ghost use Rattle.layout.specs.Value.{fitNumber};
-ghost use Rattle.layout_answer.specs.Answer.{answerNumbers};
+ghost use Rattle.layout.specs.Answer.{answerNumbers};
 ghost use Rattle.given.specs.Given.{limitGiven};
 ghost use Rattle.given_heads.specs.By.{replyBy};
 
@@ -29,7 +30,7 @@ fn reply_size(
 {
     let head = reply_head(kind, pkid, block, reason_string_on);
     let size = reply_write::size(head, reason_string, user, user_lengths, reasons);
-    layout_answer::store_written(layout_answer::as_written(size), &mut *answer)
+    store_written(as_written(size), &mut *answer)
 }
 
 fn reply_write(
@@ -60,7 +61,7 @@ fn reply_write(
         bound(limited, limit),
         &mut *out,
     );
-    layout_answer::store_written(written, &mut *answer)
+    store_written(written, &mut *answer)
 }
 
 #[no_mangle]

@@ -3,12 +3,12 @@ use given::number::bound;
 use given_heads::subscribe_by::subscribe_head;
 use given_write::size::size_subscribe;
 use given_write::write::write_subscribe;
-use layout_answer;
+use layout::answer::store_written;
 ghost use mathlib.Core.Path.{_≡_};
 ghost use lib.Seq.{sets};
 ghost use Rattle.writing.specs.Write.{sizedBehind, answeredBehind, outBehind};
 ghost use Rattle.layout.specs.Value.{fitNumber};
-ghost use Rattle.layout_answer.specs.Answer.{answerNumbers};
+ghost use Rattle.layout.specs.Answer.{answerNumbers};
 ghost use Rattle.given.specs.Given.{limitGiven};
 ghost use Rattle.given_heads.specs.By.{handedBy, subscribeBy};
 
@@ -30,7 +30,7 @@ pub extern "C" fn ecch_subscribe_size(
 {
     let by = subscribe_head(pkid, block, identifier_on, identifier);
     let size = size_subscribe(by, user, user_lengths, filters, filter_lengths, options);
-    layout_answer::store_written(size, &mut *answer)
+    store_written(size, &mut *answer)
 }
 
 #[no_mangle]
@@ -64,5 +64,5 @@ pub extern "C" fn ecch_subscribe_write(
         bound(limited, limit),
         &mut *out,
     );
-    layout_answer::store_written(written, &mut *answer)
+    store_written(written, &mut *answer)
 }

@@ -1,14 +1,15 @@
 // An Unsubscribe: its size, and written.
 use given::number::bound;
 use given_heads::unsubscribe_by::unsubscribe_head;
-use layout_answer;
+use layout::answer::as_written;
+use layout::answer::store_written;
 ghost use mathlib.Core.Path.{_≡_};
 ghost use lib.ListN.{length};
 ghost use lib.Seq.{sets};
 ghost use Rattle.writing.specs.Handed.{unsubscribe};
 ghost use Rattle.writing.specs.Write.{sizeOf, answerOf, outOf};
 ghost use Rattle.layout.specs.Value.{fitNumber};
-ghost use Rattle.layout_answer.specs.Answer.{answerNumbers};
+ghost use Rattle.layout.specs.Answer.{answerNumbers};
 ghost use Rattle.given.specs.Given.{limitGiven};
 ghost use Rattle.given_heads.specs.By.{unsubscribeBy};
 
@@ -27,7 +28,7 @@ pub extern "C" fn ecch_unsubscribe_size(
 {
     let head = unsubscribe_head(pkid, block);
     let size = unsubscribe_write::size(head, user, user_lengths, topics, topic_lengths);
-    layout_answer::store_written(layout_answer::as_written(size), &mut *answer)
+    store_written(as_written(size), &mut *answer)
 }
 
 #[no_mangle]
@@ -57,5 +58,5 @@ pub extern "C" fn ecch_unsubscribe_write(
         bound(limited, limit),
         &mut *out,
     );
-    layout_answer::store_written(written, &mut *answer)
+    store_written(written, &mut *answer)
 }

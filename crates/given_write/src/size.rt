@@ -2,7 +2,7 @@
 use crate::first::mismatch_or;
 use given_heads::publish_by::PublishBy;
 use given_heads::subscribe_by::SubscribeBy;
-use layout_answer::as_written;
+use layout::answer::as_written;
 use records::answer::Written;
 use records::error::Error;
 use row_tests::Tested;

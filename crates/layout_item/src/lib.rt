@@ -1,4 +1,6 @@
-// What is returned and stored of an item.
+// What is returned and stored of an n-th item; `next` has the same of what stands at an index.
+pub mod next;
+
 use codes::qos_number;
 use codes::rule_number;
 use layout::store::store;

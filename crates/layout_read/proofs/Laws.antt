@@ -4,9 +4,9 @@ use Prim.Native.Nat.{ℕ}
 use Rattle.reading.specs.Refusal.{Refusal, nr, refusedAs}
 use Rattle.reading.specs.Reader.{bad}
 use Rattle.records.specs.Told.{rowOf, valuesOf}
-use Rattle.layout.specs.Layout.{laidOut}
+use Rattle.layout_read.specs.Layout.{laidOut}
 use Rattle.layout.specs.Value.{valueOrZero}
-use Rattle.layout_properties.specs.Block.{noBlock}
+use Rattle.layout_read.specs.Block.{noBlock}
 use Rattle.layout_read.specs.Record.{refusedHead, readNumber, encoded}
 
 pub refused-number : (k : Refusal) (n : ℕ) → rowOf k ≡ readNumber (refusedAs k n)

@@ -1,1 +1,3 @@
+pub mod Layout
+pub mod Block
 pub mod Record

@@ -8,10 +8,10 @@ use Rattle.reading.specs.Place.{Placed}
 use Rattle.records.specs.Told.{backSpan}
 use Rattle.records.specs.declared.span.Bounds.{Bounds}
 use Rattle.records.specs.declared.span.Span.{Span}
-use Rattle.layout.specs.declared.place.Head.{Head}
-use Rattle.layout.specs.Layout.{laidOut}
+use Rattle.layout_read.specs.declared.place.Head.{Head}
+use Rattle.layout_read.specs.Layout.{laidOut}
 use Rattle.layout.specs.Value.{valueOrZero}
-use Rattle.layout_properties.specs.Block.{noBlock, packetBlock}
+use Rattle.layout_read.specs.Block.{noBlock, packetBlock}
 
 -- ---- all but the properties
 

@@ -1,25 +1,32 @@
-// What of a read stands under which name of the layout.
+// What of a read stands under which name of the layout, and each name's index in the array that C is handed.
+pub mod place;
+
+use crate::place::Block;
+use crate::place::Head;
+use crate::place::Number;
+use crate::place::Text;
 use codes::qos_number;
 use kinds::Kind;
 use kinds::number_of;
-use layout::place::Head;
-use layout::place::numbers;
 use layout::store::store;
 use layout::value::bit;
 use layout::value::first_value;
 use layout::value::second_value;
-use layout_properties::no_block;
-use layout_properties::props_block;
-use layout_properties::publish_block;
 use records::ack_record::Ack;
 use records::ack_record::AckKind;
 use records::answer::Read;
 use records::error::Error;
 use records::packet_record::Packet;
+use records::properties_record::MaybeProperties;
+use records::publish_record::MaybePublishProperties;
 use records::publish_record::Publish;
 use records::reply_record::Reply;
 use records::reply_record::ReplyKind;
 use records::span::Bounds;
+use records::span::MaybeSpan;
+use records::span::MaybeU8;
+use records::span::MaybeU16;
+use records::span::MaybeU32;
 use records::span::Span;
 use records::subscribe_record::Subscribe;
 use records::unsubscribe_record::Unsubscribe;
@@ -30,11 +37,151 @@ ghost use lib.Seq.{sets};
 ghost use Rattle.grammar.specs.Record.{publish, ack, subscribe, reply, unsubscribe, ping};
 ghost use Rattle.reading.specs.Refusal.{refusedAs};
 ghost use Rattle.reading.specs.Reader.{bad};
-ghost use Rattle.records.specs.Told.{toldError, toldAckKind, toldReplyKind};
-ghost use Rattle.records.specs.Said.{toldPublish, toldSubscribe, toldAck, toldReply, toldUnsubscribe, toldPacket};
+ghost use Rattle.records.specs.Told.{toldError, toldAckKind, toldReplyKind, toldU8, toldU16, toldU32, toldString, toldSpan};
+ghost use Rattle.records.specs.Said.{toldPublish, toldSubscribe, toldAck, toldReply, toldUnsubscribe, toldPacket, toldPublishBlock, toldBlock};
 ghost use Rattle.records.specs.Answered.{told, carried};
 ghost use Rattle.kinds.specs.Kinds.{numberOf};
+ghost use Rattle.layout_read.specs.Layout.{laidOut};
+ghost use Rattle.layout_read.specs.Block.{noBlock, plainBlock, texted, numbered, lettered, publishBlock, propsBlock};
 ghost use Rattle.layout_read.specs.Record.{noSpan, refusedHead, plainHead, headOf, packetNumbers, readNumber, encoded};
+
+// ---- single values
+
+const NO_NUMBER: Number = Number { on: 0, value: 0 };
+
+const NO_TEXT: Text = Text {
+    on: 0,
+    start: 0,
+    len: 0,
+};
+
+fn place_text(p: Span) -> Text
+    ensures { λ r. ⌜ r ≡ texted (toldSpan p) ⌝ }
+{
+    Text {
+        on: 1,
+        start: p.start as u64,
+        len: p.len as u64,
+    }
+}
+
+fn u8_number(m: MaybeU8) -> Number
+    ensures { λ r. ⌜ r ≡ numbered (toldU8 m) ⌝ }
+{
+    match m {
+        MaybeU8::Absent => NO_NUMBER,
+        MaybeU8::Present(n) => Number {
+            on: 1,
+            value: n as u64,
+        },
+    }
+}
+
+fn u16_number(m: MaybeU16) -> Number
+    ensures { λ r. ⌜ r ≡ numbered (toldU16 m) ⌝ }
+{
+    match m {
+        MaybeU16::Absent => NO_NUMBER,
+        MaybeU16::Present(n) => Number {
+            on: 1,
+            value: n as u64,
+        },
+    }
+}
+
+fn u32_number(m: MaybeU32) -> Number
+    ensures { λ r. ⌜ r ≡ numbered (toldU32 m) ⌝ }
+{
+    match m {
+        MaybeU32::Absent => NO_NUMBER,
+        MaybeU32::Present(n) => Number {
+            on: 1,
+            value: n as u64,
+        },
+    }
+}
+
+fn span_text(m: MaybeSpan) -> Text
+    ensures { λ r. ⌜ r ≡ lettered (toldString m) ⌝ }
+{
+    match m {
+        MaybeSpan::Absent => NO_TEXT,
+        MaybeSpan::Present(p) => place_text(p),
+    }
+}
+
+// ---- the properties of each kind
+
+// Of a kind other than Publish.
+fn plain_block(place: Text, reason: Text, subscription: Number) -> Block
+    ensures { λ r. ⌜ r ≡ plainBlock place reason subscription ⌝ }
+{
+    Block {
+        place,
+        format: NO_NUMBER,
+        expiry: NO_NUMBER,
+        alias: NO_NUMBER,
+        response: NO_TEXT,
+        correlation: NO_TEXT,
+        content: NO_TEXT,
+        reason,
+        subscription,
+    }
+}
+
+fn no_block() -> Block
+    ensures { λ r. ⌜ r ≡ noBlock ⌝ }
+{
+    plain_block(NO_TEXT, NO_TEXT, NO_NUMBER)
+}
+
+fn publish_block(m: MaybePublishProperties) -> Block
+    ensures { λ r. ⌜ r ≡ publishBlock (toldPublishBlock m) ⌝ }
+{
+    match m {
+        MaybePublishProperties::Absent => no_block(),
+        MaybePublishProperties::Present(p) => {
+            let place = place_text(p.block);
+            let format = p.payload_format_indicator;
+            let format = u8_number(format);
+            let expiry = p.message_expiry_interval;
+            let expiry = u32_number(expiry);
+            let alias = p.topic_alias;
+            let alias = u16_number(alias);
+            let response = p.response_topic;
+            let response = span_text(response);
+            let correlation = p.correlation_data;
+            let correlation = span_text(correlation);
+            let content = p.content_type;
+            let content = span_text(content);
+            Block {
+                place,
+                format,
+                expiry,
+                alias,
+                response,
+                correlation,
+                content,
+                reason: NO_TEXT,
+                subscription: NO_NUMBER,
+            }
+        }
+    }
+}
+
+// Of every kind but Publish.
+fn props_block(m: MaybeProperties) -> Block
+    ensures { λ r. ⌜ r ≡ propsBlock (toldBlock m) ⌝ }
+{
+    match m {
+        MaybeProperties::Absent => no_block(),
+        MaybeProperties::Present(p) => {
+            let reason = p.reason_string;
+            let id = p.id;
+            plain_block(place_text(p.block), span_text(reason), u32_number(id))
+        }
+    }
+}
 
 // ---- all but the properties
 
@@ -134,6 +281,58 @@ fn plain_head(
 }
 
 // ---- a packet
+
+// Each number at its index in the header.
+fn numbers(h: Head, b: Block) -> [u64; 44]
+    ensures { λ r. ⌜ r ≡ laidOut h b ⌝ }
+{
+    [
+        h.taken,
+        h.first,
+        h.second,
+        h.kind,
+        h.pkid,
+        h.dup,
+        h.qos,
+        h.retain,
+        h.reason,
+        h.topic.start as u64,
+        h.topic.len as u64,
+        h.payload.start as u64,
+        h.payload.len as u64,
+        h.filters.start as u64,
+        h.filters.len as u64,
+        b.place.on,
+        b.place.start,
+        b.place.len,
+        b.format.on,
+        b.format.value,
+        b.expiry.on,
+        b.expiry.value,
+        b.alias.on,
+        b.alias.value,
+        b.response.on,
+        b.response.start,
+        b.response.len,
+        b.correlation.on,
+        b.correlation.start,
+        b.correlation.len,
+        b.content.on,
+        b.content.start,
+        b.content.len,
+        b.reason.on,
+        b.reason.start,
+        b.reason.len,
+        b.subscription.on,
+        b.subscription.value,
+        h.reasons.start as u64,
+        h.reasons.len as u64,
+        h.topics.start as u64,
+        h.topics.len as u64,
+        h.properties.start as u64,
+        h.properties.end as u64,
+    ]
+}
 
 fn publish_numbers(taken: usize, place: Bounds, m: Publish) -> [u64; 44]
     ensures { λ r. ⌜ r ≡ packetNumbers taken place (publish (toldPublish m)) ⌝ }
