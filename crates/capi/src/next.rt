@@ -1,8 +1,8 @@
 // The property, filter or topic at an index of a block or run of the stream, and the index after it: a list walked item by item costs each
 // byte once.
-use given_next::filter_up_to;
-use given_next::property_up_to;
-use given_next::topic_up_to;
+use given::up_to::filter_up_to;
+use given::up_to::property_up_to;
+use given::up_to::topic_up_to;
 use layout_item::next::store_next_filter;
 use layout_item::next::store_next_topic;
 use layout_item::next::store_property;
@@ -10,7 +10,7 @@ ghost use mathlib.Core.Path.{_≡_};
 ghost use lib.Seq.{sets};
 ghost use Rattle.layout.specs.Value.{fitNumber};
 ghost use Rattle.layout_item.specs.Next.{propertyNumbers, nextFilterNumbers, nextTopicNumbers};
-ghost use Rattle.given_next.specs.UpTo.{propertyUpTo, filterUpTo, topicUpTo};
+ghost use Rattle.given.specs.UpTo.{propertyUpTo, filterUpTo, topicUpTo};
 
 // Identifier and value.
 #[no_mangle]

@@ -1,18 +1,15 @@
-// The item or property that C asks for by the number of a kind.
+// The item that C asks for by the number of a kind.
 use kinds::Kind;
 use kinds::KindPlace;
 use kinds::kind_of;
 use kinds::place_of;
-use property_value::GotProperty;
-use property_value::read_property;
 use records::answer::ReasonItem;
 use records::answer::UserItem;
-use records::error::Error;
 use records::span::Span;
 ghost use mathlib.Core.Path.{_≡_};
 ghost use Rattle.records.specs.Told.{toldSpan};
 ghost use Rattle.records.specs.Answered.{toldUser, toldReasonItem};
-ghost use Rattle.given.specs.Kind.{userOf, reasonGiven, PropertyGiven};
+ghost use Rattle.given.specs.Kind.{userOf, reasonGiven};
 
 // Of the block of a kind that has one.
 pub fn user_item(stream: &[u8], kind: u8, p: Span, n: usize) -> UserItem
@@ -21,16 +18,6 @@ pub fn user_item(stream: &[u8], kind: u8, p: Span, n: usize) -> UserItem
     match place_of(kind) {
         KindPlace::Of(place) => items::user_property(place, stream, p, n),
         KindPlace::NoBlock => UserItem::NoItem,
-    }
-}
-
-// In the row of a kind that has one.
-pub fn property_at(stream: &[u8], kind: u8, at: usize) -> GotProperty
-    ensures { λ r. ⌜ PropertyGiven kind (now (stream .entry)) at r ⌝ }
-{
-    match place_of(kind) {
-        KindPlace::Of(place) => read_property(place, stream, at),
-        KindPlace::NoBlock => GotProperty::Refused(Error::NoItem),
     }
 }
 

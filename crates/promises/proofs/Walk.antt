@@ -23,8 +23,8 @@ use Rattle.reading.proofs.Reading.{bad-got, got-inj, from-got, from-bind, from-
 use Rattle.reading.proofs.Forget.{Like, gots, bads, Reading}
 use Rattle.reading.proofs.Places.{properties-says, filters-says, topics-says}
 use Rattle.reading.proofs.Items.{again-like, all-says, if-some}
-use Rattle.given_next.specs.UpTo.{upTo}
-use Rattle.given_next.proofs.Laws.{up-within}
+use Rattle.given.specs.UpTo.{upTo}
+use Rattle.given.proofs.UpTo.{up-within}
 use Rattle.positions.specs.Position.{fromAt}
 use Rattle.positions.proofs.At.{part-slice}
 use Rattle.positions.proofs.Less.{text-less, property-less, once-many, filter-less}

@@ -6,7 +6,7 @@ use lib.ListN.{length, take}
 use borrow.Author.Tests.{le-leb, lt-leb}
 use Rattle.reading.specs.Reader.{Fit, bad}
 use Rattle.reading.specs.Place.{noItem}
-use Rattle.given_next.specs.UpTo.{upTo}
+use Rattle.given.specs.UpTo.{upTo}
 
 module _ {A : Type 0} (f : List ℕ → Fit A) (s : List ℕ) (end : ℕ) where
   pub up-within : end ≤ length s → upTo f s end ≡ f (take end s)

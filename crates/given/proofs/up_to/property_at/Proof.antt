@@ -1,8 +1,8 @@
--- `given::kind::property_at` is right since the kind's row is asked for first. Assumes nothing.
+-- `given::up_to::property_at` is right since the kind's row is asked for first. Assumes nothing.
 use borrow.Author.Needs.{needs}
 use mathlib.Core.Path.{sym}
-use Rattle.given.proofs.kind.property_at.Statement.{statement}
-use Rattle.given.proofs.kind.property_at.Tie as tie
+use Rattle.given.proofs.up_to.property_at.Statement.{statement}
+use Rattle.given.proofs.up_to.property_at.Tie as tie
 
 place-of-requires : tie.Need-place-of-requires
 place-of-requires c κs = search needs

@@ -2,8 +2,10 @@
 // lies outside the stream is 21. bindings/c/ecchjulmina.h has the words.
 use filters::GotFilter;
 use filters::read_filter;
-use given::kind::property_at;
+use kinds::KindPlace;
+use kinds::place_of;
 use property_value::GotProperty;
+use property_value::read_property;
 use records::error::Error;
 use wire::got::GotSpan;
 use wire::string::read_mqtt_string;
@@ -11,9 +13,20 @@ ghost use mathlib.Core.Path.{_≡_};
 ghost use Rattle.property_value.specs.Told.{toldProperty};
 ghost use Rattle.filters.specs.Told.{toldGotFilter};
 ghost use Rattle.wire.specs.Told.{toldPart};
-ghost use Rattle.given_next.specs.UpTo.{propertyUpTo, filterUpTo, topicUpTo};
+ghost use Rattle.given.specs.Kind.{PropertyGiven};
+ghost use Rattle.given.specs.UpTo.{propertyUpTo, filterUpTo, topicUpTo};
 
 // In the row of a kind that has one.
+fn property_at(stream: &[u8], kind: u8, at: usize) -> GotProperty
+    ensures { λ r. ⌜ PropertyGiven kind (now (stream .entry)) at r ⌝ }
+{
+    match place_of(kind) {
+        KindPlace::Of(place) => read_property(place, stream, at),
+        KindPlace::NoBlock => GotProperty::Refused(Error::NoItem),
+    }
+}
+
+// The same of the bytes before the end.
 pub fn property_up_to(stream: &[u8], kind: u8, at: usize, end: usize) -> GotProperty
     ensures { λ r. ⌜ toldProperty r ≡ propertyUpTo kind (now (stream .entry)) at end ⌝ }
 {

@@ -1,4 +1,4 @@
--- `given_next::filter_up_to` is right since it reads in the bytes before the end. Assumes nothing.
+-- `given::up_to::filter_up_to` is right since it reads in the bytes before the end. Assumes nothing.
 use mathlib.Core.Path.{sym, _∙_}
 use borrow.Author.Needs.{needs}
 use denote.Ref.{now}
@@ -7,9 +7,9 @@ use lib.ListN.{length}
 use Rattle.reading.specs.Place.{asPlaces}
 use Rattle.positions.specs.Position.{fromAt}
 use Rattle.reading.specs.Read.{filterOf}
-use Rattle.given_next.proofs.Laws.{up-within, up-outside}
-use Rattle.given_next.proofs.filter_up_to.Statement.{statement}
-use Rattle.given_next.proofs.filter_up_to.Tie as tie
+use Rattle.given.proofs.UpTo.{up-within, up-outside}
+use Rattle.given.proofs.up_to.filter_up_to.Statement.{statement}
+use Rattle.given.proofs.up_to.filter_up_to.Tie as tie
 
 returns : tie.Need-returns
 returns c = up-outside (λ t. fromAt (filterOf asPlaces (length t)) t (c .before .before .args .at)) (now (c .before .before .args .stream)) (c .before .before .args .end) (c .if1 .taken)

@@ -1,12 +1,12 @@
--- `given_next::property_up_to` is right since it reads in the bytes before the end. Assumes nothing.
+-- `given::up_to::property_up_to` is right since it reads in the bytes before the end. Assumes nothing.
 use mathlib.Core.Path.{sym, _∙_}
 use borrow.Author.Needs.{needs}
 use denote.Ref.{now}
 use lib.Seq.{length-take-le}
 use Rattle.given.specs.Kind.{propertyAt}
-use Rattle.given_next.proofs.Laws.{up-within, up-outside}
-use Rattle.given_next.proofs.property_up_to.Statement.{statement}
-use Rattle.given_next.proofs.property_up_to.Tie as tie
+use Rattle.given.proofs.UpTo.{up-within, up-outside}
+use Rattle.given.proofs.up_to.property_up_to.Statement.{statement}
+use Rattle.given.proofs.up_to.property_up_to.Tie as tie
 
 returns : tie.Need-returns
 returns c = up-outside (λ t. propertyAt (c .before .before .args .kind) t (c .before .before .args .at)) (now (c .before .before .args .stream)) (c .before .before .args .end) (c .if1 .taken)
