@@ -181,6 +181,6 @@ fn fields(s: &[u8], p: Packet) {
 }
 
 pub fn packet(s: &[u8], p: Packet) {
-    kind(counts::number_in(p));
+    kind(desk_summary::number_in(p));
     fields(s, p);
 }

@@ -168,7 +168,7 @@ pub fn packet(
 ) -> usize {
     let a = output::decimal(&mut *out, at, offset);
     let b = output::word(&mut *out, a, b" ");
-    let c = kind_word(&mut *out, b, counts::number_in(p));
+    let c = kind_word(&mut *out, b, desk_summary::number_in(p));
     let d = field::number(&mut *out, c, b" taken=", taken as u64);
     let e = fields(&mut *out, d, s, table, p);
     output::word(&mut *out, e, b"\n")

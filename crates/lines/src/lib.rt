@@ -1,5 +1,5 @@
 // The lines of `desk` that are names and numbers alone, put at the front of a lent output: those of a refusal and of a frame that is too
-// long here, that of what was read in `tallies`. docs/DESK.md has the format. What would lie past the end of the output is not stored.
+// long here, that of what was read in `desk_summary`. docs/DESK.md has the format. What would lie past the end of the output is not stored.
 use byte_puts::put_bytes;
 use records::error::Error;
 use records::span::Span;
