@@ -279,30 +279,9 @@ module _ (s : List ℕ) (at : ℕ) where
     unfolding rows
     ascii z l = first-at (some []) (row-at 0 (getD s at 0) tt (omega arith)) ∙ after-none (drop (at + 1) s)
 
--- the text from index `at` goes on at i
-pub record Going (s : List ℕ) (at i : ℕ) : Type 0 where
-  pub ahead : at ≤ i
-  pub within : i ≤ length s
-  pub rest : isText (drop at s) ≡ isText (drop i s)
-
-pub going-start : (s : List ℕ) (at : ℕ) → at ≤ length s → Going s at at
-going-start s at h = record { ahead = omega arith; within = h; rest = refl }
-
-module _ {s : List ℕ} {at i next : ℕ} (g : Going s at i) (p : Passed s i next) where
-  pub going-next : (next ≡ i → ⊥) → Going s at next
-  going-next ne =
-      let l : i < next = omega (arith, p .ahead) in
-      record { ahead = omega (arith, g .ahead); within = p .within; rest = g .rest ∙ p .yes l }
-
-  pub going-stuck : next ≡ i → isText (drop at s) ≡ false
-  going-stuck e = g .rest ∙ p .no e
-
 -- nothing is left at the end
 pub text-over : (s : List ℕ) (i : ℕ) → length s ≤ i → isText (drop i s) ≡ true
 text-over s i h = rw (drop-of-length-le s h) text-end
-
-pub going-end : {s : List ℕ} {at i : ℕ} → Going s at i → length s ≤ i → isText (drop at s) ≡ true
-going-end {s} {i = i} g h = g .rest ∙ text-over s i h
 
 -- ---- bytes that are all ASCII
 

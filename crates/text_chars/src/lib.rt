@@ -2,7 +2,7 @@
 use std::num;
 ghost use mathlib.Core.Path.{_≡_};
 ghost use Prim.Native.Nat.{_≤_, _<_};
-ghost use lib.ListN.{length};
+ghost use lib.ListN.{length, drop};
 ghost use Rattle.reading.specs.Read.{isText};
 ghost use Rattle.text_chars.specs.Text.{continues, lowOf, highOf, flawOf, Followed, Passed};
 
@@ -128,17 +128,21 @@ fn next_char(s: &[u8], at: usize) -> usize
     at
 }
 
-// Is `s` well-formed UTF-8 without U+0000? Character by character.
-pub fn by_chars(s: &[u8]) -> bool
-    ensures { λ r. ⌜ r ≡ isText (now (s .entry)) ⌝ }
+// Are the bytes of `s` from index `at` on well-formed UTF-8 without U+0000? Character by character; ASCII, which most are, by one test each.
+pub fn by_chars(s: &[u8], at: usize) -> bool
+    ensures { λ r. ⌜ r ≡ isText (drop at (now (s .entry))) ⌝ }
 {
-    let mut i: usize = 0;
+    let mut i = at;
     while i < s.len() {
-        let next = next_char(s, i);
-        if next == i {
-            return false;
+        if flaw(s[i]) < 128 {
+            i = i + 1;
+        } else {
+            let next = next_char(s, i);
+            if next == i {
+                return false;
+            }
+            i = next;
         }
-        i = next;
     }
     true
 }

@@ -30,9 +30,17 @@ module _ (s : List ℕ) (a : ℕ) where
       go true q = rw (eqb-true k i q) e
       go false q = f k l (omega (arith, eqb-false k i q))
 
+  -- up to an index before
+  pub fit-less : (i j : ℕ) → j ≤ i → Fit s a i → Fit s a j
+  fit-less i j m f k l h = f k l (omega arith)
+
   -- up to i, and from j on, where j is not past i
   pub fit-join : (i j e : ℕ) → j ≤ i → Fit s a i → Fit s j e → Fit s a e
   fit-join i j e m f g k l h = either j k (λ q. f k l (omega arith)) (λ q. g k q h)
+
+-- where a next index ends in one behind it, or is the end, an index before it comes to lie behind
+pub ahead-of : (i next r n : ℕ) → i < n → i ≤ next → next ≤ r → (next < n → next < r) → i < r
+ahead-of i next r n h l m f = either n next (λ q. omega (arith, f q)) (λ q. omega arith)
 
 -- ---- gathered by marks
 
@@ -42,13 +50,6 @@ module _ (s : List ℕ) (a e : ℕ) where
 
   pub fitted-yes : Fit s a e → Fitted s a e true
   fitted-yes f = record { yes = λ _. f; no = λ t. absurd (true≢false t) }
-
--- of more than is asked for, and of nothing
-pub fitted-part : (s : List ℕ) (a b e : ℕ) (r : Bool) → a ≤ b → Fitted s a e r → Fitted s b e r
-fitted-part s a b e r h f = record { yes = λ t k l. f .yes t k (omega arith); no = f .no }
-
-pub fitted-over : (s : List ℕ) (a e : ℕ) → e ≤ a → Fitted s a e true
-fitted-over s a e h = fitted-yes s a e (λ k l m. absurd (omega arith))
 
 -- one byte does not fit, or all do up to an index
 pub fit-stopped : (s : List ℕ) (at : ℕ) → isText s ≡ false → FitTo s at 0
@@ -135,22 +136,41 @@ plain-bounds b e =
     let (z, l) = and-both (ltb 0 b) (ltb b 128) e in
     (leb-true 1 b z, leb-true (suc b) 128 l)
 
-module _ (s : List ℕ) (k : ℕ) (e : plain (getD s k 0) ≡ true) where
-  module _ (d : dueAt s k ≡ false) where
-    plain-fits : fitsAt s k ≡ true
-    unfolding fits
-    plain-fits = let (l, h) = plain-bounds (getD s k 0) e in rw (d, begins-low (getD s k 0) l h)
+-- a byte below 128 leaves nothing open, and where one is due it is none
+module _ (s : List ℕ) (k : ℕ) (h : getD s k 0 < 0x80) where
+  low-closed : dueAt s k ≡ false → dueAt s (suc k) ≡ false
+  low-closed d =
+      let (i, j, _) = due-closed (padded s k) (padded s (suc k)) (padded s (suc (suc k))) d in
+      due-none (padded s (suc k)) (padded s (suc (suc k))) (getD s k 0) (omega arith) (omega arith) (omega arith)
 
-    plain-closed : dueAt s (suc k) ≡ false
-    plain-closed =
-        let (l, h) = plain-bounds (getD s k 0) e in
-        let (i, j, _) = due-closed (padded s k) (padded s (suc k)) (padded s (suc (suc k))) d in
-        due-none (padded s (suc k)) (padded s (suc (suc k))) (getD s k 0) (omega arith) (omega arith) (omega arith)
-
-  -- where a byte is due, it is none
-  plain-lost : dueAt s k ≡ true → fitsAt s k ≡ false
+  low-lost : dueAt s k ≡ true → fitsAt s k ≡ false
   unfolding fits
-  plain-lost d = let (l, h) = plain-bounds (getD s k 0) e in rw (d, below-range 0x80 0xBF (getD s k 0) h)
+  low-lost d = rw (d, below-range 0x80 0xBF (getD s k 0) h)
+
+  -- so nothing is due behind one that fits
+  low-whole : fitsAt s k ≡ true → dueAt s (suc k) ≡ false
+  low-whole e = go (dueAt s k) refl
+    where
+      go : (t : Bool) → dueAt s k ≡ t → dueAt s (suc k) ≡ false
+      go true d = absurd (false≢true (sym (low-lost d) ∙ e))
+      go false d = low-closed d
+
+pub whole-one : (s : List ℕ) (i : ℕ) → 3 ≤ i → Fit s 0 i → getD s (i - 1) 0 < 0x80 → true ≡ not (dueAt s i)
+whole-one s i h f l = go (i - 1) (omega arith) l
+  where
+    go : (k : ℕ) → i ≡ suc k → getD s k 0 < 0x80 → true ≡ not (dueAt s i)
+    go k e m = rw e (ap not (sym (low-whole s k m (f k (omega arith) (omega arith)))))
+
+module _ (s : List ℕ) (k : ℕ) (e : plain (getD s k 0) ≡ true) where
+  plain-fits : dueAt s k ≡ false → fitsAt s k ≡ true
+  unfolding fits
+  plain-fits d = let (l, h) = plain-bounds (getD s k 0) e in rw (d, begins-low (getD s k 0) l h)
+
+  plain-closed : dueAt s k ≡ false → dueAt s (suc k) ≡ false
+  plain-closed d = let (l, h) = plain-bounds (getD s k 0) e in low-closed s k h d
+
+  plain-lost : dueAt s k ≡ true → fitsAt s k ≡ false
+  plain-lost d = let (l, h) = plain-bounds (getD s k 0) e in low-lost s k h d
 
 ascii-get : (n : ℕ) (s : List ℕ) → allAscii (take n s) ≡ true → (j : ℕ) → j < n → j < length s → plain (getD s j 0) ≡ true
 ascii-get zero s e j h l = absurd (omega arith)
@@ -179,6 +199,10 @@ module _ (s : List ℕ) (a n : ℕ) (l : a + n ≤ length s) (e : allAscii (take
       go : (t : Bool) → dueAt s a ≡ t → Fitted s a (a + n) (not t)
       go true d = fitted-no s a (a + n) (no-text s a (omega arith) (plain-lost s a (rw (add-zero a) at (plain-in 0 h)) d))
       go false d = fitted-yes s a (a + n) (ascii-fit d)
+
+-- one chunk more
+pub chunk-fit : (s : List ℕ) (i n : ℕ) → i + n ≤ length s → allAscii (take n (drop i s)) ≡ true → Fit s 0 i → dueAt s i ≡ false → Fit s 0 (i + n) × (dueAt s (i + n) ≡ false)
+chunk-fit s i n h e f d = (fit-join s 0 i i (i + n) (omega arith) f (ascii-fit s i n h e d), closed-in s i n h e d n (omega arith))
 
 -- the bytes before an index
 module _ {s : List ℕ} {i : ℕ} (g : AsciiTo s i) where

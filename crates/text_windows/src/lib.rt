@@ -2,7 +2,7 @@
 use std::num;
 ghost use mathlib.Core.Path.{_≡_};
 ghost use mathlib.Core.Bool.{true, not, cond};
-ghost use Prim.Native.Nat.{_+_, _-_, _≤_};
+ghost use Prim.Native.Nat.{_+_, _-_, _≤_, _<_};
 ghost use lib.Dec.{ltb, eqb};
 ghost use lib.ListN.{length, take, drop};
 ghost use Rattle.reading.specs.Read.{isText};
@@ -23,32 +23,32 @@ fn is_ascii(s: &[u8], at: usize, end: usize) -> bool
     all < 128
 }
 
-// The index after the chunks of 64 bytes, from the first on, that are ASCII.
+// The index after the chunks of 128 bytes, from the first on, that are ASCII.
 fn pass_ascii(s: &[u8]) -> usize
     ensures { λ r. ⌜ AsciiTo (now (s .entry)) r ⌝ }
 {
     let mut i: usize = 0;
-    while 64 <= s.len() - i {
-        if !is_ascii(s, i, i + 64) {
+    while 128 <= s.len() - i {
+        if !is_ascii(s, i, i + 128) {
             return i;
         }
-        i = i + 64;
+        i = i + 128;
     }
     i
 }
 
-// Where the bytes before index `at` are ASCII: are the others, if less than 64 are left? The last 64 may overlap the chunk before them.
+// Where the bytes before index `at` are ASCII: are the others, if less than 128 are left? The last 128 may overlap the chunk before them.
 fn is_rest_ascii(s: &[u8], at: usize) -> bool
     requires { ⌜ AsciiTo (now s) at ⌝ }
     ensures { λ r. ⌜ (r ≡ true → isText (now (s .entry)) ≡ true) ⌝ }
 {
-    if at < 64 {
+    if at < 128 {
         return false;
     }
-    if 64 <= s.len() - at {
+    if 128 <= s.len() - at {
         return false;
     }
-    is_ascii(s, s.len() - 64, s.len())
+    is_ascii(s, s.len() - 128, s.len())
 }
 
 // A byte is marked if its top bit is set. This one just where b is n + 128 or more.
@@ -166,12 +166,16 @@ fn fit_run(s: &[u8], at: usize, n: usize) -> bool
     all < 128
 }
 
-// Is every character before index `at` whole?
+// Is every character before index `at` whole, where the bytes before it fit? One that ends in ASCII is.
 fn is_whole(s: &[u8], at: usize) -> bool
-    requires { ⌜ (3 ≤ at) × (at ≤ length (now s)) ⌝ }
+    requires { ⌜ (3 ≤ at) × (at ≤ length (now s)) × Fit (now s) 0 at ⌝ }
     ensures { λ r. ⌜ r ≡ not (dueAt (now (s .entry)) at) ⌝ }
 {
-    if 0xC0 <= s[at - 1] {
+    let p = s[at - 1];
+    if p < 0x80 {
+        return true;
+    }
+    if 0xC0 <= p {
         return false;
     }
     if 0xE0 <= s[at - 2] {
@@ -180,121 +184,129 @@ fn is_whole(s: &[u8], at: usize) -> bool
     s[at - 3] < 0xF0
 }
 
-// Do the 64 bytes from index `at` on fit? They do if they are ASCII, and no byte is due before them.
-fn fit_chunk(s: &[u8], at: usize) -> bool
-    requires { ⌜ (3 ≤ at) × (at + 64 ≤ length (now s)) ⌝ }
-    ensures { λ r. ⌜ Fitted (now (s .entry)) at (at + 64) r ⌝ }
+// Do the sixteen bytes from index `at` on fit? They do if they are ASCII, and no byte is due before them.
+fn fit_sixteen(s: &[u8], at: usize) -> bool
+    requires { ⌜ (3 ≤ at) × (at + 16 ≤ length (now s)) × Fit (now s) 0 at ⌝ }
+    ensures { λ r. ⌜ Fitted (now (s .entry)) at (at + 16) r ⌝ }
 {
-    if is_ascii(s, at, at + 64) {
+    if is_ascii(s, at, at + 16) {
         return is_whole(s, at);
     }
-    fit_run(s, at - 3, 64)
+    fit_run(s, at - 3, 16)
 }
 
-// The index after the chunks of 64 bytes from index `at` on, where those before it fit; 0 if one does not fit.
-fn pass_fitting(s: &[u8], at: usize) -> usize
-    requires { ⌜ (3 ≤ at) × (at ≤ length (now s)) × Fit (now s) 0 at ⌝ }
-    ensures { λ r. ⌜ FitTo (now (s .entry)) at r ⌝ }
+// Where sixteen bytes begin that hold the one at index `at`: there, or so that they are the last.
+fn start_of(s: &[u8], at: usize) -> usize
+    requires { ⌜ (3 ≤ at) × (at ≤ length (now s)) × (19 ≤ length (now s)) ⌝ }
+    ensures { λ r. ⌜ (3 ≤ r) × (r ≤ at) × (r + 16 ≤ length (now (s .entry))) × (at < length (now (s .entry)) → at < r + 16) ⌝ }
+{
+    if 16 <= s.len() - at {
+        return at;
+    }
+    s.len() - 16
+}
+
+// The index after the sixteens from index `at` on to `stop`, where those before it fit; 0 if one does not fit. The last may overlap.
+fn pass_sixteens(s: &[u8], at: usize, stop: usize) -> usize
+    requires { ⌜ (3 ≤ at) × (at ≤ length (now s)) × (19 ≤ length (now s)) × (stop ≤ length (now s)) × Fit (now s) 0 at ⌝ }
+    ensures { λ r. ⌜ FitTo (now (s .entry)) stop r ⌝ }
 {
     let mut i = at;
-    while 64 <= s.len() - i {
-        if !fit_chunk(s, i) {
+    while i < stop {
+        let start = start_of(s, i);
+        if !fit_sixteen(s, start) {
             return 0;
+        }
+        i = start + 16;
+    }
+    i
+}
+
+// The index after the chunks of 64 bytes from index `at` on that are ASCII, where the bytes before it fit.
+fn pass_plain(s: &[u8], at: usize) -> usize
+    requires { ⌜ (3 ≤ at) × (at ≤ length (now s)) × Fit (now s) 0 at ⌝ }
+    ensures { λ r. ⌜ (at ≤ r) × (r ≤ length (now (s .entry))) × Fit (now (s .entry)) 0 r ⌝ }
+{
+    if s.len() - at < 64 {
+        return at;
+    }
+    if !is_whole(s, at) {
+        return at;
+    }
+    let mut i = at;
+    while 64 <= s.len() - i {
+        if !is_ascii(s, i, i + 64) {
+            return i;
         }
         i = i + 64;
     }
     i
 }
 
-// Do the bytes from index `at` on fit, which are less than sixteen? The last sixteen are tested, if there are any from `at` on.
-fn fit_last(s: &[u8], at: usize) -> bool
-    requires { ⌜ (19 ≤ length (now s)) × (length (now s) ≤ at + 16) × (at ≤ length (now s)) ⌝ }
-    ensures { λ r. ⌜ Fitted (now (s .entry)) at (length (now (s .entry))) r ⌝ }
+// The end of the chunk of 64 bytes at index `at`, or that of `s`.
+fn chunk_end(s: &[u8], at: usize) -> usize
+    requires { ⌜ at ≤ length (now s) ⌝ }
+    ensures { λ r. ⌜ (at ≤ r) × (r ≤ length (now (s .entry))) × (at < length (now (s .entry)) → at < r) ⌝ }
 {
-    if at < s.len() {
-        return fit_run(s, s.len() - 19, 16);
+    if 64 <= s.len() - at {
+        return at + 64;
     }
-    true
+    s.len()
 }
 
-// Where the bytes before index `at` fit: is `s` text?
-fn by_sixteens(s: &[u8], at: usize) -> bool
+// Where the bytes before index `at` fit: is `s` text? Chunks that are ASCII are passed at once, and others by sixteens.
+fn by_windows(s: &[u8], at: usize) -> bool
     requires { ⌜ (3 ≤ at) × (at ≤ length (now s)) × (19 ≤ length (now s)) × Fit (now s) 0 at ⌝ }
     ensures { λ r. ⌜ r ≡ isText (now (s .entry)) ⌝ }
 {
     let end = s.len();
     let mut i = at;
-    while 16 <= end - i {
-        if !fit_run(s, i - 3, 16) {
+    while i < end {
+        let next = pass_plain(s, i);
+        i = pass_sixteens(s, next, chunk_end(s, next));
+        if i == 0 {
             return false;
         }
-        i = i + 16;
-    }
-    if !fit_last(s, i) {
-        return false;
     }
     is_whole(s, end)
 }
 
-// The same, by 64 bytes first.
-fn by_windows(s: &[u8], at: usize) -> bool
-    requires { ⌜ (3 ≤ at) × (at ≤ length (now s)) × (19 ≤ length (now s)) × Fit (now s) 0 at ⌝ }
+// Is `s` text? By windows from the first byte on.
+fn by_start(s: &[u8]) -> bool
+    requires { ⌜ 19 ≤ length (now s) ⌝ }
     ensures { λ r. ⌜ r ≡ isText (now (s .entry)) ⌝ }
 {
-    let next = pass_fitting(s, at);
-    if next == 0 {
-        return false;
-    }
-    by_sixteens(s, next)
-}
-
-// Where the bytes before index `at` are ASCII: is `s` text?
-fn by_rest(s: &[u8], at: usize) -> bool
-    requires { ⌜ (19 ≤ length (now s)) × AsciiTo (now s) at ⌝ }
-    ensures { λ r. ⌜ r ≡ isText (now (s .entry)) ⌝ }
-{
-    if 3 <= at {
-        return by_windows(s, at);
-    }
     if fit_three(s) {
         return by_windows(s, 3);
     }
     false
 }
 
-// Is `s`, of 11 to 19 bytes, text? The last eight may overlap those before them.
-fn by_eights(s: &[u8]) -> bool
-    requires { ⌜ (11 ≤ length (now s)) × (length (now s) ≤ 19) ⌝ }
+// The same behind the chunks in front that are ASCII. A second caller of `by_windows`, which keeps its code out of what is small.
+fn by_long(s: &[u8]) -> bool
+    requires { ⌜ 19 ≤ length (now s) ⌝ }
     ensures { λ r. ⌜ r ≡ isText (now (s .entry)) ⌝ }
 {
-    let end = s.len();
-    if !fit_three(s) {
-        return false;
+    let at = pass_ascii(s);
+    if at < 128 {
+        return by_start(s);
     }
-    if !fit_run(s, 0, 8) {
-        return false;
+    if is_rest_ascii(s, at) {
+        return true;
     }
-    if !fit_run(s, end - 11, 8) {
-        return false;
-    }
-    is_whole(s, end)
+    by_windows(s, at)
 }
 
-// Is `s` well-formed UTF-8 without U+0000? Chunks that are ASCII are passed at once, and what stands behind them is tested by windows. Less
-// than sixteen bytes go character by character.
+// Is `s` well-formed UTF-8 without U+0000? Less than nineteen bytes go character by character, others by windows; more than 256 behind chunks that are ASCII.
 pub fn is_text(s: &[u8]) -> bool
     ensures { λ r. ⌜ r ≡ isText (now (s .entry)) ⌝ }
 {
     let end = s.len();
-    if end < 16 {
-        return text_chars::by_chars(s);
-    }
     if end < 19 {
-        return by_eights(s);
+        return text_chars::by_chars(s, 0);
     }
-    let at = pass_ascii(s);
-    if is_rest_ascii(s, at) {
-        return true;
+    if end <= 256 {
+        return by_start(s);
     }
-    by_rest(s, at)
+    by_long(s)
 }

@@ -1,4 +1,4 @@
--- `text_windows::is_rest_ascii` is right since what is left lies in the last 64 bytes. Assumes nothing.
+-- `text_windows::is_rest_ascii` is right since what is left lies in the last 128 bytes. Assumes nothing.
 use borrow.Author.Needs.{needs}
 use mathlib.Core.Path.{sym, _∙_}
 use mathlib.Core.Bool.{false≢true}
@@ -29,7 +29,7 @@ returns-3 : tie.Need-returns-3
 returns-3 c =
     let a = c .before .before .before .before .args in
     let s = now (a .s) in
-    λ e. ascii-rest (c .before .before .before .before .pre) (length s - 64) (length s - (length s - 64)) (omega arith) (omega arith) (sym (c .is-ascii .ensures .1) ∙ e)
+    λ e. ascii-rest (c .before .before .before .before .pre) (length s - 128) (length s - (length s - 128)) (omega arith) (omega arith) (sym (c .is-ascii .ensures .1) ∙ e)
 
 pub is-rest-ascii-spec : {M : Type 1} → statement M
 is-rest-ascii-spec =

@@ -1,5 +1,4 @@
 -- `text_windows::is_text` is right since each way through it is. Assumes nothing.
-use mathlib.Core.Path.{sym}
 use borrow.Author.Needs.{needs}
 use Rattle.text_windows.proofs.is_text.Statement.{statement}
 use Rattle.text_windows.proofs.is_text.Tie as tie
@@ -10,26 +9,17 @@ by-chars-requires c κs = search needs
 returns : tie.Need-returns
 returns c = search needs
 
-by-eights-requires : tie.Need-by-eights-requires
-by-eights-requires c κs = search needs
+by-start-requires : tie.Need-by-start-requires
+by-start-requires c κs = search needs
 
 returns-2 : tie.Need-returns-2
 returns-2 c = search needs
 
-pass-ascii-requires : tie.Need-pass-ascii-requires
-pass-ascii-requires c κs = search needs
-
-is-rest-ascii-requires : tie.Need-is-rest-ascii-requires
-is-rest-ascii-requires c κs = search needs
+by-long-requires : tie.Need-by-long-requires
+by-long-requires c κs = search needs
 
 returns-3 : tie.Need-returns-3
-returns-3 c = sym (c .before .is-rest-ascii .ensures (c .if3 .taken))
-
-by-rest-requires : tie.Need-by-rest-requires
-by-rest-requires c κs = search needs
-
-returns-4 : tie.Need-returns-4
-returns-4 c = search needs
+returns-3 c = search needs
 
 pub is-text-spec : {M : Type 1} → statement M
 is-text-spec =
@@ -37,10 +27,7 @@ is-text-spec =
     (tie.spec
     by-chars-requires
     returns
-    by-eights-requires
+    by-start-requires
     returns-2
-    pass-ascii-requires
-    is-rest-ascii-requires
-    returns-3
-    by-rest-requires
-    returns-4)
+    by-long-requires
+    returns-3)

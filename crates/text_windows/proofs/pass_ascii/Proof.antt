@@ -40,8 +40,8 @@ loop-less c = omega arith
 loop-again : tie.Need-loop-again Inv-loop μ-loop
 loop-again c =
     let l = c .before .before .before .loop in
-    let e : l .i + (l .i + 64 - l .i) ≡ l .i + 64 = omega arith in
-    rw e at (ascii-more (l .inv) (l .i + 64 - l .i) (omega arith) (sym (c .before .is-ascii .ensures .1) ∙ not-false _ (c .if1 .left)))
+    let e : l .i + (l .i + 128 - l .i) ≡ l .i + 128 = omega arith in
+    rw e at (ascii-more (l .inv) (l .i + 128 - l .i) (omega arith) (sym (c .before .is-ascii .ensures .1) ∙ not-false _ (c .if1 .left)))
 
 returns-2 : tie.Need-returns-2 Inv-loop μ-loop
 returns-2 c = c .before .loop .inv

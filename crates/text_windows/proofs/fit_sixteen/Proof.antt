@@ -1,12 +1,12 @@
--- `text_windows::fit_chunk` is right since ASCII bytes fit just where nothing is due before them, and others are tested one by one. Assumes nothing.
+-- `text_windows::fit_sixteen` is right since ASCII bytes fit just where nothing is due before them, and others are tested one by one. Assumes nothing.
 use borrow.Author.Needs.{needs}
 use mathlib.Core.Path.{_≡_, sym, _∙_}
-use Prim.Native.Nat.{_+_, _-_}
+use Prim.Native.Nat.{_≤_, _<_, _+_, _-_}
 use native.Mathlib.Omega.{arith}
 use denote.Ref.{now}
 use Rattle.text_windows.proofs.Runs.{ascii-fitted}
-use Rattle.text_windows.proofs.fit_chunk.Statement.{statement}
-use Rattle.text_windows.proofs.fit_chunk.Tie as tie
+use Rattle.text_windows.proofs.fit_sixteen.Statement.{statement}
+use Rattle.text_windows.proofs.fit_sixteen.Tie as tie
 
 add-is-ascii : tie.Need-add-is-ascii
 add-is-ascii c = search needs
@@ -15,13 +15,13 @@ is-ascii-requires : tie.Need-is-ascii-requires
 is-ascii-requires c κs = search needs
 
 is-whole-requires : tie.Need-is-whole-requires
-is-whole-requires c κs = search needs
+is-whole-requires c κs = (omega arith, omega arith, c .before .before .before .pre .2)
 
 returns : tie.Need-returns
 returns c =
     let a = c .before .before .before .before .args in
-    let e : a .at + (a .at + 64 - a .at) ≡ a .at + 64 = omega arith in
-    rw e at (ascii-fitted (now (a .s)) (a .at) (a .at + 64 - a .at) (omega arith) (sym (c .before .before .is-ascii .ensures .1) ∙ c .before .if1 .taken) (c .is-whole .result) (omega arith) (c .is-whole .ensures))
+    let e : a .at + (a .at + 16 - a .at) ≡ a .at + 16 = omega arith in
+    rw e at (ascii-fitted (now (a .s)) (a .at) (a .at + 16 - a .at) (omega arith) (sym (c .before .before .is-ascii .ensures .1) ∙ c .before .if1 .taken) (c .is-whole .result) (omega arith) (c .is-whole .ensures))
 
 sub-fit-run : tie.Need-sub-fit-run
 sub-fit-run c = search needs
@@ -35,8 +35,8 @@ returns-2 c =
     let e : a .at - 3 + 3 ≡ a .at = omega arith in
     rw e at (c .fit-run .ensures)
 
-pub fit-chunk-spec : {M : Type 1} → statement M
-fit-chunk-spec =
+pub fit-sixteen-spec : {M : Type 1} → statement M
+fit-sixteen-spec =
     tie.close
     (tie.spec
     add-is-ascii
