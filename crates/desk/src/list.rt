@@ -1,5 +1,5 @@
-// The fields of lists, each list in one pass over its place: user properties and subscription identifiers of a block; filters, topics and
-// reasons of a run.
+// The items of a list, in one pass over its place: user properties or subscription identifiers of a block; filters, topics or reasons of a
+// run.
 use crate::field;
 use crate::output;
 use codes;
@@ -7,13 +7,28 @@ use codes::rule_number;
 use filters::GotFilter;
 use property_value::GotProperty;
 use property_value::Value;
-use records::answer::UserItem;
 use records::span::Span;
 use records::subscribe_record::Filter;
 use tables::property::PropertyPlace;
-use walker::step_at;
 use wire::got::GotSpan;
 use wire::string;
+
+// What a list is made of.
+enum Items {
+    // user properties, and the place of their block
+    Users(PropertyPlace),
+    // subscription identifiers of a Publish
+    Identifiers,
+    Filters,
+    Topics,
+    Reasons,
+}
+
+// Where the output goes on, and the list; no further than before where nothing is left.
+struct Step {
+    put: usize,
+    next: usize,
+}
 
 // Key and value of a user property.
 fn user(out: &mut [u8], at: usize, s: &[u8], key: Span, value: Span) -> usize {
@@ -21,22 +36,11 @@ fn user(out: &mut [u8], at: usize, s: &[u8], key: Span, value: Span) -> usize {
     field::part(&mut *out, a, b"=\"", s, value)
 }
 
-// The user properties in the block s, step by step of a walk.
-fn users_in(out: &mut [u8], at: usize, place: PropertyPlace, s: &[u8]) -> usize {
-    let mut next = at;
-    let mut i: usize = 0;
-    while i < s.len() {
-        let step = step_at(s, i, s.len(), place);
-        let item = step.item;
-        match item {
-            UserItem::NoItem => return next,
-            UserItem::Pair(key, value) => {
-                next = user(&mut *out, next, s, key, value);
-                i = step.at;
-            }
-        }
+fn user_if(out: &mut [u8], at: usize, s: &[u8], v: Value) -> usize {
+    if let Value::Pair(key, value) = v {
+        return user(&mut *out, at, s, key, value);
     }
-    next
+    at
 }
 
 // The field of a value that is a variable length number: only subscription identifiers are.
@@ -47,20 +51,25 @@ fn identifier_if(out: &mut [u8], at: usize, v: Value) -> usize {
     at
 }
 
-// The subscription identifiers in the block s of a Publish.
-fn identifiers_in(out: &mut [u8], at: usize, s: &[u8]) -> usize {
-    let mut next = at;
-    let mut i: usize = 0;
-    while i < s.len() {
-        match property_value::read_property(PropertyPlace::Publish, s, i) {
-            GotProperty::Refused(_) => return next,
-            GotProperty::Found(_, v, end) => {
-                next = identifier_if(&mut *out, next, v);
-                i = end;
-            }
+// The property at i, if it is a user property.
+fn user_at(out: &mut [u8], at: usize, place: PropertyPlace, s: &[u8], i: usize) -> Step {
+    match property_value::read_property(place, s, i) {
+        GotProperty::Refused(_) => Step { put: at, next: i },
+        GotProperty::Found(_, v, next) => {
+            let put = user_if(&mut *out, at, s, v);
+            Step { put, next }
         }
     }
-    next
+}
+
+fn identifier_at(out: &mut [u8], at: usize, s: &[u8], i: usize) -> Step {
+    match property_value::read_property(PropertyPlace::Publish, s, i) {
+        GotProperty::Refused(_) => Step { put: at, next: i },
+        GotProperty::Found(_, v, next) => {
+            let put = identifier_if(&mut *out, at, v);
+            Step { put, next }
+        }
+    }
 }
 
 fn options(out: &mut [u8], at: usize, q: u8, no_local: bool, preserve: bool, rule: u8) -> usize {
@@ -91,70 +100,81 @@ fn filter_of(out: &mut [u8], at: usize, s: &[u8], f: Filter) -> usize {
     )
 }
 
-// The filters that fill s.
-fn filters_in(out: &mut [u8], at: usize, s: &[u8]) -> usize {
-    let mut next = at;
-    let mut i: usize = 0;
-    while i < s.len() {
-        match filters::read_filter(s, i) {
-            GotFilter::Refused(_) => return next,
-            GotFilter::Value(f, end) => {
-                next = filter_of(&mut *out, next, s, f);
-                i = end;
-            }
+fn filter_at(out: &mut [u8], at: usize, s: &[u8], i: usize) -> Step {
+    match filters::read_filter(s, i) {
+        GotFilter::Refused(_) => Step { put: at, next: i },
+        GotFilter::Value(f, next) => {
+            let put = filter_of(&mut *out, at, s, f);
+            Step { put, next }
         }
     }
-    next
 }
 
-// The topics that fill s.
-fn topics_in(out: &mut [u8], at: usize, s: &[u8]) -> usize {
-    let mut next = at;
-    let mut i: usize = 0;
-    while i < s.len() {
-        match string::read_mqtt_string(s, i) {
-            GotSpan::Refused(_) => return next,
-            GotSpan::Value(topic, end) => {
-                next = path(&mut *out, next, s, topic);
-                i = end;
-            }
+fn topic_at(out: &mut [u8], at: usize, s: &[u8], i: usize) -> Step {
+    match string::read_mqtt_string(s, i) {
+        GotSpan::Refused(_) => Step { put: at, next: i },
+        GotSpan::Value(topic, next) => {
+            let put = path(&mut *out, at, s, topic);
+            Step { put, next }
         }
     }
-    next
 }
 
-// The reasons that are the bytes of s.
-fn reasons_in(out: &mut [u8], at: usize, s: &[u8]) -> usize {
-    let mut next = at;
+fn reason_at(out: &mut [u8], at: usize, s: &[u8], i: usize) -> Step {
+    if i < s.len() {
+        let put = field::reason(&mut *out, at, s[i]);
+        return Step { put, next: i + 1 };
+    }
+    Step { put: at, next: i }
+}
+
+// The item at i.
+fn item(out: &mut [u8], at: usize, items: Items, s: &[u8], i: usize) -> Step {
+    match items {
+        Items::Users(place) => user_at(&mut *out, at, place, s, i),
+        Items::Identifiers => identifier_at(&mut *out, at, s, i),
+        Items::Filters => filter_at(&mut *out, at, s, i),
+        Items::Topics => topic_at(&mut *out, at, s, i),
+        Items::Reasons => reason_at(&mut *out, at, s, i),
+    }
+}
+
+// All items of s; each goes further on.
+fn items_in(out: &mut [u8], at: usize, items: Items, s: &[u8]) -> usize {
+    let mut put = at;
     let mut i: usize = 0;
     while i < s.len() {
-        next = field::reason(&mut *out, next, s[i]);
-        i = i + 1;
+        let step = item(&mut *out, put, items, s, i);
+        if step.next <= i {
+            return put;
+        }
+        put = step.put;
+        i = step.next;
     }
-    next
+    put
 }
 
 // The user properties of the block at a place of s.
 pub fn users(out: &mut [u8], at: usize, place: PropertyPlace, s: &[u8], block: Span) -> usize {
-    users_in(&mut *out, at, place, string::part(s, block))
+    items_in(&mut *out, at, Items::Users(place), string::part(s, block))
 }
 
 // The subscription identifiers of a Publish.
 pub fn identifiers(out: &mut [u8], at: usize, s: &[u8], block: Span) -> usize {
-    identifiers_in(&mut *out, at, string::part(s, block))
+    items_in(&mut *out, at, Items::Identifiers, string::part(s, block))
 }
 
 // The filters of the run at a place of s.
 pub fn filters(out: &mut [u8], at: usize, s: &[u8], run: Span) -> usize {
-    filters_in(&mut *out, at, string::part(s, run))
+    items_in(&mut *out, at, Items::Filters, string::part(s, run))
 }
 
 // The topics of the run at a place of s.
 pub fn topics(out: &mut [u8], at: usize, s: &[u8], run: Span) -> usize {
-    topics_in(&mut *out, at, string::part(s, run))
+    items_in(&mut *out, at, Items::Topics, string::part(s, run))
 }
 
 // The reasons of the run at a place of s.
 pub fn reasons(out: &mut [u8], at: usize, s: &[u8], run: Span) -> usize {
-    reasons_in(&mut *out, at, string::part(s, run))
+    items_in(&mut *out, at, Items::Reasons, string::part(s, run))
 }
