@@ -1,54 +1,138 @@
--- The bytes of a Publish, part by part, one behind the other. Assumes nothing.
-use mathlib.Core.Path.{_≡_, sym, ap, _∙_}
-use mathlib.Core.Bool.{Bool, true, false}
+-- The bytes of a Publish, part by part, where there is room for them. Assumes nothing.
+use mathlib.Core.Path.{_≡_, refl, sym, ap, _∙_}
+use mathlib.Core.Bool.{Bool, true, false, false≢true}
+use mathlib.Core.Logic.{_⊎_, inl, inr}
 use mathlib.Core.List.{List, [], _∷_, _++_, append-assoc, append-nil}
-use Prim.Native.Nat.{ℕ, _+_, _*_, _≤_, min}
+use Prim.Native.Nat.{ℕ, suc, _+_, _*_, _/_, _%_, _≤_, _<_}
 use native.Mathlib.Omega.{arith}
-use lib.ListN.{length}
-use lib.Seq.{sets}
-use Rattle.grammar.specs.Tables.{u8, u16, u32, number, text, bytes, pair, publishPlace}
-use Rattle.writing.specs.Handed.{PublishHanded, publish, several, publishGiven}
-use Rattle.writing.specs.Spell.{wide, short, string, rowBytes, propsBytes}
+use native.Mathlib.Numerals.{add-one}
+use lib.ListN.{length, take, drop, getD, length-append, length-drop}
+use lib.Seq.{sets, length-sets, length-take-le, take-length, drop-cons}
+use borrow.Author.Tests.{eqb-true}
+use Rattle.grammar.specs.Tables.{Form, u8, u16, u32, number, text, bytes, pair, publishPlace}
+use Rattle.writing.specs.Lists.{sum}
+use Rattle.writing.specs.Handed.{Run, PublishHanded, publish, pairs, several, publishGiven, addsUp}
+use Rattle.writing.specs.Spell.{wide, short, string, value, rowBytes, propsBytes}
 use Rattle.writing.specs.Size.{noIdent}
 use Rattle.writing.specs.Write.{firstByte, identBytes}
 use Rattle.writing.proofs.Pins.{publish-props}
+use Rattle.writing.proofs.Says.{length-wide}
 use Rattle.writing.proofs.Sizes.{length-string}
+use Rattle.writing.proofs.Tests.{le-or}
+use Rattle.writing.proofs.ForCode.{runFrom, stringAt, strings-more, strings-done}
 use Rattle.records.specs.Told.{toldQoS}
 use Rattle.records.specs.declared.qos.QoS.{QoS}
-use Rattle.writing.proofs.Says.{length-wide}
 use Rattle.rows.specs.Given.{givenU8, givenU16, givenU32, givenLent, givenPairs}
-use Rattle.row_puts.specs.Put.{Put}
-use Rattle.row_puts.specs.Behind.{Behind}
-use Rattle.row_puts.proofs.Laws.{put-none, store-next, put-next, next-last, next-then}
 use Rattle.publish_plan.specs.Handed.{handed}
 use Rattle.publish_plan.specs.declared.head.PublishHead.{PublishHead}
+use Rattle.publish_write.specs.Laid.{Laid, Room, allRows}
+use Rattle.byte_puts.proofs.Laws.{sets-append}
+use Rattle.publish_write.proofs.Lay.{none-laid, store-laid, laid-then}
 
--- ---- the rows
+-- ---- strings
+
+-- n bytes that are all there
+pub part-length : (s : List ℕ) (from n : ℕ) → from + n ≤ length s → length (take n (drop from s)) ≡ n
+part-length s from n h = length-take-le n (drop from s) (omega (arith, length-drop from s))
+
+pub string-laid : (s : List ℕ) (from n : ℕ) → from + n ≤ length s → {l l₁ l₂ : List ℕ} {at m : ℕ}
+    → l₁ ≡ sets l at ((n / 256 % 256) ∷ (n % 256) ∷ []) → l₂ ≡ sets l₁ (at + 2) (take n (drop from s)) → m ≡ at + 2 + n → Laid l at (string (take n (drop from s))) l₂ m
+unfolding string wide
+string-laid s from n h {l} {l₁} {l₂} {at} {m} e f g =
+    let z = part-length s from n h in
+    let p : Laid l₁ (at + 2) (take n (drop from s)) l₂ m = record { stores = f; place = g ∙ rw z } in
+    rw z (laid-then (store-laid ((n / 256 % 256) ∷ (n % 256) ∷ []) l l₁ at e) p)
+
+-- a string as a whole
+pub whole-laid : (s : List ℕ) {l l₁ : List ℕ} {at m : ℕ} → Laid l at (string (take (length s) (drop 0 s))) l₁ m → Laid l at (string s) l₁ m
+whole-laid s p = rw (take-length s) at p
+
+-- ---- pairs
+
+pub pair-laid : (k v : List ℕ) {l l₁ l₂ l₃ : List ℕ} {at m q : ℕ} → l₁ ≡ sets l at (38 ∷ []) → Laid l₁ (at + 1) (string k) l₂ m → Laid l₂ m (string v) l₃ q
+    → Laid l at (38 ∷ (string k ++ string v)) l₃ q
+pair-laid k v {l} {l₁} {at = at} e p q = laid-then (store-laid (38 ∷ []) l l₁ at e) (laid-then p q)
+
+-- of the bytes `whole`, which are to stand from `at` on, `rest` is left, from `to` on
+pub record Laying (before : List ℕ) (at : ℕ) (whole out : List ℕ) (to : ℕ) (rest : List ℕ) : Type 0 where
+  pub same : length out ≡ length before
+  pub stores : sets before at whole ≡ sets out to rest
+  pub count : at + length whole ≡ to + length rest
+
+pub none-laying : (before : List ℕ) (at : ℕ) (whole : List ℕ) → Laying before at whole before at whole
+none-laying before at whole = record { same = refl; stores = refl; count = refl }
+
+module _ {before whole out rest : List ℕ} {at to : ℕ} (p : Laying before at whole out to rest) where
+  pub laying-more : (xs ys : List ℕ) → rest ≡ xs ++ ys → {out′ : List ℕ} {next : ℕ} → Laid out to xs out′ next → Laying before at whole out′ next ys
+  laying-more xs ys e {out′} q = record {
+    same = ap length (q .stores) ∙ length-sets out to xs ∙ p .same;
+    stores = p .stores ∙ rw (e, sets-append xs ys out to, q .stores, q .place);
+    count = omega (arith, p .count, q .place, ap length e ∙ length-append xs ys);
+  }
+
+  pub laying-end : rest ≡ [] → Laid before at whole out to
+  laying-end e = record { stores = sym (p .stores ∙ rw e); place = omega (arith, p .count, ap length e) }
+
+module _ (r : Run) (i p : ℕ) where
+  abbrev mid : ℕ
+  mid = p + getD (r .lengths) i 0
+
+  pub pairs-next : i + 1 < length (r .lengths)
+      → rowBytes (38, pair) (pairs (runFrom r i p)) ≡ (38 ∷ (string (stringAt r i p) ++ string (stringAt r (i + 1) mid))) ++ rowBytes (38, pair) (pairs (runFrom r (i + 2) (mid + getD (r .lengths) (i + 1) 0)))
+  unfolding value
+  pairs-next h =
+      let s : i + 1 + 1 ≡ i + 2 = omega arith in
+      let l : i < length (r .lengths) = omega arith in
+      rw (strings-more r i p l, strings-more r (i + 1) mid h, s)
+
+  -- a length that is left over has no pair
+  pub pairs-none : length (r .lengths) ≤ i + 1 → rowBytes (38, pair) (pairs (runFrom r i p)) ≡ []
+  pairs-none h = go (le-or (length (r .lengths)) i)
+    where
+      go : (length (r .lengths) ≤ i) ⊎ (i < length (r .lengths)) → rowBytes (38, pair) (pairs (runFrom r i p)) ≡ []
+      go (inl l) = rw (strings-done r i p l)
+      go (inr l) = rw (strings-more r i p l, strings-done r (i + 1) mid h)
+
+sum-one : (ns : List ℕ) (i : ℕ) → i < length ns → sum (drop i ns) ≡ getD ns i 0 + sum (drop (i + 1) ns)
+sum-one ns i h = ap sum (drop-cons ns i 0 h) ∙ rw (add-one i)
+
+-- what the lengths from the i-th on add up to
+pub sum-next : (ns : List ℕ) (i : ℕ) → i + 1 < length ns → sum (drop i ns) ≡ getD ns i 0 + (getD ns (i + 1) 0 + sum (drop (i + 2) ns))
+sum-next ns i h =
+    let e : i + 1 + 1 ≡ i + 2 = omega arith in
+    sum-one ns i (omega arith) ∙ ap (λ (k : ℕ). getD ns i 0 + k) (rw e at (sum-one ns (i + 1) h))
+
+pub pair-length : (k v : List ℕ) → length (38 ∷ (string k ++ string v)) ≡ 5 + length k + length v
+pair-length k v = omega (arith, length-append (string k) (string v), length-string k, length-string v)
+
+-- ---- rows
+
+module _ (id : ℕ) (f : Form) where
+  pub lent-row : (s : List ℕ) → rowBytes (id, f) (givenLent true s) ≡ id ∷ string s
+  unfolding value
+  lent-row s = ap (λ (l : List ℕ). id ∷ l) (append-nil (string s))
+
+  pub lent-on : {on : Bool} → on ≡ true → (s : List ℕ) {l l₁ l₂ : List ℕ} {at m : ℕ} → l₁ ≡ sets l at (id ∷ []) → Laid l₁ (at + 1) (string s) l₂ m → Laid l at (rowBytes (id, f) (givenLent on s)) l₂ m
+  lent-on e s {l} {l₁} {at = at} g p = rw (e, lent-row s) (laid-then (store-laid (id ∷ []) l l₁ at g) p)
+
+  pub lent-off : {on : Bool} → on ≡ false → (s l : List ℕ) (at : ℕ) → Laid l at (rowBytes (id, f) (givenLent on s)) l at
+  lent-off e s l at = rw e (none-laid l at)
+
+  -- room for the row
+  pub lent-room : (on : Bool) (s l : List ℕ) (at : ℕ) → Room l at (rowBytes (id, f) (givenLent on s)) → on ≡ true → at + (3 + length s) ≤ length l
+  lent-room true s l at h e = omega (arith, length-string s, ap length (lent-row s), h .fits)
+  lent-room false s l at h e = absurd (false≢true e)
 
 regroup : (a b c d e f g i : List ℕ) → a ++ (b ++ (c ++ (d ++ (e ++ (f ++ (g ++ (i ++ []))))))) ≡ (a ++ (b ++ c)) ++ ((d ++ e) ++ (f ++ (g ++ i)))
 regroup a b c d e f g i = rw (append-assoc a (b ++ c) ((d ++ e) ++ (f ++ (g ++ i))), append-assoc b c ((d ++ e) ++ (f ++ (g ++ i))), append-assoc d e (f ++ (g ++ i)), append-nil i)
 
-module _ (head : PublishHead) (t a b u l i c p : List ℕ) where
-  -- numbers, strings, lists
-  props-rows : (rowBytes (1, u8) (givenU8 (head .«payload_format_indicator»)) ++ (rowBytes (2, u32) (givenU32 (head .«message_expiry_interval»)) ++ rowBytes (35, u16) (givenU16 (head .«topic_alias»))))
-      ++ ((rowBytes (8, text) (givenLent (head .«response_topic») a) ++ rowBytes (9, bytes) (givenLent (head .«correlation_data») b))
-      ++ (rowBytes (38, pair) (givenPairs u l) ++ (rowBytes (11, number) (several i) ++ rowBytes (3, text) (givenLent (head .«content_type») c))))
-      ≡ propsBytes publishPlace (publishGiven (handed head t a b u l i c p))
-  props-rows =
-      sym (publish-props (handed head t a b u l i c p)
-      ∙ regroup (rowBytes (1, u8) (givenU8 (head .«payload_format_indicator»))) (rowBytes (2, u32) (givenU32 (head .«message_expiry_interval»))) (rowBytes (35, u16) (givenU16 (head .«topic_alias»)))
-      (rowBytes (8, text) (givenLent (head .«response_topic») a)) (rowBytes (9, bytes) (givenLent (head .«correlation_data») b))
-      (rowBytes (38, pair) (givenPairs u l)) (rowBytes (11, number) (several i)) (rowBytes (3, text) (givenLent (head .«content_type») c)))
-
-  pub put-props : {before after : List ℕ} {at next : ℕ} → Behind before at
-      ((rowBytes (1, u8) (givenU8 (head .«payload_format_indicator»)) ++ (rowBytes (2, u32) (givenU32 (head .«message_expiry_interval»)) ++ rowBytes (35, u16) (givenU16 (head .«topic_alias»))))
-      ++ ((rowBytes (8, text) (givenLent (head .«response_topic») a) ++ rowBytes (9, bytes) (givenLent (head .«correlation_data») b))
-      ++ (rowBytes (38, pair) (givenPairs u l) ++ (rowBytes (11, number) (several i) ++ rowBytes (3, text) (givenLent (head .«content_type») c))))) after next
-      → Behind before at (propsBytes publishPlace (publishGiven (handed head t a b u l i c p))) after next
-  put-props {before} {after} {at} {next} n = record {
-    stores = n .stores ∙ ap (sets before at) props-rows;
-    place = n .place ∙ ap (λ (xs : List ℕ). min (at + length xs) (length after)) props-rows;
-  }
+-- the rows are the properties
+pub props-rows : (head : PublishHead) (t a b u l i c p : List ℕ) → allRows head a b u l i c ≡ propsBytes publishPlace (publishGiven (handed head t a b u l i c p))
+props-rows head t a b u l i c p =
+    sym (publish-props (handed head t a b u l i c p)
+    ∙ regroup (rowBytes (1, u8) (givenU8 (head .«payload_format_indicator»))) (rowBytes (2, u32) (givenU32 (head .«message_expiry_interval»))) (rowBytes (35, u16) (givenU16 (head .«topic_alias»)))
+    (rowBytes (8, text) (givenLent (head .«response_topic») a)) (rowBytes (9, bytes) (givenLent (head .«correlation_data») b))
+    (rowBytes (38, pair) (givenPairs u l)) (rowBytes (11, number) (several i)) (rowBytes (3, text) (givenLent (head .«content_type») c)))
 
 -- ---- the front
 
@@ -62,19 +146,11 @@ qos-most QoS.AtLeastOnce = omega arith
 qos-most QoS.ExactlyOnce = omega arith
 
 module _ (q i : ℕ) {t : Bool} (e : t ≡ noIdent q i) where
-  pub ident-off : t ≡ true → (l : List ℕ) (at : ℕ) → Put l at (identBytes q i) l 0
-  ident-off f l at = rw (sym e ∙ f) (put-none l at)
+  pub ident-off : t ≡ true → (l : List ℕ) (at : ℕ) → Laid l at (identBytes q i) l at
+  ident-off f l at = rw (sym e ∙ f) (none-laid l at)
 
-  pub ident-on : t ≡ false → {l l₁ : List ℕ} {at : ℕ} → l₁ ≡ sets l at (wide 2 i) → Put l at (identBytes q i) l₁ 2
-  ident-on f s = rw (sym e ∙ f) (record { stores = s; count = sym (length-wide 2 i) })
+  pub ident-on : t ≡ false → {l l₁ : List ℕ} {at : ℕ} → l₁ ≡ sets l at (wide 2 i) → Laid l at (identBytes q i) l₁ (at + 2)
+  ident-on f s = rw (sym e ∙ f) (record { stores = s; place = rw (length-wide 2 i) })
 
-pub front-all : (h : PublishHanded) (rest : ℕ) {l l₁ l₂ l₃ : List ℕ} {fb q n₁ m₁ m₂ n₃ m₃ : ℕ} → fb ≡ firstByte (publish h)
-    → Put l 0 (fb ∷ short rest) l₁ n₁ → m₁ ≡ min (0 + n₁) (length l₁) → l₂ ≡ sets l₁ m₁ (string (h .topic)) → m₂ ≡ min (m₁ + (2 + length (h .topic))) (length l₂)
-    → q ≡ h .qos → Put l₂ m₂ (identBytes q (h .ident)) l₃ n₃ → m₃ ≡ min (m₂ + n₃) (length l₃)
-    → Behind l 0 (firstByte (publish h) ∷ (short rest ++ (string (h .topic) ++ identBytes (h .qos) (h .ident)))) l₃ m₃
-front-all h rest e s₁ p₁ s₂ p₂ f s₃ p₃ =
-    rw (← e, ← f) (next-then (put-next s₁ p₁) (next-then (store-next (string (h .topic)) s₂ (sym (length-string (h .topic))) p₂) (put-next s₃ p₃)))
-
--- the front, and what stands behind it
-pub frame-all : (x : ℕ) (r s i ys : List ℕ) {l l₁ l₂ : List ℕ} {m : ℕ} → Behind l 0 (x ∷ (r ++ (s ++ i))) l₁ m → l₂ ≡ sets l₁ m ys → l₂ ≡ sets l 0 (x ∷ (r ++ (s ++ (i ++ ys))))
-frame-all x r s i ys {l} p e = next-last p ys e ∙ ap (λ (k : List ℕ). sets l 0 (x ∷ k)) (append-assoc r (s ++ i) ys ∙ ap (λ (k : List ℕ). r ++ k) (append-assoc s i ys))
+  pub ident-room : t ≡ false → (l : List ℕ) (at : ℕ) → Room l at (identBytes q i) → at + 2 ≤ length l
+  ident-room f l at h = omega (arith, length-wide 2 i, (rw (sym e ∙ f) at h) .fits)

@@ -1,7 +1,8 @@
 // A Publish, written, after `write` and `size` of publish.rs: first every refusal and the size, touching nothing, then the bytes.
+mod copy;
 mod frame;
 
-use crate::frame::put_frame;
+use crate::frame::lay_frame;
 use publish_plan::belong;
 use publish_plan::head::PublishHead;
 use publish_plan::sizes;
@@ -96,7 +97,7 @@ pub fn write(
     match settle::settle(fields, rest, limit, end, out.len()) {
         Written::Refused(e) => Written::Refused(e),
         Written::Size(n) => {
-            put_frame(
+            lay_frame(
                 &mut *out,
                 head,
                 rest,

@@ -1,13 +1,14 @@
--- `publish_write::write` is right since the order is settled from what is found, and only then is the frame put. Assumes nothing.
+-- `publish_write::write` is right since the order is settled from what is found, and only then is the frame laid, which fits. Assumes nothing.
 use mathlib.Core.Path.{sym, ap, _∙_}
-use borrow.Author.Needs.{needs}
 use denote.Ref.{now}
 use Rattle.writing.specs.Handed.{publish}
 use Rattle.records.specs.Told.{limitOf}
 use Rattle.records.specs.Answered.{toldWritten}
 use Rattle.settle.proofs.Laws.{settled-found, none-written, all-written}
 use Rattle.publish_plan.specs.Handed.{handed}
-use Rattle.publish_write.proofs.Laws.{put-frame}
+use Rattle.publish_write.proofs.Laws.{put-frame, frame-fits}
+use Rattle.publish_write.proofs.Parts.{props-rows}
+use borrow.Author.Needs.{needs}
 use Rattle.publish_write.proofs.write.Statement.{statement}
 use Rattle.publish_write.proofs.write.Tie as tie
 
@@ -29,8 +30,22 @@ enum-known-e c = search needs
 enum-known-n : tie.Need-enum-known-n
 enum-known-n c = search needs
 
-put-frame-requires : tie.Need-put-frame-requires
-put-frame-requires c κs = search needs
+lay-frame-requires : tie.Need-lay-frame-requires
+lay-frame-requires c κs =
+    let a = c .before .before .before .before .before .before .before .before .before .before .before .before .before .before .before .before .before .args in
+    let h =
+    handed (a .head) (now (a .topic)) (now (a .response-topic)) (now (a .correlation-data)) (now (a .user)) (now (a .user-lengths)) (now (a .subscription-identifiers))
+    (now (a .content-type)) (now (a .payload)) in
+    let f = settled-found (limitOf (a .limit)) _ (publish h) (record {
+      early = c .before .before .before .before .before .before .before .early .ensures (now (a .payload));
+      rest = c .before .before .before .before .before .before .sizes .ensures .0;
+      late = c .before .before .before .before .before .late .ensures (now (a .topic)) (now (a .response-topic)) (now (a .correlation-data)) (now (a .user)) (now (a .user-lengths))
+          (now (a .content-type)) (now (a .payload));
+    }) in
+    let g = props-rows (a .head) (now (a .topic)) (now (a .response-topic)) (now (a .correlation-data)) (now (a .user)) (now (a .user-lengths)) (now (a .subscription-identifiers))
+    (now (a .content-type)) (now (a .payload)) in
+    let s = c .before .before .before .before .before .before .sizes .ensures in
+    frame-fits h (s .0) (s .1) g (limitOf (a .limit)) (now (a .out)) _ (sym (ap toldWritten (c .before .before .n .given .1)) ∙ c .before .before .before .before .settle .ensures ∙ f)
 
 returns : tie.Need-returns
 returns c =
@@ -58,13 +73,15 @@ returns-2 c =
     let f = settled-found (limitOf (a .limit)) _ (publish h) (record {
       early = c .before .before .before .before .before .before .before .before .before .before .early .ensures (now (a .payload));
       rest = c .before .before .before .before .before .before .before .before .before .sizes .ensures .0;
-      late = c .before .before .before .before .before .before .before .before .late .ensures (now (a .topic)) (now (a .response-topic)) (now (a .correlation-data)) (now (a .user))
-          (now (a .user-lengths)) (now (a .content-type)) (now (a .payload));
+      late = c .before .before .before .before .before .before .before .before .late .ensures (now (a .topic)) (now (a .response-topic)) (now (a .correlation-data)) (now (a .user)) (now (a .user-lengths))
+          (now (a .content-type)) (now (a .payload));
     }) in
+    let g = props-rows (a .head) (now (a .topic)) (now (a .response-topic)) (now (a .correlation-data)) (now (a .user)) (now (a .user-lengths)) (now (a .subscription-identifiers))
+    (now (a .content-type)) (now (a .payload)) in
     let s = c .before .before .before .before .before .before .before .before .before .sizes .ensures in
     all-written (limitOf (a .limit)) (publish h) (now (a .out)) _
     (sym (ap toldWritten (c .before .before .before .before .before .n .given .1)) ∙ c .before .before .before .before .before .before .before .settle .ensures ∙ f) _
-    (put-frame h (now (a .out)) (s .0) (s .1) (c .before .before .put-frame .ensures))
+    (put-frame h (s .0) (s .1) g (now (a .out)) (c .before .before .lay-frame .ensures))
 
 pub write-spec : {M : Type 1} → statement M
 write-spec =
@@ -76,7 +93,7 @@ write-spec =
     settle-requires
     enum-known-e
     enum-known-n
-    put-frame-requires
+    lay-frame-requires
     returns
     same-length
     returns-2)
