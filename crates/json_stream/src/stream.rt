@@ -182,12 +182,18 @@ fn frame(
 
 // ---- a frame that is passed over
 
-// All of it is behind: its line, if no filter is given.
-fn skipped(out: &mut [u8], mut d: Desk) -> Desk {
-    d.skip = 0;
+// Where the output goes on after its line, which is put if no filter is given.
+fn skipped_line(out: &mut [u8], d: Desk) -> usize {
     if d.all {
-        d.put = output::skipped(&mut *out, d.put, d.index, d.offset, d.size, d.first / 16);
+        return output::skipped(&mut *out, d.put, d.index, d.offset, d.size, d.first / 16);
     }
+    d.put
+}
+
+// All of it is behind.
+fn skipped(out: &mut [u8], mut d: Desk) -> Desk {
+    d.put = skipped_line(&mut *out, d);
+    d.skip = 0;
     counted(d, d.size)
 }
 
