@@ -9,7 +9,8 @@ use libc::STDOUT_FILENO;
 use records::error::Error;
 use records::span::Span;
 use wire::string;
-ghost use Prim.Native.Nat.{_≤_, _<_};
+ghost use mathlib.Core.Path.{_≡_};
+ghost use Prim.Native.Nat.{min};
 
 // The index that no output has.
 const LOST: usize = 18446744073709551615;
@@ -53,7 +54,7 @@ pub fn number(out: &mut [u8], at: usize, w: &[u8], n: u64) -> usize {
 
 // How many of the bytes that are left are put at once.
 fn piece(left: usize) -> usize
-    ensures { λ r. ⌜ (r ≤ left) × (0 < left → 0 < r) ⌝ }
+    ensures { λ r. ⌜ r ≡ min left 4096 ⌝ }
 {
     if left < 4096 {
         return left;
