@@ -192,7 +192,8 @@ fn skipped_line(out: &mut [u8], d: Desk) -> usize {
 
 // All of it is behind.
 fn skipped(out: &mut [u8], mut d: Desk) -> Desk {
-    d.put = skipped_line(&mut *out, d);
+    let put = skipped_line(&mut *out, d);
+    d.put = put;
     d.skip = 0;
     counted(d, d.size)
 }
