@@ -91,7 +91,7 @@ fn refused_line(out: &mut [u8], d: Desk, e: Error, taken: usize) -> usize {
 
 fn refused(out: &mut [u8], tally: &mut [u64], d: Desk, e: Error, taken: usize) -> Desk {
     let put = refused_line(&mut *out, d, e, taken);
-    counts::add_refused(&mut *tally, e);
+    desk_summary::add_refused(&mut *tally, e);
     passed(d, put, taken)
 }
 
@@ -147,7 +147,7 @@ fn accepted(
 ) -> Desk {
     desk_topic::learn(&mut *table, s, p);
     let put = packet_line(s, filter, &*table, &mut *out, d, p, taken);
-    counts::add_packet(&mut *tally, p);
+    desk_summary::add_packet(&mut *tally, p);
     passed(d, put, taken)
 }
 
@@ -383,7 +383,7 @@ fn finish(out: &mut [u8], tally: &[u64], d: Desk) -> u8 {
         output::fail(b"standard output");
         return 1;
     }
-    let len = tallies::put_summary(&mut *out, tally, d.offset);
+    let len = desk_summary::put_summary(&mut *out, tally, d.offset);
     output::tell(&*out, len);
     if d.state == DONE {
         return 0;
@@ -396,7 +396,7 @@ pub fn read(fd: i32, name: &[u8], limit: Limit, filter: &[u8]) -> u8 {
     let mut buf = buffer();
     let mut table = fresh();
     let mut out = buffer();
-    let mut tally = counts::none();
+    let mut tally = desk_summary::none();
     let d = read_all(
         fd,
         limit,
