@@ -11,7 +11,8 @@
 A dict has 'kind', 'offset' and 'taken', and the fields of docs/DESK.md with _ for -: what is absent in the packet is absent in the dict. Texts are
 str (bytes that are no UTF-8 are kept as surrogates: 'surrogateescape'), payload and correlation_data are bytes. 'user' is a list of pairs,
 'subscription_ids' (publish) a list of numbers, 'filters' a list of dicts (subscribe) or of texts (unsubscribe), 'reasons' (suback, unsuback) a list
-of numbers. A refused frame has the kind 'refused' with 'number', 'name' and 'values'."""
+of numbers. A refused frame has the kind 'refused' with 'number', 'name' and 'values'. Of a line of ./desk: a frame that was passed over has the kind
+'skipped' with 'frame', the word of its kind or its number, and a payload that --payload cut has 'payload_bytes', how many there are."""
 import ctypes
 import ctypes.util
 import operator
@@ -357,13 +358,18 @@ def line(text):
     """The dict of one line that ./desk writes to standard output."""
     text = text.encode('utf-8', 'surrogateescape') if isinstance(text, str) else text
     text = text.rstrip(b'\n')
-    words = re.match(rb'(\d+) ([a-z]+)(?: (\d+) (\w+)(?:\(([\d,]*)\))?)?', text)
+    words = re.match(rb'(\d+) ([a-z]+)(?: (\d+) ([A-Z]\w*)(?:\(([\d,]*)\))?)?', text)
     if not words:
         raise ValueError(f'no line of desk: {text!r}')
     told = {'offset': int(words[1]), 'kind': words[2].decode()}
     kind, at = told['kind'], words.end()
     if kind == 'refused':
         told.update(number=int(words[3]), name=words[4].decode(), values=tuple(int(v) for v in (words[5] or b'').split(b',') if v))
+    elif kind == 'skipped':
+        of = re.compile(rb' (?:([a-z]+)|(\d+))(?= )').match(text, at)
+        if not of:
+            raise ValueError(f'no line of desk: {text!r}')
+        told['frame'], at = of[1].decode() if of[1] else int(of[2]), of.end()
     while at < len(text):
         field = _FIELD.match(text, at)
         if not field:

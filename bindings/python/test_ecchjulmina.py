@@ -19,11 +19,11 @@ AB = bytes.fromhex('30 08 00 03 61 2F 62 00 68 69')
 SAMPLES = [f.read_bytes() for f in sorted(pathlib.Path(TOP, 'samples').glob('*.mqtt'))]
 
 
-def desk(stream):
+def desk(stream, *words):
     with tempfile.NamedTemporaryFile() as f:
         f.write(stream)
         f.flush()
-        return subprocess.run([TOP + '/desk', f.name], stdout=subprocess.PIPE, stderr=subprocess.DEVNULL).stdout.splitlines()
+        return subprocess.run([TOP + '/desk', *words, f.name], stdout=subprocess.PIPE, stderr=subprocess.DEVNULL).stdout.splitlines()
 
 
 class TheHeader(unittest.TestCase):
@@ -207,6 +207,21 @@ class TheLinesOfDesk(unittest.TestCase):
         self.same(stream)
         self.assertGreater(sum(f['kind'] == 'refused' for f in frames(stream)), 50)
 
+    def test_passed_over(self):
+        """A frame above 1 MiB, by its kind; one of no kind here, by its number."""
+        large = lambda first: bytes([first]) + b'\x81\x80\x40' + bytes(1048577)
+        got = list(lines(desk(b'\xC0\x00' + large(0x30) + large(0x10) + b'\xD0\x00')))
+        self.assertEqual(got, [
+            {'offset': 0, 'kind': 'pingreq', 'taken': 2},
+            {'offset': 2, 'kind': 'skipped', 'frame': 'publish', 'taken': 1048581},
+            {'offset': 1048583, 'kind': 'skipped', 'frame': 1, 'taken': 1048581},
+            {'offset': 2097164, 'kind': 'pingresp', 'taken': 2},
+        ])
+
+    def test_cut(self):
+        got, = lines(desk(AB, '--payload', '1'))
+        self.assertEqual((got['payload'], got['payload_bytes']), (b'h', 2))
+
     def test_no_library(self):
         """The lines need no library; what needs it says what is lacking."""
         program = 'import ecchjulmina\nprint(ecchjulmina.line("2 pingreq taken=2"))\necchjulmina.read(b"")'
@@ -219,7 +234,7 @@ class TheLinesOfDesk(unittest.TestCase):
         self.assertIn('ImportError: libecchjulmina.so is not there: run bindings/shared, or name it in ECCHJULMINA_LIBRARY', got.stderr)
 
     def test_no_line(self):
-        for text in ('', 'publish', '0 publish taken', '0 publish taken=1 topic="', '0 publish taken=1  dup=0', 'desk: publish=5'):
+        for text in ('', 'publish', '0 publish taken', '0 publish taken=1 topic="', '0 publish taken=1  dup=0', '0 skipped taken=2', '0 skipped', 'desk: publish=5'):
             with self.subTest(text), self.assertRaises(ValueError):
                 line(text)
 

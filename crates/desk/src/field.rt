@@ -1,5 +1,6 @@
 // One field of a line: a space, its name, `=` and its value. The name is lent with what stands around it, the first quote included.
 use crate::output;
+use records::answer::Limit;
 use records::span::MaybeSpan;
 use records::span::MaybeU8;
 use records::span::MaybeU16;
@@ -26,6 +27,26 @@ pub fn part(out: &mut [u8], at: usize, name: &[u8], s: &[u8], place: Span) -> us
     let value = output::word(&mut *out, at, name);
     let end = output::shown(&mut *out, value, string::part(s, place));
     output::word(&mut *out, end, b"\"")
+}
+
+// The first n bytes of a payload, and how many it has.
+fn cut(out: &mut [u8], at: usize, s: &[u8], place: Span, n: usize) -> usize {
+    let front = Span {
+        start: place.start,
+        len: n,
+    };
+    let a = part(&mut *out, at, b" payload=\"", s, front);
+    number(&mut *out, a, b" payload-bytes=", place.len as u64)
+}
+
+// A payload, or so many bytes of it, at most, and then how many it has.
+pub fn payload(out: &mut [u8], at: usize, s: &[u8], place: Span, most: Limit) -> usize {
+    if let Limit::AtMost(n) = most {
+        if n < place.len {
+            return cut(&mut *out, at, s, place, n);
+        }
+    }
+    part(&mut *out, at, b" payload=\"", s, place)
 }
 
 // The fields that may be absent, and are then no field.

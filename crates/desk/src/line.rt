@@ -16,6 +16,7 @@ use records::subscribe_record::Subscribe;
 use records::unsubscribe_record::Unsubscribe;
 use tables::property::PropertyPlace;
 use wire::string;
+use words::Style;
 
 // The identifier, which a Publish has at QoS 1 and 2.
 fn identifier(out: &mut [u8], at: usize, q: u8, pkid: u16) -> usize {
@@ -71,11 +72,19 @@ fn publish_block(out: &mut [u8], at: usize, s: &[u8], properties: MaybePublishPr
     }
 }
 
-fn publish_of(out: &mut [u8], at: usize, s: &[u8], table: &[u8], m: Publish) -> usize {
+fn publish_of(
+    out: &mut [u8],
+    at: usize,
+    s: &[u8],
+    table: &[u8],
+    style: Style,
+    m: Publish,
+) -> usize {
     let properties = m.properties;
     let a = publish_head(&mut *out, at, s, table, m);
     let b = publish_block(&mut *out, a, s, properties);
-    field::part(&mut *out, b, b" payload=\"", s, m.payload)
+    let most = style.most;
+    field::payload(&mut *out, b, s, m.payload, most)
 }
 
 // The block of any other kind; what its place does not have is absent.
@@ -133,9 +142,9 @@ fn unsubscribe_of(out: &mut [u8], at: usize, s: &[u8], m: Unsubscribe) -> usize 
 }
 
 // The fields of the kind; a ping has none.
-fn fields(out: &mut [u8], at: usize, s: &[u8], table: &[u8], p: Packet) -> usize {
+fn fields(out: &mut [u8], at: usize, s: &[u8], table: &[u8], style: Style, p: Packet) -> usize {
     match p {
-        Packet::Publish(m) => publish_of(&mut *out, at, s, table, m),
+        Packet::Publish(m) => publish_of(&mut *out, at, s, table, style, m),
         Packet::Ack(_, m) => ack_of(&mut *out, at, s, m),
         Packet::Subscribe(m) => subscribe_of(&mut *out, at, s, m),
         Packet::Reply(_, m) => reply_of(&mut *out, at, s, m),
@@ -156,6 +165,13 @@ fn kind_word(out: &mut [u8], at: usize, num: u8) -> usize {
     output::word(&mut *out, at, string::part(&bytes, text))
 }
 
+// The kind, in bold where lines are coloured.
+fn kind(out: &mut [u8], at: usize, num: u8, colour: bool) -> usize {
+    let a = output::paint(&mut *out, at, colour, b"\x1B[1m");
+    let b = kind_word(&mut *out, a, num);
+    output::paint(&mut *out, b, colour, b"\x1B[0m")
+}
+
 // Of the packet p that was read from s; the table has the topics by alias.
 pub fn packet(
     out: &mut [u8],
@@ -163,13 +179,41 @@ pub fn packet(
     offset: u64,
     s: &[u8],
     table: &[u8],
+    style: Style,
     p: Packet,
     taken: usize,
 ) -> usize {
     let a = output::decimal(&mut *out, at, offset);
     let b = output::word(&mut *out, a, b" ");
-    let c = kind_word(&mut *out, b, desk_summary::number_in(p));
+    let c = kind(&mut *out, b, desk_summary::number_in(p), style.colour);
     let d = field::number(&mut *out, c, b" taken=", taken as u64);
-    let e = fields(&mut *out, d, s, table, p);
+    let e = fields(&mut *out, d, s, table, style, p);
     output::word(&mut *out, e, b"\n")
+}
+
+// The kind of a first byte: its word, or its number where there is none.
+fn kind_or_number(out: &mut [u8], at: usize, num: u8) -> usize {
+    let shown = kinds::word_of(num);
+    if shown.len == 0 {
+        return output::decimal(&mut *out, at, num as u64);
+    }
+    kind_word(&mut *out, at, num)
+}
+
+// Of a frame of `size` bytes that begins with `first` and is longer than the buffer.
+pub fn skipped(
+    out: &mut [u8],
+    at: usize,
+    offset: u64,
+    first: u8,
+    size: u64,
+    colour: bool,
+) -> usize {
+    let a = output::paint(&mut *out, at, colour, b"\x1B[33m");
+    let b = output::decimal(&mut *out, a, offset);
+    let c = output::word(&mut *out, b, b" skipped ");
+    let d = kind_or_number(&mut *out, c, first / 16);
+    let e = field::number(&mut *out, d, b" taken=", size);
+    let f = output::paint(&mut *out, e, colour, b"\x1B[0m");
+    output::word(&mut *out, f, b"\n")
 }

@@ -13,6 +13,7 @@ use words::Asked;
 // The file that is named by a word.
 fn read_file(a: Asked, filter: &[u8]) -> u8 {
     let limit = a.limit;
+    let style = a.style;
     let mut path = io::buffer();
     let n = os::arg(a.file, &mut path);
     let name = &path[..n];
@@ -21,7 +22,7 @@ fn read_file(a: Asked, filter: &[u8]) -> u8 {
         output::fail(name);
         return 1;
     }
-    let status = stream::read(fd, name, limit, filter);
+    let status = stream::read(fd, name, limit, filter, style);
     libc::close(fd);
     status
 }
@@ -30,7 +31,8 @@ fn read_file(a: Asked, filter: &[u8]) -> u8 {
 fn read(a: Asked, filter: &[u8]) -> u8 {
     if a.file == 0 {
         let limit = a.limit;
-        return stream::read(libc::STDIN_FILENO, b"standard input", limit, filter);
+        let style = a.style;
+        return stream::read(libc::STDIN_FILENO, b"standard input", limit, filter, style);
     }
     read_file(a, filter)
 }

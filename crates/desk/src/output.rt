@@ -101,6 +101,14 @@ pub fn shown(out: &mut [u8], at: usize, s: &[u8]) -> usize {
     next
 }
 
+// What begins and ends a colour, if lines are coloured.
+pub fn paint(out: &mut [u8], at: usize, colour: bool, w: &[u8]) -> usize {
+    if colour {
+        return word(&mut *out, at, w);
+    }
+    at
+}
+
 // The line of a refusal, which is shorter than 160 bytes.
 pub fn refused(out: &mut [u8], at: usize, offset: u64, e: Error, taken: usize) -> usize {
     let from = room(&*out, at, 160);
@@ -128,7 +136,7 @@ pub fn fail(name: &[u8]) {
 pub fn usage() {
     io::write_all(
         libc::STDERR_FILENO,
-        b"usage: desk [--limit N] [--topic FILTER] [FILE]\n",
+        b"usage: desk [--limit N] [--topic FILTER] [--payload N] [FILE]\n",
     );
 }
 

@@ -1,13 +1,15 @@
 // The stream, frame by frame: what is held of it in the buffer is read, a line is put for each frame, and more is read where a frame is
-// unfinished. An unfinished frame moves to the front of the buffer, once at most.
+// unfinished. An unfinished frame moves to the front of the buffer, once at most; one that is longer than the buffer is passed over.
 use crate::line;
 use crate::output;
+use byte_puts::put_bytes;
 use records::answer::Limit;
 use records::answer::Read;
 use records::error::Error;
 use records::packet_record::Packet;
 use records::span::Span;
 use wire::string;
+use words::Style;
 ghost use mathlib.Core.Path.{_≡_};
 ghost use Prim.Native.Nat.{_+_, _≤_};
 ghost use lib.ListN.{length};
@@ -20,7 +22,7 @@ const GOING: u8 = 0;
 const ENDED: u8 = 1;
 // All was read.
 const DONE: u8 = 2;
-// A refusal took nothing, or the next frame is longer than the buffer.
+// A refusal took nothing.
 const STOPPED: u8 = 3;
 // The input could not be read.
 const UNREADABLE: u8 = 4;
@@ -33,8 +35,17 @@ struct Desk {
     // where the next frame starts in the stream
     offset: u64,
     state: u8,
-    // no filter is given: refusals have their lines too
+    // no filter is given: refusals, and frames that are passed over, have their lines too
     all: bool,
+    // of a frame that is passed over: the bytes yet to come, its first byte, all its bytes
+    skip: usize,
+    first: u8,
+    size: u64,
+    // how many frames were passed over
+    skipped: u64,
+    // of a frame above the limit: its bytes, and the limit
+    over: usize,
+    most: usize,
 }
 
 // 1 MiB
@@ -79,23 +90,41 @@ fn passed(mut d: Desk, put: usize, taken: usize) -> Desk {
 }
 
 // Where the output goes on after the line of a refusal, which is put if no filter is given.
-fn refused_line(out: &mut [u8], d: Desk, e: Error, taken: usize) -> usize {
+fn refused_line(out: &mut [u8], d: Desk, colour: bool, e: Error, taken: usize) -> usize {
     if d.all {
-        return output::refused(&mut *out, d.put, d.offset, e, taken);
+        let a = output::paint(&mut *out, d.put, colour, b"\x1B[31m");
+        let b = output::refused(&mut *out, a, d.offset, e, taken);
+        return output::paint(&mut *out, b, colour, b"\x1B[0m");
     }
     d.put
 }
 
+// What refusal 3 says is kept for standard error.
+fn over_limit(mut d: Desk, e: Error) -> Desk {
+    if let Error::PayloadSizeLimitExceeded(size, most) = e {
+        d.over = size;
+        d.most = most;
+    }
+    d
+}
+
 // A refusal; that of no byte at all is the end of the stream.
-fn refused(out: &mut [u8], tally: &mut [u64], mut d: Desk, e: Error, taken: usize) -> Desk {
+fn refused(
+    out: &mut [u8],
+    tally: &mut [u64],
+    colour: bool,
+    mut d: Desk,
+    e: Error,
+    taken: usize,
+) -> Desk {
     let held = d.held;
     if held.len == 0 {
         d.state = DONE;
         return d;
     }
-    let put = refused_line(&mut *out, d, e, taken);
+    let put = refused_line(&mut *out, d, colour, e, taken);
     desk_summary::add_refused(&mut *tally, e);
-    passed(d, put, taken)
+    passed(over_limit(d, e), put, taken)
 }
 
 // The bytes from `start` on, `len` of them, to the front.
@@ -158,14 +187,23 @@ fn fill(fd: i32, buf: &mut [u8], mut d: Desk) -> Desk {
     d
 }
 
-// The plain words for a frame that is too long, on standard error, if what was put before is written.
-fn too_long(out: &mut [u8], mut d: Desk, size: u64) -> Desk {
-    d.state = STOPPED;
-    if output::is_lost(&*out, d.put) {
-        return d;
+// The first byte of what is held.
+fn first_of(buf: &[u8], held: Span) -> u8 {
+    let start = held.start;
+    if start < buf.len() {
+        return buf[start];
     }
-    let len = lines::put_too_long(&mut *out, d.offset, size, 1048576);
-    output::tell(&*out, len);
+    0
+}
+
+// From here on the frame that fills the buffer, and lacks so many bytes, is passed over.
+fn skipping(mut d: Desk, first: u8, lacks: usize) -> Desk {
+    let held = d.held;
+    d.first = first;
+    d.size = std::num::wrapping_add_u64(held.len as u64, lacks as u64);
+    d.skip = lacks;
+    let none = Span { start: 0, len: 0 };
+    d.held = none;
     d
 }
 
@@ -175,8 +213,7 @@ fn more(fd: i32, buf: &mut [u8], out: &mut [u8], mut d: Desk, lacks: usize) -> D
     let held = with_room(&mut *buf, d.held);
     d.held = held;
     if buf.len() <= held.len {
-        let size = std::num::wrapping_add_u64(held.len as u64, lacks as u64);
-        return too_long(&mut *out, d, size);
+        return skipping(d, first_of(&*buf, held), lacks);
     }
     fill(fd, &mut *buf, d)
 }
@@ -186,6 +223,7 @@ fn unread(
     buf: &mut [u8],
     out: &mut [u8],
     tally: &mut [u64],
+    colour: bool,
     d: Desk,
     e: Error,
     taken: usize,
@@ -194,7 +232,79 @@ fn unread(
     if 0 < lacks {
         return more(fd, &mut *buf, &mut *out, d, lacks);
     }
-    refused(&mut *out, &mut *tally, d, e, taken)
+    refused(&mut *out, &mut *tally, colour, d, e, taken)
+}
+
+// The line of a frame that was passed over.
+fn skipped_line(out: &mut [u8], d: Desk, colour: bool) -> usize {
+    if d.all {
+        return line::skipped(&mut *out, d.put, d.offset, d.first, d.size, colour);
+    }
+    d.put
+}
+
+// A Publish that was passed over may have set an alias: no topic is known any more.
+fn forget(table: &mut [u8], first: u8) {
+    if first / 16 == 3 {
+        put_bytes(&mut *table, 0, &fresh());
+    }
+}
+
+// Its last byte is passed.
+fn skipped(table: &mut [u8], out: &mut [u8], mut d: Desk, colour: bool) -> Desk {
+    forget(&mut *table, d.first);
+    let put = skipped_line(&mut *out, d, colour);
+    d.put = put;
+    d.offset = std::num::wrapping_add_u64(d.offset, d.size);
+    d.skipped = std::num::wrapping_add_u64(d.skipped, 1);
+    d
+}
+
+// What is held belongs to it, so many bytes at most.
+fn pass_held(mut d: Desk) -> Desk {
+    let held = d.held;
+    if held.len < d.skip {
+        d.skip = d.skip - held.len;
+        let none = Span { start: 0, len: 0 };
+        d.held = none;
+        return d;
+    }
+    let start = std::num::wrapping_add_usize(held.start, d.skip);
+    let len = held.len - d.skip;
+    let rest = Span { start, len };
+    d.held = rest;
+    d.skip = 0;
+    d
+}
+
+fn cut_off(out: &mut [u8], tally: &mut [u64], colour: bool, mut d: Desk) -> Desk {
+    let e = Error::InsufficientBytes(d.skip);
+    let put = refused_line(&mut *out, d, colour, e, 0);
+    d.put = put;
+    counts::add_refused(&mut *tally, e);
+    d.state = STOPPED;
+    d
+}
+
+// One read of a frame that is passed over; where the input ends inside it, it lacks what is yet to come.
+fn pass_over(
+    fd: i32,
+    buf: &mut [u8],
+    table: &mut [u8],
+    out: &mut [u8],
+    tally: &mut [u64],
+    colour: bool,
+    d: Desk,
+) -> Desk {
+    let got = fill(fd, &mut *buf, d);
+    if got.state == ENDED {
+        return cut_off(&mut *out, &mut *tally, colour, got);
+    }
+    let left = pass_held(got);
+    if left.skip == 0 {
+        return skipped(&mut *table, &mut *out, left, colour);
+    }
+    left
 }
 
 // The same after the line of a packet, which is put if the filter lets it pass.
@@ -203,12 +313,13 @@ fn packet_line(
     filter: &[u8],
     table: &[u8],
     out: &mut [u8],
+    style: Style,
     d: Desk,
     p: Packet,
     taken: usize,
 ) -> usize {
     if desk_topic::is_shown(filter, s, table, p) {
-        return line::packet(&mut *out, d.put, d.offset, s, table, p, taken);
+        return line::packet(&mut *out, d.put, d.offset, s, table, style, p, taken);
     }
     d.put
 }
@@ -219,18 +330,19 @@ fn accepted(
     table: &mut [u8],
     out: &mut [u8],
     tally: &mut [u64],
+    style: Style,
     d: Desk,
     p: Packet,
     taken: usize,
 ) -> Desk {
     desk_topic::learn(&mut *table, s, p);
-    let put = packet_line(s, filter, &*table, &mut *out, d, p, taken);
+    let put = packet_line(s, filter, &*table, &mut *out, style, d, p, taken);
     desk_summary::add_packet(&mut *tally, p);
     passed(d, put, taken)
 }
 
-// One frame, or one read.
-fn turn(
+// One frame, or one read for it.
+fn read_frame(
     fd: i32,
     limit: Limit,
     filter: &[u8],
@@ -238,6 +350,7 @@ fn turn(
     table: &mut [u8],
     out: &mut [u8],
     tally: &mut [u64],
+    style: Style,
     d: Desk,
 ) -> Desk {
     let s = string::part(&*buf, d.held);
@@ -248,12 +361,57 @@ fn turn(
             &mut *table,
             &mut *out,
             &mut *tally,
+            style,
             d,
             p,
             taken,
         ),
-        Read::Refused(e, taken) => unread(fd, &mut *buf, &mut *out, &mut *tally, d, e, taken),
+        Read::Refused(e, taken) => unread(
+            fd,
+            &mut *buf,
+            &mut *out,
+            &mut *tally,
+            style.colour,
+            d,
+            e,
+            taken,
+        ),
     }
+}
+
+fn turn(
+    fd: i32,
+    limit: Limit,
+    filter: &[u8],
+    buf: &mut [u8],
+    table: &mut [u8],
+    out: &mut [u8],
+    tally: &mut [u64],
+    style: Style,
+    d: Desk,
+) -> Desk {
+    if 0 < d.skip {
+        return pass_over(
+            fd,
+            &mut *buf,
+            &mut *table,
+            &mut *out,
+            &mut *tally,
+            style.colour,
+            d,
+        );
+    }
+    read_frame(
+        fd,
+        limit,
+        filter,
+        &mut *buf,
+        &mut *table,
+        &mut *out,
+        &mut *tally,
+        style,
+        d,
+    )
 }
 
 fn is_going(out: &[u8], d: Desk) -> bool {
@@ -261,6 +419,23 @@ fn is_going(out: &[u8], d: Desk) -> bool {
         return false;
     }
     d.state <= ENDED
+}
+
+// Before the first frame.
+fn begun(all: bool) -> Desk {
+    Desk {
+        held: Span { start: 0, len: 0 },
+        put: 0,
+        offset: 0,
+        state: GOING,
+        all,
+        skip: 0,
+        first: 0,
+        size: 0,
+        skipped: 0,
+        over: 0,
+        most: 0,
+    }
 }
 
 // A proved loop has to end, and nothing says that a stream does. So the loop counts its turns down, from a number that no run uses up.
@@ -272,14 +447,9 @@ fn read_all(
     table: &mut [u8],
     out: &mut [u8],
     tally: &mut [u64],
+    style: Style,
 ) -> Desk {
-    let mut d = Desk {
-        held: Span { start: 0, len: 0 },
-        put: 0,
-        offset: 0,
-        state: GOING,
-        all: filter.len() == 0,
-    };
+    let mut d = begun(filter.len() == 0);
     let mut turns: u64 = 18446744073709551615;
     while 0 < turns {
         d = turn(
@@ -290,6 +460,7 @@ fn read_all(
             &mut *table,
             &mut *out,
             &mut *tally,
+            style,
             d,
         );
         if !is_going(&*out, d) {
@@ -300,12 +471,41 @@ fn read_all(
     d
 }
 
+// What was above the limit, on standard error.
+fn tell_over(out: &mut [u8], d: Desk) {
+    if d.over == 0 {
+        return;
+    }
+    let a = lines::put_number(&mut *out, 0, b"desk: the frame at offset ", d.offset);
+    let b = lines::put_number(&mut *out, a as u16, b" has ", d.over as u64);
+    let c = lines::put_number(
+        &mut *out,
+        b as u16,
+        b" bytes, and the limit is ",
+        d.most as u64,
+    );
+    let len = lines::put_word(&mut *out, c as u16, b": stopped there\n");
+    output::tell(&*out, len);
+}
+
+// How many frames were passed over, on standard error, if any was.
+fn tell_skipped(out: &mut [u8], d: Desk) {
+    if d.skipped == 0 {
+        return;
+    }
+    let a = lines::put_number(&mut *out, 0, b"desk: skipped=", d.skipped);
+    let len = lines::put_word(&mut *out, a as u16, b" longer than 1048576 bytes\n");
+    output::tell(&*out, len);
+}
+
 // Writes what is left of the output, then what was read, on standard error; gives the exit status.
 fn finish(out: &mut [u8], tally: &[u64], d: Desk) -> u8 {
     if output::is_lost(&*out, output::flush(&*out, d.put)) {
         output::fail(b"standard output");
         return 1;
     }
+    tell_over(&mut *out, d);
+    tell_skipped(&mut *out, d);
     let len = desk_summary::put_summary(&mut *out, tally, d.offset);
     output::tell(&*out, len);
     if d.state == DONE {
@@ -315,7 +515,7 @@ fn finish(out: &mut [u8], tally: &[u64], d: Desk) -> u8 {
 }
 
 // Reads the stream to its end, or to where it stops; gives the exit status.
-pub fn read(fd: i32, name: &[u8], limit: Limit, filter: &[u8]) -> u8 {
+pub fn read(fd: i32, name: &[u8], limit: Limit, filter: &[u8], style: Style) -> u8 {
     let mut buf = buffer();
     let mut table = fresh();
     let mut out = io::large_buffer();
@@ -328,6 +528,7 @@ pub fn read(fd: i32, name: &[u8], limit: Limit, filter: &[u8]) -> u8 {
         &mut table,
         &mut out,
         &mut tally,
+        style,
     );
     if d.state == UNREADABLE {
         output::fail(name);

@@ -1,8 +1,25 @@
-// The words that `desk` is started with: `desk [--limit N] [--topic FILTER] [FILE]`, and `--status`, which the script at the top hands over.
+// The words that `desk` is started with: `desk [--limit N] [--topic FILTER] [--payload N] [FILE]`, and `--status` and
+// `--colour`, which the script at the top hands over.
 use records::answer::Limit;
 ghost use mathlib.Core.Path.{_≡_};
 ghost use mathlib.Core.Option.{some};
-ghost use Rattle.words.specs.Words.{same, isOption, grow, numberOf, toldNumber, unasked, withLimit, withName, withWord, withEnd};
+ghost use Rattle.words.specs.Words.{same, isOption, grow, numberOf, toldNumber, saidOf, unasked, asBad, asAwaiting, asStyled, withLimit, withMost, withName, withSaid, withWord, withEnd};
+
+// How lines are shown.
+pub struct Style {
+    // in colour; the script asks for it on a terminal
+    pub colour: bool,
+    // so many bytes of a payload
+    pub most: Limit,
+}
+
+// What the next word is.
+pub enum Awaited {
+    Nothing,
+    Limit,
+    Topic,
+    Payload,
+}
 
 pub struct Asked {
     // which word names the file; 0 for standard input
@@ -14,12 +31,22 @@ pub struct Asked {
     pub bad: bool,
     // the file, or `-`, was named
     pub named: bool,
-    // the next word is the limit
-    pub awaits: bool,
     // which word is the filter of topics; 0 for none
     pub topic: usize,
-    // the next word is the filter
-    pub seeks: bool,
+    pub style: Style,
+    pub awaits: Awaited,
+}
+
+// What a word says that no other waits for.
+enum Said {
+    Limit,
+    Topic,
+    Payload,
+    Colour,
+    Status,
+    // an option that is none of desk's
+    Unknown,
+    Name,
 }
 
 enum Parsed {
@@ -96,20 +123,85 @@ fn is_option(w: &[u8]) -> bool
     w[0] == 45
 }
 
+// What a word says.
+fn said_by(w: &[u8]) -> Said
+    ensures { λ r. ⌜ r ≡ saidOf (now (w .entry)) ⌝ }
+{
+    if is_same(w, b"--limit") {
+        return Said::Limit;
+    }
+    if is_same(w, b"--topic") {
+        return Said::Topic;
+    }
+    if is_same(w, b"--payload") {
+        return Said::Payload;
+    }
+    if is_same(w, b"--colour") {
+        return Said::Colour;
+    }
+    if is_same(w, b"--status") {
+        return Said::Status;
+    }
+    if is_option(w) {
+        return Said::Unknown;
+    }
+    Said::Name
+}
+
+fn as_bad(a: Asked) -> Asked
+    ensures { λ r. ⌜ r ≡ asBad a ⌝ }
+{
+    Asked {
+        bad: true,
+        awaits: Awaited::Nothing,
+        ..a
+    }
+}
+
+fn awaiting(a: Asked, awaits: Awaited) -> Asked
+    ensures { λ r. ⌜ r ≡ asAwaiting a awaits ⌝ }
+{
+    Asked { awaits, ..a }
+}
+
+fn styled(a: Asked, style: Style) -> Asked
+    ensures { λ r. ⌜ r ≡ asStyled a style ⌝ }
+{
+    Asked {
+        style,
+        awaits: Awaited::Nothing,
+        ..a
+    }
+}
+
+// N behind `--limit`.
 fn with_limit(a: Asked, w: &[u8]) -> Asked
     ensures { λ r. ⌜ r ≡ withLimit a (numberOf (now (w .entry))) ⌝ }
 {
     match number(w) {
         Parsed::Value(n) => Asked {
             limit: Limit::AtMost(n),
-            awaits: false,
+            awaits: Awaited::Nothing,
             ..a
         },
-        Parsed::Bad => Asked {
-            bad: true,
-            awaits: false,
-            ..a
-        },
+        Parsed::Bad => as_bad(a),
+    }
+}
+
+// N behind `--payload`.
+fn with_most(a: Asked, w: &[u8]) -> Asked
+    ensures { λ r. ⌜ r ≡ withMost a (numberOf (now (w .entry))) ⌝ }
+{
+    let style = a.style;
+    match number(w) {
+        Parsed::Value(n) => styled(
+            a,
+            Style {
+                most: Limit::AtMost(n),
+                ..style
+            },
+        ),
+        Parsed::Bad => as_bad(a),
     }
 }
 
@@ -118,7 +210,7 @@ fn with_name(a: Asked, w: &[u8], i: usize) -> Asked
     ensures { λ r. ⌜ r ≡ withName a (now (w .entry)) i ⌝ }
 {
     if a.named {
-        return Asked { bad: true, ..a };
+        return as_bad(a);
     }
     if is_same(w, b"-") {
         return Asked { named: true, ..a };
@@ -140,9 +232,34 @@ pub fn none() -> Asked
         status: false,
         bad: false,
         named: false,
-        awaits: false,
         topic: 0,
-        seeks: false,
+        style: Style {
+            colour: false,
+            most: Limit::Unlimited,
+        },
+        awaits: Awaited::Nothing,
+    }
+}
+
+// With a word that no other waits for.
+fn with_said(a: Asked, said: Said, w: &[u8], i: usize) -> Asked
+    ensures { λ r. ⌜ r ≡ withSaid a said (now (w .entry)) i ⌝ }
+{
+    let style = a.style;
+    match said {
+        Said::Limit => awaiting(a, Awaited::Limit),
+        Said::Topic => awaiting(a, Awaited::Topic),
+        Said::Payload => awaiting(a, Awaited::Payload),
+        Said::Colour => styled(
+            a,
+            Style {
+                colour: true,
+                ..style
+            },
+        ),
+        Said::Status => Asked { status: true, ..a },
+        Said::Unknown => as_bad(a),
+        Said::Name => with_name(a, w, i),
     }
 }
 
@@ -150,42 +267,28 @@ pub fn none() -> Asked
 pub fn with_word(a: Asked, w: &[u8], i: usize) -> Asked
     ensures { λ r. ⌜ r ≡ withWord a (now (w .entry)) i ⌝ }
 {
-    if a.awaits {
-        return with_limit(a, w);
-    }
-    if a.seeks {
-        return Asked {
+    let awaits = a.awaits;
+    match awaits {
+        Awaited::Limit => with_limit(a, w),
+        Awaited::Topic => Asked {
             topic: i,
-            seeks: false,
+            awaits: Awaited::Nothing,
             ..a
-        };
+        },
+        Awaited::Payload => with_most(a, w),
+        Awaited::Nothing => with_said(a, said_by(w), w, i),
     }
-    if is_same(w, b"--limit") {
-        return Asked { awaits: true, ..a };
-    }
-    if is_same(w, b"--topic") {
-        return Asked { seeks: true, ..a };
-    }
-    if is_same(w, b"--status") {
-        return Asked { status: true, ..a };
-    }
-    if is_option(w) {
-        return Asked { bad: true, ..a };
-    }
-    with_name(a, w, i)
 }
 
-// What is asked after the last word: a limit or a filter that is awaited still is bad.
+// What is asked after the last word: what is awaited still is bad.
 pub fn ended(a: Asked) -> Asked
     ensures { λ r. ⌜ r ≡ withEnd a ⌝ }
 {
-    let awaited = a.awaits;
-    let sought = a.seeks;
-    if awaited {
-        return Asked { bad: true, ..a };
+    let awaits = a.awaits;
+    match awaits {
+        Awaited::Limit => as_bad(a),
+        Awaited::Topic => as_bad(a),
+        Awaited::Payload => as_bad(a),
+        Awaited::Nothing => a,
     }
-    if sought {
-        return Asked { bad: true, ..a };
-    }
-    a
 }

@@ -4,8 +4,11 @@ use borrow.Author.Needs.{needs}
 use Rattle.words.proofs.with_name.Statement.{statement}
 use Rattle.words.proofs.with_name.Tie as tie
 
+as-bad-requires : tie.Need-as-bad-requires
+as-bad-requires c κs = search needs
+
 returns : tie.Need-returns
-returns c = rw (c .if1 .taken)
+returns c = c .as-bad .ensures ∙ rw (c .before .if1 .taken)
 
 slice-aggregate-is-same : tie.Need-slice-aggregate-is-same
 slice-aggregate-is-same c = search needs
@@ -14,11 +17,18 @@ is-same-requires : tie.Need-is-same-requires
 is-same-requires c κs = search needs
 
 returns-2 : tie.Need-returns-2
-returns-2 c = rw (c .before .before .before .if1 .left, sym (c .before .is-same .ensures) ∙ c .if2 .taken)
+returns-2 c = rw (c .before .before .before .before .if1 .left, sym (c .before .before .is-same .ensures) ∙ c .before .if2 .taken)
 
 returns-3 : tie.Need-returns-3
-returns-3 c = rw (c .before .before .before .if1 .left, sym (c .before .is-same .ensures) ∙ c .if2 .left)
+returns-3 c = rw (c .before .before .before .before .if1 .left, sym (c .before .before .is-same .ensures) ∙ c .before .if2 .left)
 
 pub with-name-spec : {M : Type 1} → statement M
 with-name-spec =
-    tie.close (tie.spec returns slice-aggregate-is-same is-same-requires returns-2 returns-3)
+    tie.close
+    (tie.spec
+    as-bad-requires
+    returns
+    slice-aggregate-is-same
+    is-same-requires
+    returns-2
+    returns-3)

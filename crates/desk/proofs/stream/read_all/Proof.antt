@@ -6,10 +6,13 @@ use Rattle.desk.proofs.stream.read_all.Statement.{statement}
 use Rattle.desk.proofs.stream.read_all.Tie as tie
 
 abbrev Inv-loop : tie.InvT-loop
-Inv-loop fd limit filter buf₀ table₀ out₀ tally₀ d₀ turns₀ buf table out tally d turns = (length buf ≡ length buf₀) × (length table ≡ length table₀) × (length out ≡ length out₀) × (length tally ≡ length tally₀)
+Inv-loop fd limit filter buf₀ table₀ out₀ tally₀ style d₀ turns₀ buf table out tally d turns = (length buf ≡ length buf₀) × (length table ≡ length table₀) × (length out ≡ length out₀) × (length tally ≡ length tally₀)
 
 abbrev μ-loop : tie.MeasureT-loop
-μ-loop fd limit filter buf₀ table₀ out₀ tally₀ d₀ turns₀ buf table out tally d turns = turns
+μ-loop fd limit filter buf₀ table₀ out₀ tally₀ style d₀ turns₀ buf table out tally d turns = turns
+
+begun-requires : tie.Need-begun-requires Inv-loop μ-loop
+begun-requires c κs = search needs
 
 loop-holds : tie.Need-loop-holds Inv-loop μ-loop
 loop-holds c = search needs
@@ -65,6 +68,7 @@ read-all-spec =
     (tie.spec
     Inv-loop
     μ-loop
+    begun-requires
     loop-holds
     turn-requires
     is-going-requires
