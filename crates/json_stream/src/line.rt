@@ -195,7 +195,14 @@ pub fn packet(
     p: Packet,
     taken: usize,
 ) -> usize {
-    let a = head(&mut *out, at, index, offset, desk_summary::number_in(p), taken);
+    let a = head(
+        &mut *out,
+        at,
+        index,
+        offset,
+        desk_summary::number_in(p),
+        taken,
+    );
     let b = fields(&mut *out, a, s, table, p);
     output::word(&mut *out, b, b"}\n")
 }
