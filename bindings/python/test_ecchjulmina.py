@@ -218,6 +218,16 @@ class TheLinesOfDesk(unittest.TestCase):
             {'offset': 2097164, 'kind': 'pingresp', 'taken': 2},
         ])
 
+    def test_text(self):
+        """UTF-8 as text, or by its bytes: the same dict."""
+        stream = bytes.fromhex('30 10 00 0B 57 65 72 6B 2F 4C C3 A4 6E 67 65 00 C3 A9')
+        plain, escaped = desk(stream), desk(stream, '--ascii')
+        self.assertIn('topic="Werk/Länge"'.encode(), plain[0])
+        self.assertIn(rb'topic="Werk/L\xC3\xA4nge"', escaped[0])
+        self.assertEqual(list(lines(plain)), list(lines(escaped)))
+        got, = lines(plain)
+        self.assertEqual((got['topic'], got['payload']), ('Werk/Länge', b'\xC3\xA9'))
+
     def test_cut(self):
         got, = lines(desk(AB, '--payload', '1'))
         self.assertEqual((got['payload'], got['payload_bytes']), (b'h', 2))

@@ -23,30 +23,37 @@ pub fn reason(out: &mut [u8], at: usize, b: u8) -> usize {
 }
 
 // The part of s at a place, and the quote behind it.
-pub fn part(out: &mut [u8], at: usize, name: &[u8], s: &[u8], place: Span) -> usize {
+pub fn part(out: &mut [u8], at: usize, name: &[u8], ascii: bool, s: &[u8], place: Span) -> usize {
     let value = output::word(&mut *out, at, name);
-    let end = output::shown(&mut *out, value, string::part(s, place));
+    let end = output::shown(&mut *out, value, string::part(s, place), ascii);
     output::word(&mut *out, end, b"\"")
 }
 
 // The first n bytes of a payload, and how many it has.
-fn cut(out: &mut [u8], at: usize, s: &[u8], place: Span, n: usize) -> usize {
+fn cut(out: &mut [u8], at: usize, ascii: bool, s: &[u8], place: Span, n: usize) -> usize {
     let front = Span {
         start: place.start,
         len: n,
     };
-    let a = part(&mut *out, at, b" payload=\"", s, front);
+    let a = part(&mut *out, at, b" payload=\"", ascii, s, front);
     number(&mut *out, a, b" payload-bytes=", place.len as u64)
 }
 
 // A payload, or so many bytes of it, at most, and then how many it has.
-pub fn payload(out: &mut [u8], at: usize, s: &[u8], place: Span, most: Limit) -> usize {
+pub fn payload(
+    out: &mut [u8],
+    at: usize,
+    ascii: bool,
+    s: &[u8],
+    place: Span,
+    most: Limit,
+) -> usize {
     if let Limit::AtMost(n) = most {
         if n < place.len {
-            return cut(&mut *out, at, s, place, n);
+            return cut(&mut *out, at, ascii, s, place, n);
         }
     }
-    part(&mut *out, at, b" payload=\"", s, place)
+    part(&mut *out, at, b" payload=\"", ascii, s, place)
 }
 
 // The fields that may be absent, and are then no field.
@@ -71,9 +78,16 @@ pub fn u32_if(out: &mut [u8], at: usize, name: &[u8], n: MaybeU32) -> usize {
     }
 }
 
-pub fn part_if(out: &mut [u8], at: usize, name: &[u8], s: &[u8], place: MaybeSpan) -> usize {
+pub fn part_if(
+    out: &mut [u8],
+    at: usize,
+    name: &[u8],
+    ascii: bool,
+    s: &[u8],
+    place: MaybeSpan,
+) -> usize {
     match place {
         MaybeSpan::Absent => at,
-        MaybeSpan::Present(p) => part(&mut *out, at, name, s, p),
+        MaybeSpan::Present(p) => part(&mut *out, at, name, ascii, s, p),
     }
 }

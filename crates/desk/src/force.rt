@@ -21,10 +21,10 @@ fn refused(out: &mut [u8], at: usize, e: AliasError) -> usize {
     output::word(&mut *out, b, string::part(&bytes, text))
 }
 
-pub fn topic(out: &mut [u8], at: usize, s: &[u8], table: &[u8], m: Publish) -> usize {
+pub fn topic(out: &mut [u8], at: usize, ascii: bool, s: &[u8], table: &[u8], m: Publish) -> usize {
     match alias::place_in_force(s, table, m) {
         Placed::InPacket(_) => at,
-        Placed::InTable(p) => field::part(&mut *out, at, b" topic-in-force=\"", table, p),
+        Placed::InTable(p) => field::part(&mut *out, at, b" topic-in-force=\"", ascii, table, p),
         Placed::Refused(e) => refused(&mut *out, at, e),
     }
 }

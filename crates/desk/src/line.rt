@@ -34,16 +34,29 @@ fn flags(out: &mut [u8], at: usize, dup: bool, q: u8, retain: bool) -> usize {
     output::word(&mut *out, at, &text)
 }
 
-fn publish_head(out: &mut [u8], at: usize, s: &[u8], table: &[u8], m: Publish) -> usize {
+fn publish_head(
+    out: &mut [u8],
+    at: usize,
+    ascii: bool,
+    s: &[u8],
+    table: &[u8],
+    m: Publish,
+) -> usize {
     let qos = m.qos;
     let q = codes::qos_number(qos);
     let a = flags(&mut *out, at, m.dup, q, m.retain);
-    let b = field::part(&mut *out, a, b" topic=\"", s, m.topic);
-    let c = force::topic(&mut *out, b, s, table, m);
+    let b = field::part(&mut *out, a, b" topic=\"", ascii, s, m.topic);
+    let c = force::topic(&mut *out, b, ascii, s, table, m);
     identifier(&mut *out, c, q, m.pkid)
 }
 
-fn publish_singles(out: &mut [u8], at: usize, s: &[u8], p: PublishProperties) -> usize {
+fn publish_singles(
+    out: &mut [u8],
+    at: usize,
+    ascii: bool,
+    s: &[u8],
+    p: PublishProperties,
+) -> usize {
     let format = p.payload_format_indicator;
     let expiry = p.message_expiry_interval;
     let alias = p.topic_alias;
@@ -52,23 +65,35 @@ fn publish_singles(out: &mut [u8], at: usize, s: &[u8], p: PublishProperties) ->
     let a = field::u8_if(&mut *out, at, b" payload-format=", format);
     let b = field::u32_if(&mut *out, a, b" message-expiry=", expiry);
     let c = field::u16_if(&mut *out, b, b" topic-alias=", alias);
-    let d = field::part_if(&mut *out, c, b" response-topic=\"", s, response);
-    field::part_if(&mut *out, d, b" correlation-data=\"", s, correlation)
+    let d = field::part_if(&mut *out, c, b" response-topic=\"", ascii, s, response);
+    field::part_if(&mut *out, d, b" correlation-data=\"", ascii, s, correlation)
 }
 
-fn publish_properties(out: &mut [u8], at: usize, s: &[u8], p: PublishProperties) -> usize {
+fn publish_properties(
+    out: &mut [u8],
+    at: usize,
+    ascii: bool,
+    s: &[u8],
+    p: PublishProperties,
+) -> usize {
     let block = p.block;
     let content = p.content_type;
-    let a = publish_singles(&mut *out, at, s, p);
-    let b = list::users(&mut *out, a, PropertyPlace::Publish, s, block);
-    let c = list::identifiers(&mut *out, b, s, block);
-    field::part_if(&mut *out, c, b" content-type=\"", s, content)
+    let a = publish_singles(&mut *out, at, ascii, s, p);
+    let b = list::users(&mut *out, a, PropertyPlace::Publish, ascii, s, block);
+    let c = list::identifiers(&mut *out, b, ascii, s, block);
+    field::part_if(&mut *out, c, b" content-type=\"", ascii, s, content)
 }
 
-fn publish_block(out: &mut [u8], at: usize, s: &[u8], properties: MaybePublishProperties) -> usize {
+fn publish_block(
+    out: &mut [u8],
+    at: usize,
+    ascii: bool,
+    s: &[u8],
+    properties: MaybePublishProperties,
+) -> usize {
     match properties {
         MaybePublishProperties::Absent => at,
-        MaybePublishProperties::Present(p) => publish_properties(&mut *out, at, s, p),
+        MaybePublishProperties::Present(p) => publish_properties(&mut *out, at, ascii, s, p),
     }
 }
 
@@ -81,10 +106,10 @@ fn publish_of(
     m: Publish,
 ) -> usize {
     let properties = m.properties;
-    let a = publish_head(&mut *out, at, s, table, m);
-    let b = publish_block(&mut *out, a, s, properties);
+    let a = publish_head(&mut *out, at, style.ascii, s, table, m);
+    let b = publish_block(&mut *out, a, style.ascii, s, properties);
     let most = style.most;
-    field::payload(&mut *out, b, s, m.payload, most)
+    field::payload(&mut *out, b, style.ascii, s, m.payload, most)
 }
 
 // The block of any other kind; what its place does not have is absent.
@@ -92,6 +117,7 @@ fn block(
     out: &mut [u8],
     at: usize,
     place: PropertyPlace,
+    ascii: bool,
     s: &[u8],
     properties: MaybeProperties,
 ) -> usize {
@@ -101,54 +127,61 @@ fn block(
             let text = p.reason_string;
             let id = p.id;
             let held = p.block;
-            let a = field::part_if(&mut *out, at, b" reason-string=\"", s, text);
+            let a = field::part_if(&mut *out, at, b" reason-string=\"", ascii, s, text);
             let b = field::u32_if(&mut *out, a, b" subscription-id=", id);
-            list::users(&mut *out, b, place, s, held)
+            list::users(&mut *out, b, place, ascii, s, held)
         }
     }
 }
 
 // PubAck, PubRec, PubRel, PubComp.
-fn ack_of(out: &mut [u8], at: usize, s: &[u8], m: Ack) -> usize {
+fn ack_of(out: &mut [u8], at: usize, ascii: bool, s: &[u8], m: Ack) -> usize {
     let properties = m.properties;
     let a = field::id(&mut *out, at, m.pkid);
     let b = field::reason(&mut *out, a, m.reason);
-    block(&mut *out, b, PropertyPlace::Ack, s, properties)
+    block(&mut *out, b, PropertyPlace::Ack, ascii, s, properties)
 }
 
-fn subscribe_of(out: &mut [u8], at: usize, s: &[u8], m: Subscribe) -> usize {
+fn subscribe_of(out: &mut [u8], at: usize, ascii: bool, s: &[u8], m: Subscribe) -> usize {
     let properties = m.properties;
     let filters = m.filters;
     let a = field::id(&mut *out, at, m.pkid);
-    let b = block(&mut *out, a, PropertyPlace::Subscribe, s, properties);
-    list::filters(&mut *out, b, s, filters)
+    let b = block(&mut *out, a, PropertyPlace::Subscribe, ascii, s, properties);
+    list::filters(&mut *out, b, ascii, s, filters)
 }
 
 // SubAck, UnsubAck.
-fn reply_of(out: &mut [u8], at: usize, s: &[u8], m: Reply) -> usize {
+fn reply_of(out: &mut [u8], at: usize, ascii: bool, s: &[u8], m: Reply) -> usize {
     let properties = m.properties;
     let reasons = m.reasons;
     let a = field::id(&mut *out, at, m.pkid);
-    let b = block(&mut *out, a, PropertyPlace::Ack, s, properties);
-    list::reasons(&mut *out, b, s, reasons)
+    let b = block(&mut *out, a, PropertyPlace::Ack, ascii, s, properties);
+    list::reasons(&mut *out, b, ascii, s, reasons)
 }
 
-fn unsubscribe_of(out: &mut [u8], at: usize, s: &[u8], m: Unsubscribe) -> usize {
+fn unsubscribe_of(out: &mut [u8], at: usize, ascii: bool, s: &[u8], m: Unsubscribe) -> usize {
     let properties = m.properties;
     let topics = m.topics;
     let a = field::id(&mut *out, at, m.pkid);
-    let b = block(&mut *out, a, PropertyPlace::Unsubscribe, s, properties);
-    list::topics(&mut *out, b, s, topics)
+    let b = block(
+        &mut *out,
+        a,
+        PropertyPlace::Unsubscribe,
+        ascii,
+        s,
+        properties,
+    );
+    list::topics(&mut *out, b, ascii, s, topics)
 }
 
 // The fields of the kind; a ping has none.
 fn fields(out: &mut [u8], at: usize, s: &[u8], table: &[u8], style: Style, p: Packet) -> usize {
     match p {
         Packet::Publish(m) => publish_of(&mut *out, at, s, table, style, m),
-        Packet::Ack(_, m) => ack_of(&mut *out, at, s, m),
-        Packet::Subscribe(m) => subscribe_of(&mut *out, at, s, m),
-        Packet::Reply(_, m) => reply_of(&mut *out, at, s, m),
-        Packet::Unsubscribe(m) => unsubscribe_of(&mut *out, at, s, m),
+        Packet::Ack(_, m) => ack_of(&mut *out, at, style.ascii, s, m),
+        Packet::Subscribe(m) => subscribe_of(&mut *out, at, style.ascii, s, m),
+        Packet::Reply(_, m) => reply_of(&mut *out, at, style.ascii, s, m),
+        Packet::Unsubscribe(m) => unsubscribe_of(&mut *out, at, style.ascii, s, m),
         Packet::PingReq => at,
         Packet::PingResp => at,
     }

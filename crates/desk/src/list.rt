@@ -31,14 +31,14 @@ struct Step {
 }
 
 // Key and value of a user property.
-fn user(out: &mut [u8], at: usize, s: &[u8], key: Span, value: Span) -> usize {
-    let a = field::part(&mut *out, at, b" user=\"", s, key);
-    field::part(&mut *out, a, b"=\"", s, value)
+fn user(out: &mut [u8], at: usize, ascii: bool, s: &[u8], key: Span, value: Span) -> usize {
+    let a = field::part(&mut *out, at, b" user=\"", ascii, s, key);
+    field::part(&mut *out, a, b"=\"", ascii, s, value)
 }
 
-fn user_if(out: &mut [u8], at: usize, s: &[u8], v: Value) -> usize {
+fn user_if(out: &mut [u8], at: usize, ascii: bool, s: &[u8], v: Value) -> usize {
     if let Value::Pair(key, value) = v {
-        return user(&mut *out, at, s, key, value);
+        return user(&mut *out, at, ascii, s, key, value);
     }
     at
 }
@@ -52,11 +52,18 @@ fn identifier_if(out: &mut [u8], at: usize, v: Value) -> usize {
 }
 
 // The property at i, if it is a user property.
-fn user_at(out: &mut [u8], at: usize, place: PropertyPlace, s: &[u8], i: usize) -> Step {
+fn user_at(
+    out: &mut [u8],
+    at: usize,
+    place: PropertyPlace,
+    ascii: bool,
+    s: &[u8],
+    i: usize,
+) -> Step {
     match property_value::read_property(place, s, i) {
         GotProperty::Refused(_) => Step { put: at, next: i },
         GotProperty::Found(_, v, next) => {
-            let put = user_if(&mut *out, at, s, v);
+            let put = user_if(&mut *out, at, ascii, s, v);
             Step { put, next }
         }
     }
@@ -82,14 +89,14 @@ fn options(out: &mut [u8], at: usize, q: u8, no_local: bool, preserve: bool, rul
 }
 
 // The text of a filter.
-fn path(out: &mut [u8], at: usize, s: &[u8], place: Span) -> usize {
-    field::part(&mut *out, at, b" filter=\"", s, place)
+fn path(out: &mut [u8], at: usize, ascii: bool, s: &[u8], place: Span) -> usize {
+    field::part(&mut *out, at, b" filter=\"", ascii, s, place)
 }
 
-fn filter_of(out: &mut [u8], at: usize, s: &[u8], f: Filter) -> usize {
+fn filter_of(out: &mut [u8], at: usize, ascii: bool, s: &[u8], f: Filter) -> usize {
     let q = f.qos;
     let rule = f.retain_forward_rule;
-    let a = path(&mut *out, at, s, f.path);
+    let a = path(&mut *out, at, ascii, s, f.path);
     options(
         &mut *out,
         a,
@@ -100,21 +107,21 @@ fn filter_of(out: &mut [u8], at: usize, s: &[u8], f: Filter) -> usize {
     )
 }
 
-fn filter_at(out: &mut [u8], at: usize, s: &[u8], i: usize) -> Step {
+fn filter_at(out: &mut [u8], at: usize, ascii: bool, s: &[u8], i: usize) -> Step {
     match filters::read_filter(s, i) {
         GotFilter::Refused(_) => Step { put: at, next: i },
         GotFilter::Value(f, next) => {
-            let put = filter_of(&mut *out, at, s, f);
+            let put = filter_of(&mut *out, at, ascii, s, f);
             Step { put, next }
         }
     }
 }
 
-fn topic_at(out: &mut [u8], at: usize, s: &[u8], i: usize) -> Step {
+fn topic_at(out: &mut [u8], at: usize, ascii: bool, s: &[u8], i: usize) -> Step {
     match string::read_mqtt_string(s, i) {
         GotSpan::Refused(_) => Step { put: at, next: i },
         GotSpan::Value(topic, next) => {
-            let put = path(&mut *out, at, s, topic);
+            let put = path(&mut *out, at, ascii, s, topic);
             Step { put, next }
         }
     }
@@ -129,22 +136,22 @@ fn reason_at(out: &mut [u8], at: usize, s: &[u8], i: usize) -> Step {
 }
 
 // The item at i.
-fn item(out: &mut [u8], at: usize, items: Items, s: &[u8], i: usize) -> Step {
+fn item(out: &mut [u8], at: usize, items: Items, ascii: bool, s: &[u8], i: usize) -> Step {
     match items {
-        Items::Users(place) => user_at(&mut *out, at, place, s, i),
+        Items::Users(place) => user_at(&mut *out, at, place, ascii, s, i),
         Items::Identifiers => identifier_at(&mut *out, at, s, i),
-        Items::Filters => filter_at(&mut *out, at, s, i),
-        Items::Topics => topic_at(&mut *out, at, s, i),
+        Items::Filters => filter_at(&mut *out, at, ascii, s, i),
+        Items::Topics => topic_at(&mut *out, at, ascii, s, i),
         Items::Reasons => reason_at(&mut *out, at, s, i),
     }
 }
 
 // All items of s; each goes further on.
-fn items_in(out: &mut [u8], at: usize, items: Items, s: &[u8]) -> usize {
+fn items_in(out: &mut [u8], at: usize, items: Items, ascii: bool, s: &[u8]) -> usize {
     let mut put = at;
     let mut i: usize = 0;
     while i < s.len() {
-        let step = item(&mut *out, put, items, s, i);
+        let step = item(&mut *out, put, items, ascii, s, i);
         if step.next <= i {
             return put;
         }
@@ -155,26 +162,45 @@ fn items_in(out: &mut [u8], at: usize, items: Items, s: &[u8]) -> usize {
 }
 
 // The user properties of the block at a place of s.
-pub fn users(out: &mut [u8], at: usize, place: PropertyPlace, s: &[u8], block: Span) -> usize {
-    items_in(&mut *out, at, Items::Users(place), string::part(s, block))
+pub fn users(
+    out: &mut [u8],
+    at: usize,
+    place: PropertyPlace,
+    ascii: bool,
+    s: &[u8],
+    block: Span,
+) -> usize {
+    items_in(
+        &mut *out,
+        at,
+        Items::Users(place),
+        ascii,
+        string::part(s, block),
+    )
 }
 
 // The subscription identifiers of a Publish.
-pub fn identifiers(out: &mut [u8], at: usize, s: &[u8], block: Span) -> usize {
-    items_in(&mut *out, at, Items::Identifiers, string::part(s, block))
+pub fn identifiers(out: &mut [u8], at: usize, ascii: bool, s: &[u8], block: Span) -> usize {
+    items_in(
+        &mut *out,
+        at,
+        Items::Identifiers,
+        ascii,
+        string::part(s, block),
+    )
 }
 
 // The filters of the run at a place of s.
-pub fn filters(out: &mut [u8], at: usize, s: &[u8], run: Span) -> usize {
-    items_in(&mut *out, at, Items::Filters, string::part(s, run))
+pub fn filters(out: &mut [u8], at: usize, ascii: bool, s: &[u8], run: Span) -> usize {
+    items_in(&mut *out, at, Items::Filters, ascii, string::part(s, run))
 }
 
 // The topics of the run at a place of s.
-pub fn topics(out: &mut [u8], at: usize, s: &[u8], run: Span) -> usize {
-    items_in(&mut *out, at, Items::Topics, string::part(s, run))
+pub fn topics(out: &mut [u8], at: usize, ascii: bool, s: &[u8], run: Span) -> usize {
+    items_in(&mut *out, at, Items::Topics, ascii, string::part(s, run))
 }
 
 // The reasons of the run at a place of s.
-pub fn reasons(out: &mut [u8], at: usize, s: &[u8], run: Span) -> usize {
-    items_in(&mut *out, at, Items::Reasons, string::part(s, run))
+pub fn reasons(out: &mut [u8], at: usize, ascii: bool, s: &[u8], run: Span) -> usize {
+    items_in(&mut *out, at, Items::Reasons, ascii, string::part(s, run))
 }

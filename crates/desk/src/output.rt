@@ -85,13 +85,21 @@ pub fn digit(n: u8) -> u8 {
     std::num::wrapping_add_u8(48, n)
 }
 
-// The bytes of s as they stand between quotes; each turn shows one at least, for there is room for one.
-pub fn shown(out: &mut [u8], at: usize, s: &[u8]) -> usize {
+// Is s shown as text? Not where ASCII alone is asked for.
+fn is_text(s: &[u8], ascii: bool) -> bool {
+    if ascii {
+        return false;
+    }
+    utf8::is_utf8(s)
+}
+
+// The bytes of s as they stand between quotes, of text or not; each turn shows one at least, for there is room for one.
+fn shown_as(out: &mut [u8], at: usize, s: &[u8], text: bool) -> usize {
     let mut next = at;
     let mut i: usize = 0;
     while i < s.len() {
         let from = room(&*out, next, 4);
-        let step = render::put_shown(&mut *out, from, &s[i..]);
+        let step = desk_text::put_text(&mut *out, from, s, i, text);
         if step.taken == 0 {
             return LOST;
         }
@@ -99,6 +107,10 @@ pub fn shown(out: &mut [u8], at: usize, s: &[u8]) -> usize {
         next = from + step.put;
     }
     next
+}
+
+pub fn shown(out: &mut [u8], at: usize, s: &[u8], ascii: bool) -> usize {
+    shown_as(&mut *out, at, s, is_text(s, ascii))
 }
 
 // What begins and ends a colour, if lines are coloured.
@@ -136,7 +148,7 @@ pub fn fail(name: &[u8]) {
 pub fn usage() {
     io::write_all(
         libc::STDERR_FILENO,
-        b"usage: desk [--limit N] [--topic FILTER] [--payload N] [FILE]\n",
+        b"usage: desk [--limit N] [--topic FILTER] [--payload N] [--ascii] [FILE]\n",
     );
 }
 

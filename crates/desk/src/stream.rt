@@ -281,7 +281,7 @@ fn cut_off(out: &mut [u8], tally: &mut [u64], colour: bool, mut d: Desk) -> Desk
     let e = Error::InsufficientBytes(d.skip);
     let put = refused_line(&mut *out, d, colour, e, 0);
     d.put = put;
-    counts::add_refused(&mut *tally, e);
+    desk_summary::add_refused(&mut *tally, e);
     d.state = STOPPED;
     d
 }

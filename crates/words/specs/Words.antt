@@ -1,4 +1,4 @@
--- What the words say that `desk` is started with: docs/DESK.md, "desk [--limit N] [--topic FILTER] [--payload N] [FILE]". Assumes nothing.
+-- What the words say that `desk` is started with: docs/DESK.md, "desk [--limit N] [--topic FILTER] [--payload N] [--ascii] [FILE]". Assumes nothing.
 use mathlib.Core.Bool.{Bool, true, false, cond}
 use mathlib.Core.Option.{Option, some, none}
 use mathlib.Core.List.{List, [], _∷_}
@@ -51,13 +51,14 @@ saidOf w =
     cond (same w (codesOf "--limit")) Said.Limit
     (cond (same w (codesOf "--topic")) Said.Topic
     (cond (same w (codesOf "--payload")) Said.Payload
+    (cond (same w (codesOf "--ascii")) Said.Ascii
     (cond (same w (codesOf "--colour")) Said.Colour
     (cond (same w (codesOf "--status")) Said.Status
-    (cond (isOption w) Said.Unknown Said.Name)))))
+    (cond (isOption w) Said.Unknown Said.Name))))))
 
 -- before the first word
 abbrev pub unasked : Asked
-unasked = record { file = 0; limit = Limit.Unlimited; status = false; bad = false; named = false; topic = 0; style = record { colour = false; most = Limit.Unlimited }; awaits = Awaited.Nothing }
+unasked = record { file = 0; limit = Limit.Unlimited; status = false; bad = false; named = false; topic = 0; style = record { ascii = false; colour = false; most = Limit.Unlimited }; awaits = Awaited.Nothing }
 
 -- no words of desk's
 abbrev pub asBad : Asked → Asked
@@ -78,7 +79,7 @@ withLimit a none = asBad a
 
 -- N behind `--payload`
 abbrev pub withMost : Asked → Option ℕ → Asked
-withMost a (some n) = asStyled a (record { colour = a .style .colour; most = Limit.AtMost n })
+withMost a (some n) = asStyled a (record { ascii = a .style .ascii; colour = a .style .colour; most = Limit.AtMost n })
 withMost a none = asBad a
 
 -- FILE, the i-th word, which is named once; `-` is standard input
@@ -97,7 +98,8 @@ abbrev pub withSaid : Asked → Said → List ℕ → ℕ → Asked
 withSaid a Said.Limit w i = asAwaiting a Awaited.Limit
 withSaid a Said.Topic w i = asAwaiting a Awaited.Topic
 withSaid a Said.Payload w i = asAwaiting a Awaited.Payload
-withSaid a Said.Colour w i = asStyled a (record { colour = true; most = a .style .most })
+withSaid a Said.Ascii w i = asStyled a (record { ascii = true; colour = a .style .colour; most = a .style .most })
+withSaid a Said.Colour w i = asStyled a (record { ascii = a .style .ascii; colour = true; most = a .style .most })
 withSaid a Said.Status w i = record { file = a .file; limit = a .limit; status = true; bad = a .bad; named = a .named; topic = a .topic; style = a .style; awaits = a .awaits }
 withSaid a Said.Unknown w i = asBad a
 withSaid a Said.Name w i = withName a w i

@@ -1,4 +1,4 @@
-// The words that `desk` is started with: `desk [--limit N] [--topic FILTER] [--payload N] [FILE]`, and `--status` and
+// The words that `desk` is started with: `desk [--limit N] [--topic FILTER] [--payload N] [--ascii] [FILE]`, and `--status` and
 // `--colour`, which the script at the top hands over.
 use records::answer::Limit;
 ghost use mathlib.Core.Path.{_≡_};
@@ -7,6 +7,8 @@ ghost use Rattle.words.specs.Words.{same, isOption, grow, numberOf, told
 
 // How lines are shown.
 pub struct Style {
+    // every byte that is not ASCII as `\xHH`
+    pub ascii: bool,
     // in colour; the script asks for it on a terminal
     pub colour: bool,
     // so many bytes of a payload
@@ -42,6 +44,7 @@ enum Said {
     Limit,
     Topic,
     Payload,
+    Ascii,
     Colour,
     Status,
     // an option that is none of desk's
@@ -135,6 +138,9 @@ fn said_by(w: &[u8]) -> Said
     }
     if is_same(w, b"--payload") {
         return Said::Payload;
+    }
+    if is_same(w, b"--ascii") {
+        return Said::Ascii;
     }
     if is_same(w, b"--colour") {
         return Said::Colour;
@@ -234,6 +240,7 @@ pub fn none() -> Asked
         named: false,
         topic: 0,
         style: Style {
+            ascii: false,
             colour: false,
             most: Limit::Unlimited,
         },
@@ -250,6 +257,13 @@ fn with_said(a: Asked, said: Said, w: &[u8], i: usize) -> Asked
         Said::Limit => awaiting(a, Awaited::Limit),
         Said::Topic => awaiting(a, Awaited::Topic),
         Said::Payload => awaiting(a, Awaited::Payload),
+        Said::Ascii => styled(
+            a,
+            Style {
+                ascii: true,
+                ..style
+            },
+        ),
         Said::Colour => styled(
             a,
             Style {

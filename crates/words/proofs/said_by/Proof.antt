@@ -55,16 +55,26 @@ returns-5 : tie.Need-returns-5
 unfolding saidOf
 returns-5 c = rw (sym (c .before .before .before .before .before .before .before .before .before .before .before .before .before .is-same .ensures) ∙ c .before .before .before .before .before .before .before .before .before .before .before .before .if1 .left, sym (c .before .before .before .before .before .before .before .before .before .before .is-same2 .ensures) ∙ c .before .before .before .before .before .before .before .before .before .if2 .left, sym (c .before .before .before .before .before .before .before .is-same3 .ensures) ∙ c .before .before .before .before .before .before .if3 .left, sym (c .before .before .before .before .is-same4 .ensures) ∙ c .before .before .before .if4 .left, sym (c .before .is-same5 .ensures) ∙ c .if5 .taken)
 
-is-option-requires : tie.Need-is-option-requires
-is-option-requires c κs = search needs
+slice-aggregate-is-same-6 : tie.Need-slice-aggregate-is-same-6
+slice-aggregate-is-same-6 c = search needs
+
+is-same-requires-6 : tie.Need-is-same-requires-6
+is-same-requires-6 c κs = search needs
 
 returns-6 : tie.Need-returns-6
 unfolding saidOf
-returns-6 c = rw (sym (c .before .before .before .before .before .before .before .before .before .before .before .before .before .before .before .is-same .ensures) ∙ c .before .before .before .before .before .before .before .before .before .before .before .before .before .before .if1 .left, sym (c .before .before .before .before .before .before .before .before .before .before .before .before .is-same2 .ensures) ∙ c .before .before .before .before .before .before .before .before .before .before .before .if2 .left, sym (c .before .before .before .before .before .before .before .before .before .is-same3 .ensures) ∙ c .before .before .before .before .before .before .before .before .if3 .left, sym (c .before .before .before .before .before .before .is-same4 .ensures) ∙ c .before .before .before .before .before .if4 .left, sym (c .before .before .before .is-same5 .ensures) ∙ c .before .before .if5 .left, sym (c .before .is-option .ensures) ∙ c .if6 .taken)
+returns-6 c = rw (sym (c .before .before .before .before .before .before .before .before .before .before .before .before .before .before .before .before .is-same .ensures) ∙ c .before .before .before .before .before .before .before .before .before .before .before .before .before .before .before .if1 .left, sym (c .before .before .before .before .before .before .before .before .before .before .before .before .before .is-same2 .ensures) ∙ c .before .before .before .before .before .before .before .before .before .before .before .before .if2 .left, sym (c .before .before .before .before .before .before .before .before .before .before .is-same3 .ensures) ∙ c .before .before .before .before .before .before .before .before .before .if3 .left, sym (c .before .before .before .before .before .before .before .is-same4 .ensures) ∙ c .before .before .before .before .before .before .if4 .left, sym (c .before .before .before .before .is-same5 .ensures) ∙ c .before .before .before .if5 .left, sym (c .before .is-same6 .ensures) ∙ c .if6 .taken)
+
+is-option-requires : tie.Need-is-option-requires
+is-option-requires c κs = search needs
 
 returns-7 : tie.Need-returns-7
 unfolding saidOf
-returns-7 c = rw (sym (c .before .before .before .before .before .before .before .before .before .before .before .before .before .before .before .is-same .ensures) ∙ c .before .before .before .before .before .before .before .before .before .before .before .before .before .before .if1 .left, sym (c .before .before .before .before .before .before .before .before .before .before .before .before .is-same2 .ensures) ∙ c .before .before .before .before .before .before .before .before .before .before .before .if2 .left, sym (c .before .before .before .before .before .before .before .before .before .is-same3 .ensures) ∙ c .before .before .before .before .before .before .before .before .if3 .left, sym (c .before .before .before .before .before .before .is-same4 .ensures) ∙ c .before .before .before .before .before .if4 .left, sym (c .before .before .before .is-same5 .ensures) ∙ c .before .before .if5 .left, sym (c .before .is-option .ensures) ∙ c .if6 .left)
+returns-7 c = rw (sym (c .before .before .before .before .before .before .before .before .before .before .before .before .before .before .before .before .before .before .is-same .ensures) ∙ c .before .before .before .before .before .before .before .before .before .before .before .before .before .before .before .before .before .if1 .left, sym (c .before .before .before .before .before .before .before .before .before .before .before .before .before .before .before .is-same2 .ensures) ∙ c .before .before .before .before .before .before .before .before .before .before .before .before .before .before .if2 .left, sym (c .before .before .before .before .before .before .before .before .before .before .before .before .is-same3 .ensures) ∙ c .before .before .before .before .before .before .before .before .before .before .before .if3 .left, sym (c .before .before .before .before .before .before .before .before .before .is-same4 .ensures) ∙ c .before .before .before .before .before .before .before .before .if4 .left, sym (c .before .before .before .before .before .before .is-same5 .ensures) ∙ c .before .before .before .before .before .if5 .left, sym (c .before .before .before .is-same6 .ensures) ∙ c .before .before .if6 .left, sym (c .before .is-option .ensures) ∙ c .if7 .taken)
+
+returns-8 : tie.Need-returns-8
+unfolding saidOf
+returns-8 c = rw (sym (c .before .before .before .before .before .before .before .before .before .before .before .before .before .before .before .before .before .before .is-same .ensures) ∙ c .before .before .before .before .before .before .before .before .before .before .before .before .before .before .before .before .before .if1 .left, sym (c .before .before .before .before .before .before .before .before .before .before .before .before .before .before .before .is-same2 .ensures) ∙ c .before .before .before .before .before .before .before .before .before .before .before .before .before .before .if2 .left, sym (c .before .before .before .before .before .before .before .before .before .before .before .before .is-same3 .ensures) ∙ c .before .before .before .before .before .before .before .before .before .before .before .if3 .left, sym (c .before .before .before .before .before .before .before .before .before .is-same4 .ensures) ∙ c .before .before .before .before .before .before .before .before .if4 .left, sym (c .before .before .before .before .before .before .is-same5 .ensures) ∙ c .before .before .before .before .before .if5 .left, sym (c .before .before .before .is-same6 .ensures) ∙ c .before .before .if6 .left, sym (c .before .is-option .ensures) ∙ c .if7 .left)
 
 pub said-by-spec : {M : Type 1} → statement M
 said-by-spec =
@@ -85,6 +95,9 @@ said-by-spec =
     slice-aggregate-is-same-5
     is-same-requires-5
     returns-5
-    is-option-requires
+    slice-aggregate-is-same-6
+    is-same-requires-6
     returns-6
-    returns-7)
+    is-option-requires
+    returns-7
+    returns-8)

@@ -30,14 +30,20 @@ styled-requires c κs = search needs
 enum-told-5 : tie.Need-enum-told-5
 enum-told-5 c = search needs
 
+styled-requires-2 : tie.Need-styled-requires-2
+styled-requires-2 c κs = search needs
+
 enum-told-6 : tie.Need-enum-told-6
 enum-told-6 c = search needs
+
+enum-told-7 : tie.Need-enum-told-7
+enum-told-7 c = search needs
 
 as-bad-requires : tie.Need-as-bad-requires
 as-bad-requires c κs = search needs
 
-enum-told-7 : tie.Need-enum-told-7
-enum-told-7 c = search needs
+enum-told-8 : tie.Need-enum-told-8
+enum-told-8 c = search needs
 
 with-name-requires : tie.Need-with-name-requires
 with-name-requires c κs = search needs
@@ -55,13 +61,16 @@ returns-4 : tie.Need-returns-4
 returns-4 c = rw (c .before .enum-told4 .given .1) (c .styled .ensures)
 
 returns-5 : tie.Need-returns-5
-returns-5 c = rw (c .before .enum-told5 .given .1)
+returns-5 c = rw (c .before .enum-told5 .given .1) (c .styled2 .ensures)
 
 returns-6 : tie.Need-returns-6
-returns-6 c = rw (c .before .enum-told6 .given .1) (c .as-bad .ensures)
+returns-6 c = rw (c .before .enum-told6 .given .1)
 
 returns-7 : tie.Need-returns-7
-returns-7 c = rw (c .before .enum-told7 .given .1) (c .with-name .ensures)
+returns-7 c = rw (c .before .enum-told7 .given .1) (c .as-bad .ensures)
+
+returns-8 : tie.Need-returns-8
+returns-8 c = rw (c .before .enum-told8 .given .1) (c .with-name .ensures)
 
 pub with-said-spec : {M : Type 1} → statement M
 with-said-spec =
@@ -76,9 +85,11 @@ with-said-spec =
     enum-told-4
     styled-requires
     enum-told-5
+    styled-requires-2
     enum-told-6
-    as-bad-requires
     enum-told-7
+    as-bad-requires
+    enum-told-8
     with-name-requires
     returns
     returns-2
@@ -86,4 +97,5 @@ with-said-spec =
     returns-4
     returns-5
     returns-6
-    returns-7)
+    returns-7
+    returns-8)

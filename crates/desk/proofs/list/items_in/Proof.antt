@@ -7,10 +7,10 @@ use Rattle.desk.proofs.list.items_in.Statement.{statement}
 use Rattle.desk.proofs.list.items_in.Tie as tie
 
 abbrev Inv-loop : tie.InvT-loop
-Inv-loop out₀ at items s put₀ i₀ out put i = length out ≡ length out₀
+Inv-loop out₀ at items ascii s put₀ i₀ out put i = length out ≡ length out₀
 
 abbrev μ-loop : tie.MeasureT-loop
-μ-loop out₀ at items s put₀ i₀ out put i = length s - i
+μ-loop out₀ at items ascii s put₀ i₀ out put i = length s - i
 
 loop-holds : tie.Need-loop-holds Inv-loop μ-loop
 loop-holds c = search needs

@@ -1,16 +1,16 @@
--- `desk::output::shown` ends since each turn shows one byte at least. Assumes nothing.
+-- `desk::output::shown_as` ends since each turn shows one byte at least. Assumes nothing.
 use mathlib.Core.Path.{_≡_}
 use Prim.Native.Nat.{_-_, _≤_}
 use borrow.Author.Needs.{needs}
 use lib.ListN.{length}
-use Rattle.desk.proofs.output.shown.Statement.{statement}
-use Rattle.desk.proofs.output.shown.Tie as tie
+use Rattle.desk.proofs.output.shown_as.Statement.{statement}
+use Rattle.desk.proofs.output.shown_as.Tie as tie
 
 abbrev Inv-loop : tie.InvT-loop
-Inv-loop out₀ at s next₀ i₀ out next i = (length out ≡ length out₀) × (i ≤ length s)
+Inv-loop out₀ at s text next₀ i₀ out next i = (length out ≡ length out₀) × (i ≤ length s)
 
 abbrev μ-loop : tie.MeasureT-loop
-μ-loop out₀ at s next₀ i₀ out next i = length s - i
+μ-loop out₀ at s text next₀ i₀ out next i = length s - i
 
 loop-holds : tie.Need-loop-holds Inv-loop μ-loop
 loop-holds c = search needs
@@ -18,17 +18,8 @@ loop-holds c = search needs
 room-requires : tie.Need-room-requires Inv-loop μ-loop
 room-requires c κs = search needs
 
-sub-put-shown : tie.Need-sub-put-shown Inv-loop μ-loop
-sub-put-shown c = search needs
-
-part-put-shown-start : tie.Need-part-put-shown-start Inv-loop μ-loop
-part-put-shown-start c = search needs
-
-part-put-shown-end : tie.Need-part-put-shown-end Inv-loop μ-loop
-part-put-shown-end c = search needs
-
-put-shown-requires : tie.Need-put-shown-requires Inv-loop μ-loop
-put-shown-requires c κs = search needs
+put-text-requires : tie.Need-put-text-requires Inv-loop μ-loop
+put-text-requires c κs = search needs
 
 same-length : tie.Need-same-length Inv-loop μ-loop
 same-length c = search needs
@@ -54,18 +45,15 @@ same-length-2 c = search needs
 returns-2 : tie.Need-returns-2 Inv-loop μ-loop
 returns-2 c = search needs
 
-pub shown-spec : {M : Type 1} → statement M
-shown-spec =
+pub shown-as-spec : {M : Type 1} → statement M
+shown-as-spec =
     tie.close
     (tie.spec
     Inv-loop
     μ-loop
     loop-holds
     room-requires
-    sub-put-shown
-    part-put-shown-start
-    part-put-shown-end
-    put-shown-requires
+    put-text-requires
     same-length
     returns
     add-i

@@ -1,0 +1,17 @@
+-- `desk_text::is_plain` is right since those behind 0x5C are neither marked nor escaped. Assumes nothing.
+use mathlib.Core.Path.{_∙_}
+use mathlib.Core.Bool.{false≢true}
+use borrow.Author.Tests.{leb-true}
+use borrow.Author.Needs.{needs}
+use Rattle.desk_text.proofs.Laws.{plain-shown}
+use Rattle.desk_text.proofs.is_plain.Statement.{statement}
+use Rattle.desk_text.proofs.is_plain.Tie as tie
+
+returns : tie.Need-returns
+returns c = λ e. absurd (false≢true e)
+
+returns-2 : tie.Need-returns-2
+returns-2 c = λ e. plain-shown _ (c .if1 .left) (leb-true _ _ e)
+
+pub is-plain-spec : {M : Type 1} → statement M
+is-plain-spec = tie.close (tie.spec returns returns-2)
