@@ -1,7 +1,7 @@
 -- How text is shown byte by byte as far as it fits. Assumes nothing.
 use mathlib.Core.Path.{_≡_, refl, sym, ap, _∙_}
 use mathlib.Core.Bool.{Bool, true, false, cond}
-use mathlib.Core.List.{List, [], _∷_, _++_, append-nil}
+use mathlib.Core.List.{List, [], _∷_, append-nil}
 use Prim.Native.Nat.{ℕ, zero, suc, _+_, _-_, _≤_, _<_}
 use native.Mathlib.Omega.{arith}
 use native.Mathlib.Numerals.{add-one}
@@ -59,9 +59,9 @@ module _ {o o′ : List ℕ} {at n : ℕ} (text : Bool) (s : List ℕ) (i : ℕ)
   unfolding pieceOf
   piece-shown e w = rw (sym e) w
 
--- the bytes behind `\`, up to `~`
-pub plain-shown : (b : ℕ) → 93 ≤ b → b ≤ 126 → shownOf b ≡ b ∷ []
-plain-shown b l h = form-plain b (size-plain b (λ e. omega arith) (λ e. omega arith) (omega arith) h)
+-- the bytes behind `"`, up to `~`, but for `\`
+pub plain-shown : (b : ℕ) → 35 ≤ b → (b ≡ 92 → ⊥) → b ≤ 126 → shownOf b ≡ b ∷ []
+plain-shown b l m h = form-plain b (size-plain b (λ e. omega arith) m (omega arith) h)
 
 -- a piece has a byte at least
 piece-some : (text : Bool) (s : List ℕ) (i : ℕ) → 1 ≤ length (pieceOf text s i)

@@ -139,7 +139,10 @@ fn put_one(out: &mut [u8], at: usize, b: u8) -> usize
 fn is_plain(b: u8) -> bool
     ensures { λ r. ⌜ (r ≡ true → shownOf b ≡ b ∷ []) ⌝ }
 {
-    if b < 93 {
+    if b < 35 {
+        return false;
+    }
+    if b == 92 {
         return false;
     }
     b <= 126

@@ -1,6 +1,5 @@
 -- `desk_text::is_in` is right since its test is that of the definition. Assumes nothing.
 use borrow.Author.Tests.{le-leb, lt-leb}
-use borrow.Author.Needs.{needs}
 use Rattle.desk_text.proofs.is_in.Statement.{statement}
 use Rattle.desk_text.proofs.is_in.Tie as tie
 

@@ -1,5 +1,4 @@
 -- `desk_text::put_text` is right since each turn shows one byte, and what is left decides. Assumes nothing.
-use mathlib.Core.Path.{_≡_}
 use Prim.Native.Nat.{_-_}
 use native.Mathlib.Omega.{arith}
 use borrow.Author.Needs.{needs}
