@@ -18,7 +18,7 @@ use Rattle.positions.specs.Position.{fromAt}
 use Rattle.positions.proofs.Trails.{trails-big, trails-block}
 use Rattle.positions.proofs.Position.{got-left, bad-left}
 use Rattle.positions.proofs.Fill.{fill-bad, fill-got}
-use Rattle.ack.specs.Told.{acked, behindReason, afterIdent}
+use Rattle.ack.specs.AckRead.{acked, behindReason, afterIdent}
 
 -- what a block is handed back as
 abbrev Block : Type 0

@@ -20,9 +20,9 @@ ghost use Rattle.grammar.specs.Record as record-of;
 ghost use Rattle.grammar.specs.Record.{kindOf};
 ghost use Rattle.reading.specs.Read.{ackBlockFit, fieldsFit};
 ghost use Rattle.reading.specs.Place.{asPlaces, onGot};
-ghost use Rattle.records.specs.Told.{toldString, toldAckKind};
+ghost use Rattle.records.specs.AsNumbers.{toldString, toldAckKind};
 ghost use Rattle.wire.specs.Part.{PartAt, placeIf};
-ghost use Rattle.ack.specs.Told.{toldGotAck, toldLastBlock, behindReason, afterIdent, reason};
+ghost use Rattle.ack.specs.AckRead.{toldGotAck, toldLastBlock, behindReason, afterIdent, reason};
 
 pub enum GotAck {
     Value(Ack),

@@ -23,7 +23,7 @@ ghost use Rattle.writing.specs.Spell.{short, propsBytes};
 ghost use Rattle.writing.specs.Size.{most, propsSize, isPlain, restIs, cap};
 ghost use Rattle.writing.specs.Order.{judge, code, fieldTests};
 ghost use Rattle.writing.specs.Write.{frameBytes, sizeOf, Written as WrittenOf};
-ghost use Rattle.records.specs.Told.{limitOf, toldAckKind};
+ghost use Rattle.records.specs.AsNumbers.{limitOf, toldAckKind};
 ghost use Rattle.records.specs.Answered.{toldSized, toldWritten};
 ghost use Rattle.row_tests.specs.Tested.{toldTested};
 ghost use Rattle.settle.specs.Found.{earlyOf};

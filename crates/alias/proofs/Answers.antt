@@ -8,11 +8,11 @@ use denote.Ref.{RefT, now}
 use Rattle.grammar.specs.Choice.{lookup}
 use Rattle.reading.specs.Refusal.{Refusal, nr}
 use Rattle.reading.specs.Reader.{Fit, got, bad}
-use Rattle.records.specs.Told.{backSpan}
+use Rattle.records.specs.AsNumbers.{backSpan}
 use Rattle.records.proofs.Laws.{injective-by}
 use Rattle.wire.proofs.Laws.{part-at-same}
 use Rattle.alias.specs.Alias.{Lies, in-packet, in-table}
-use Rattle.alias.specs.Told.{toldAlias, toldJudged, toldPlaced, PartIn}
+use Rattle.alias.specs.AliasAnswer.{toldAlias, toldJudged, toldPlaced, PartIn}
 use Rattle.alias.specs.declared.AliasError.{AliasError}
 use Rattle.alias.specs.declared.Judged.{Judged}
 use Rattle.alias.specs.declared.Placed.{Placed}

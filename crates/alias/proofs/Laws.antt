@@ -12,9 +12,9 @@ use Rattle.reading.specs.Refusal.{Refusal}
 use Rattle.reading.specs.Reader.{Fit, got, bad, _>>_, guard}
 use Rattle.reading.specs.Place.{Span, heldOf}
 use Rattle.reading.proofs.Reading.{bad-got}
-use Rattle.records.specs.Told.{numberU16, toldU16}
+use Rattle.records.specs.AsNumbers.{numberU16, toldU16}
 use Rattle.records.specs.declared.span.MaybeU16.{MaybeU16}
-use Rattle.alias.specs.Told.{numberIf, Learnt}
+use Rattle.alias.specs.AliasAnswer.{numberIf, Learnt}
 use Rattle.alias.specs.declared.Judged.{Judged}
 use Rattle.alias.specs.Table.{storedLen, lengthsGood, tableGood, setAlias}
 use Rattle.alias.specs.Alias.{aliasTableBad, aliasInvalid, topicMissing, aliasUnknown, aliasNoRoom, isAlias, ofAlias, empty, permit, setBy, tableAfter, in-packet, storedAt, inForce}

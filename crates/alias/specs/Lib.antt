@@ -1,3 +1,3 @@
 pub mod Table
 pub mod Alias
-pub mod Told
+pub mod AliasAnswer

@@ -11,11 +11,11 @@ ghost use mathlib.Core.Option.{none, some};
 ghost use Prim.Native.Nat.{_≤_};
 ghost use lib.ListN.{length};
 ghost use Rattle.reading.specs.Reader.{got};
-ghost use Rattle.records.specs.Told.{toldSpan, toldU16, numberU16, rowOf};
+ghost use Rattle.records.specs.AsNumbers.{toldSpan, toldU16, numberU16, rowOf};
 ghost use Rattle.publish_parts.specs.Parts.{topicIn};
 ghost use Rattle.alias.specs.Table.{lengthsGood, tableGood, setAlias};
 ghost use Rattle.alias.specs.Alias.{permit, isAlias, ofAlias, setBy, storedAt, inForce};
-ghost use Rattle.alias.specs.Told.{aliasTold, aliasIn, toldAlias, toldJudged, toldPlaced, Learnt, PartIn};
+ghost use Rattle.alias.specs.AliasAnswer.{aliasTold, aliasIn, toldAlias, toldJudged, toldPlaced, Learnt, PartIn};
 
 // The refusals of P6, in its order: 24 to 28.
 pub enum AliasError {

@@ -9,7 +9,7 @@ use lib.ListN.{replicate}
 use Rattle.reading.specs.Reader.{Fit, got, bad}
 use Rattle.alias.specs.Table.{topicOf}
 use Rattle.alias.specs.Alias.{empty, Lies, bytesAt}
-use Rattle.alias.specs.Told.{Learnt}
+use Rattle.alias.specs.AliasAnswer.{Learnt}
 use Rattle.alias.specs.declared.Judged.{Judged}
 
 -- the topic that each alias stands for, none if never set

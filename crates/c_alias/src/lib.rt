@@ -12,7 +12,7 @@ ghost use Rattle.reading.specs.Place.{heldOf};
 ghost use Rattle.layout.specs.Value.{fitNumber};
 ghost use Rattle.given.specs.Given.{maybe};
 ghost use Rattle.alias.specs.Alias.{permit, tableAfter, inForce};
-ghost use Rattle.alias.specs.Told.{toldJudged, toldPlaced};
+ghost use Rattle.alias.specs.AliasAnswer.{toldJudged, toldPlaced};
 ghost use Rattle.c_alias.specs.Force.{forceNumbers};
 
 fn judged_number(judged: Judged) -> u32

@@ -8,7 +8,7 @@ use lib.ListN.{length, take, drop, length-drop, drop-of-length-le}
 use lib.Seq.{sets, sets-eq, take-all, drop-drop}
 use Rattle.reading.specs.Reader.{Fit}
 use Rattle.reading.specs.Place.{readPlacedOf}
-use Rattle.packet.specs.Told.{takenIn}
+use Rattle.packet.specs.PacketRead.{takenIn}
 use Rattle.filter_table.specs.Table.{toldTable, entryAt, entriesFrom, Planned}
 use Rattle.filter_table.specs.declared.Plan.{Plan}
 use Rattle.filter_table.specs.declared.FilterEntry.{FilterEntry}

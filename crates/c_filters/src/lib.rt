@@ -15,7 +15,7 @@ ghost use Prim.Native.Nat.{_+_, _*_, _≤_};
 ghost use lib.ListN.{length};
 ghost use lib.Seq.{sets};
 ghost use Rattle.reading.specs.Place.{readPlacedOf};
-ghost use Rattle.packet.specs.Told.{takenIn};
+ghost use Rattle.packet.specs.PacketRead.{takenIn};
 ghost use Rattle.filter_table.specs.Table.{toldTable, entriesFrom};
 ghost use Rattle.c_filters.specs.Numbers.{entryNumbers, numbersOf, placesIn, saidOf, tableNumber, answerNumbers, tableAs};
 

@@ -14,7 +14,7 @@ use lib.ListN.{length, getD, drop, set, replicate, length-set, drop-of-length-le
 use lib.Seq.{drop-cons}
 use Rattle.reading.specs.Refusal.{nr}
 use Rattle.inflight.specs.Rules.{limit, free, allStates, isTable, firstFree, claimed, claimFor, waitOf, put, settled, becameOf, afterPubRec, call, answerBy, waiting, refused, left, Left, notWaiting}
-use Rattle.inflight.specs.Told.{Ahead}
+use Rattle.inflight.specs.TableAnswer.{Ahead}
 use Rattle.inflight.proofs.Laws.{first-taken, wait-zero, wait-above}
 use Rattle.c_inflight.specs.Given.{badTable, startGiven, claimGiven, dueOf, nextOf, ackGiven, waitingNumber, waitingValue, numberOf, valueOf, Ends, Outcomes}
 

@@ -11,7 +11,7 @@ ghost use lib.Dec.{ltb};
 ghost use lib.ListN.{length, drop, replicate};
 ghost use lib.Seq.{sets};
 ghost use Rattle.inflight.specs.Rules.{free, allStates, isTable, firstFree, claimFor, settled, becameOf, oneIfWaits, waiting};
-ghost use Rattle.inflight.specs.Told.{Ahead};
+ghost use Rattle.inflight.specs.TableAnswer.{Ahead};
 ghost use Rattle.c_inflight.specs.Given.{startGiven, claimGiven, dueOf, nextOf, ackGiven, waitingNumber, waitingValue, valueOf, Ends, Outcomes};
 
 pub const IN_FLIGHT_FULL: u32 = 29;

@@ -10,7 +10,7 @@ use borrow.Author.Tests.{eq-eqb, ne-eqb, lt-ltb, le-ltb, le-leb, lt-leb}
 use lib.ListN.{length, getD, take, drop, set, length-set, drop-of-length-le}
 use lib.Seq.{sets, drop-cons, take-suc, take-suc-set, take-all}
 use Rattle.inflight.specs.Rules.{limit, allStates, isTable}
-use Rattle.inflight.specs.Told.{codeOf, waitsOf}
+use Rattle.inflight.specs.TableAnswer.{codeOf, waitsOf}
 use Rattle.inflight.specs.declared.Wait.{Wait}
 use Rattle.inflight.specs.declared.InFlight.{InFlight}
 use Rattle.inflight.proofs.Laws.{waits-length, wait-set}

@@ -6,11 +6,11 @@ use mathlib.Core.List.{List, []}
 use Prim.Native.Nat.{ℕ, _<_, _≤_}
 use borrow.Author.Tests.{ne-eqb, lt-ltb, le-ltb}
 use Rattle.inflight.specs.Rules.{limit, isTable}
-use Rattle.inflight.specs.Told.{waitsOf}
+use Rattle.inflight.specs.TableAnswer.{waitsOf}
 use Rattle.c_journal.specs.Bytes.{TakenFrom}
 use Rattle.c_journal.specs.declared.FromCodes.{FromCodes}
 use Rattle.journal.specs.Area.{whole, save, recover, Says, Left, left}
-use Rattle.journal.specs.Told.{foundOf, freshUnless, Recovers}
+use Rattle.journal.specs.JournalAnswer.{foundOf, freshUnless, Recovers}
 use Rattle.journal.specs.declared.Found.{Found}
 use Rattle.journal.specs.declared.Recovered.{Recovered}
 use Rattle.c_journal.specs.Given.{numberOf, firstOf, blockOf, tableOf, saveGiven, roomNumber, Ends, Done}

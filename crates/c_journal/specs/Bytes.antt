@@ -7,7 +7,7 @@ use lib.Dec.{leb}
 use lib.ListN.{length}
 use lib.Seq.{sets}
 use Rattle.inflight.specs.Rules.{limit, isTable}
-use Rattle.inflight.specs.Told.{waitsOf}
+use Rattle.inflight.specs.TableAnswer.{waitsOf}
 use Rattle.c_journal.specs.declared.FromCodes.{FromCodes}
 
 -- whether the bytes are a table; if so, which

@@ -18,9 +18,9 @@ ghost use Prim.Native.Nat.{_<_, _≤_};
 ghost use lib.ListN.{length};
 ghost use lib.Seq.{sets};
 ghost use Rattle.inflight.specs.Rules.{limit};
-ghost use Rattle.inflight.specs.Told.{codeOf, waitsOf};
+ghost use Rattle.inflight.specs.TableAnswer.{codeOf, waitsOf};
 ghost use Rattle.journal.specs.Area.{start as startOf, recover as recoverOf};
-ghost use Rattle.journal.specs.Told.{saveOf, foundOf};
+ghost use Rattle.journal.specs.JournalAnswer.{saveOf, foundOf};
 ghost use Rattle.c_journal.specs.Bytes.{TakenFrom, stored};
 ghost use Rattle.c_journal.specs.Given.{numberOf, firstOf, blockOf, tableOf, saveGiven, unlessBadArea, recoverNumber, roomNumber, Ends, Done};
 

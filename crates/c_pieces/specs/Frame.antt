@@ -7,11 +7,11 @@ use lib.Dec.{eqb, leb}
 use lib.ListN.{length, getD}
 use lib.Seq.{sets}
 use Rattle.reading.specs.Refusal.{Refusal, nr}
-use Rattle.records.specs.Told.{rowOf, valuesOf}
+use Rattle.records.specs.AsNumbers.{rowOf, valuesOf}
 use Rattle.layout.specs.Value.{valueOrZero}
 use Rattle.pieces_rules.specs.Whole.{frameTooLong}
 use Rattle.pieces_rules.specs.Step.{badBuffer, State, fresh, Gives, more, inPiece, inBuffer, stops, Step, refuses, foundOf}
-use Rattle.pieces.specs.Told.{toldEnd, toldState}
+use Rattle.pieces.specs.PieceAnswer.{toldEnd, toldState}
 use Rattle.c_pieces.specs.declared.GotEnd.{GotEnd}
 use Rattle.c_pieces.specs.declared.GotState.{GotState}
 

@@ -13,9 +13,9 @@ use records::answer::Limit;
 use records::error::Error;
 ghost use mathlib.Core.Path.{_≡_};
 ghost use lib.Seq.{sets};
-ghost use Rattle.records.specs.Told.{limitOf};
+ghost use Rattle.records.specs.AsNumbers.{limitOf};
 ghost use Rattle.pieces_rules.specs.Step.{foundOf};
-ghost use Rattle.pieces.specs.Told.{toldState, toldGiven, toldStep};
+ghost use Rattle.pieces.specs.PieceAnswer.{toldState, toldGiven, toldStep};
 ghost use Rattle.given.specs.Given.{limitGiven};
 ghost use Rattle.c_pieces.specs.Frame.{toldGotEnd, endGiven, toldGotState, stateGiven, stateNumbers, gaveNumber, frameNumbers, frameFor, stateAfter};
 

@@ -3,7 +3,7 @@ use mathlib.Core.Path.{_≡_, refl}
 use mathlib.Core.List.{List, [], _∷_}
 use Prim.Native.Nat.{ℕ}
 use Rattle.reading.specs.Refusal.{Refusal, nr, refusedAs}
-use Rattle.records.specs.Told.{rowOf, valuesOf}
+use Rattle.records.specs.AsNumbers.{rowOf, valuesOf}
 use Rattle.layout.specs.Value.{valueOrZero}
 use Rattle.c_tidy.specs.Numbers.{tidyNumber, tidyNumbers}
 

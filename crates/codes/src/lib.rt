@@ -5,7 +5,7 @@ use records::qos::QoS;
 use records::subscribe_record::GotRule;
 use records::subscribe_record::RetainForwardRule;
 ghost use mathlib.Core.Path.{_≡_};
-ghost use Rattle.records.specs.Told.{toldQoS, toldRule};
+ghost use Rattle.records.specs.AsNumbers.{toldQoS, toldRule};
 ghost use Rattle.records.specs.Answered.{toldGotRule, ruleOf};
 
 // The number of a quality of service, in the two bits.

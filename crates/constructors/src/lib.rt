@@ -9,7 +9,7 @@ ghost use mathlib.Core.Path.{_≡_};
 ghost use mathlib.Core.List.{List};
 ghost use Prim.Native.Nat.{ℕ};
 ghost use Rattle.writing.specs.Handed.{ack};
-ghost use Rattle.records.specs.Told.{toldAckKind, numberU32};
+ghost use Rattle.records.specs.AsNumbers.{toldAckKind, numberU32};
 ghost use Rattle.ack_write.specs.Handed as acknowledging;
 ghost use Rattle.subscribe_write.specs.Handed as subscribing;
 ghost use Rattle.constructors.specs.New.{headerOf, toldHeader, newAck, newSubscribe};

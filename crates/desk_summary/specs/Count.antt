@@ -2,7 +2,7 @@
 use mathlib.Core.List.{List}
 use Prim.Native.Nat.{ℕ, _+_, _%_, _^_}
 use lib.ListN.{getD, set}
-use Rattle.records.specs.Told.{toldError, rowOf}
+use Rattle.records.specs.AsNumbers.{toldError, rowOf}
 use Rattle.records.specs.declared.error.Error.{Error}
 use Rattle.records.specs.declared.packet_record.Packet.{Packet}
 use Rattle.kinds.specs.Kinds.{numberOf}

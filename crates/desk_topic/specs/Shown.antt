@@ -4,11 +4,11 @@ use mathlib.Core.Bool.{Bool, true, false, cond}
 use mathlib.Core.List.{List}
 use Prim.Native.Nat.{ℕ}
 use Rattle.reading.specs.Reader.{Fit, got, bad}
-use Rattle.records.specs.Told.{toldSpan}
+use Rattle.records.specs.AsNumbers.{toldSpan}
 use Rattle.records.specs.declared.packet_record.Packet.{Packet}
 use Rattle.publish_parts.specs.Parts.{topicIn}
 use Rattle.alias.specs.Alias.{empty, tableAfter, Lies, inForce, bytesAt}
-use Rattle.alias.specs.Told.{aliasIn}
+use Rattle.alias.specs.AliasAnswer.{aliasIn}
 use Rattle.topics.specs.Match.{matchesOf}
 
 -- 02, P6: the table t after the packet, which was read from s

@@ -4,9 +4,9 @@ use records::packet_record::Packet;
 use records::publish_record::Publish;
 use wire::string;
 ghost use mathlib.Core.Path.{_≡_};
-ghost use Rattle.records.specs.Told.{toldSpan};
+ghost use Rattle.records.specs.AsNumbers.{toldSpan};
 ghost use Rattle.alias.specs.Alias.{inForce};
-ghost use Rattle.alias.specs.Told.{aliasIn};
+ghost use Rattle.alias.specs.AliasAnswer.{aliasIn};
 ghost use Rattle.desk_topic.specs.Shown.{learntFrom, matchesIn, shows};
 
 // A Publish is learnt; a packet of another kind says nothing of an alias.

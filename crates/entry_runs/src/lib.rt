@@ -12,10 +12,10 @@ ghost use lib.ListN.{length, drop};
 ghost use Rattle.grammar.specs.Tables.{reasonsOf};
 ghost use Rattle.reading.specs.Read.{reasonOf, textOf};
 ghost use Rattle.reading.specs.Place.{asPlaces};
-ghost use Rattle.records.specs.Told.{toldReplyKind, toldSpan};
+ghost use Rattle.records.specs.AsNumbers.{toldReplyKind, toldSpan};
 ghost use Rattle.records.specs.Answered.{toldReasonItem, toldTopicItem};
 ghost use Rattle.positions.specs.Nth.{chosen, nthRun};
-ghost use Rattle.entry_runs.specs.Told.{NthReason, NthTopic};
+ghost use Rattle.entry_runs.specs.EntryRun.{NthReason, NthTopic};
 
 // The reason if its turn is n, else what was there.
 fn choose_reason(item: ReasonItem, reason: u8, turn: usize, n: usize) -> ReasonItem

@@ -14,7 +14,7 @@ ghost use Rattle.reading.specs.Read.{filterOf};
 ghost use Rattle.reading.specs.Place.{asPlaces};
 ghost use Rattle.positions.specs.Nth.{chosen, nthRun};
 ghost use Rattle.records.specs.Said.{toldFilter};
-ghost use Rattle.filter_runs.specs.Told.{toldGotFilters, placeFit, Broken, NthFilter};
+ghost use Rattle.filter_runs.specs.FilterRun.{toldGotFilters, placeFit, Broken, NthFilter};
 
 // Where a run of filters stands.
 pub enum GotFilters {

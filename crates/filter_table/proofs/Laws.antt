@@ -27,7 +27,7 @@ use Rattle.positions.proofs.Walk.{Less}
 use Rattle.positions.proofs.Less.{filter-less}
 use Rattle.positions.proofs.Run.{Passed, none-passed, passed-end, passed-bad, passed-next}
 use Rattle.positions.proofs.Trails.{trails-filter}
-use Rattle.records.specs.Told.{toldError, toldBool, toldQoS, toldRule, toldSpan}
+use Rattle.records.specs.AsNumbers.{toldError, toldBool, toldQoS, toldRule, toldSpan}
 use Rattle.records.specs.Said.{toldFilter, toldSubscribe, toldPacket}
 use Rattle.records.specs.declared.error.Error.{Error}
 use Rattle.records.specs.declared.qos.QoS.{QoS}

@@ -8,9 +8,9 @@ use lib.Dec.{eqb}
 use lib.ListN.{getD}
 use Rattle.reading.specs.Refusal.{Refusal, nr}
 use Rattle.reading.specs.Reader.{Fit, got, bad}
-use Rattle.records.specs.Told.{toldError, rowOf}
+use Rattle.records.specs.AsNumbers.{toldError, rowOf}
 use Rattle.records.proofs.Laws.{injective-by}
-use Rattle.records.proofs.Told.{backError, back-error}
+use Rattle.records.proofs.AsNumbers.{backError, back-error}
 use Rattle.records.specs.declared.error.Error.{Error}
 use Rattle.filter_table.specs.Table.{toldTable, Fills, Planned}
 use Rattle.filter_table.specs.declared.FilterEntry.{FilterEntry}

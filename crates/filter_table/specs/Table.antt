@@ -12,8 +12,8 @@ use Rattle.reading.specs.Reader.{Fit, got, bad, _>>=_, _>>_, guard, manyFit}
 use Rattle.reading.specs.Read.{filterOf, filtersFit}
 use Rattle.reading.specs.Place.{Span, heldOf, asPlaces, Placed, readPlacedOf, again, onGot}
 use Rattle.positions.specs.Position.{fromAt}
-use Rattle.packet.specs.Told.{takenIn}
-use Rattle.records.specs.Told.{toldError}
+use Rattle.packet.specs.PacketRead.{takenIn}
+use Rattle.records.specs.AsNumbers.{toldError}
 use Rattle.records.specs.declared.error.Error.{Error}
 use Rattle.filter_table.specs.declared.FilterEntry.{FilterEntry}
 use Rattle.filter_table.specs.declared.FilterTable.{FilterTable}

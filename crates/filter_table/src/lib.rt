@@ -15,7 +15,7 @@ use wire::string;
 ghost use mathlib.Core.Path.{_≡_};
 ghost use Prim.Native.Nat.{_≤_};
 ghost use lib.ListN.{length};
-ghost use Rattle.records.specs.Told.{toldBool, toldSpan};
+ghost use Rattle.records.specs.AsNumbers.{toldBool, toldSpan};
 ghost use Rattle.records.specs.Said.{toldFilter};
 ghost use Rattle.filter_table.specs.Table.{entryOf, EntryIs, CountIs, RunIs, RunPlanIs, Planned, fillFrom, Fills};
 

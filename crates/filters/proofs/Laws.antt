@@ -21,7 +21,7 @@ use Rattle.positions.proofs.Position.{got-left, got-within, bad-left, left-at, 
 use Rattle.positions.proofs.Run.{item-ahead}
 use Rattle.records.specs.Answered.{ruleOf}
 use Rattle.tables.specs.Qos.{qosOf}
-use Rattle.filters.specs.Told.{optionsOf, FilterPassed}
+use Rattle.filters.specs.FilterRead.{optionsOf, FilterPassed}
 
 -- ---- the options byte
 

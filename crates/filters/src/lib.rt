@@ -15,10 +15,10 @@ ghost use lib.ListN.{length};
 ghost use Rattle.reading.specs.Read.{filterOf};
 ghost use Rattle.reading.specs.Place.{asPlaces};
 ghost use Rattle.positions.specs.Position.{fromAt};
-ghost use Rattle.records.specs.Told.{toldSpan};
+ghost use Rattle.records.specs.AsNumbers.{toldSpan};
 ghost use mathlib.Core.Bool.{_&&_};
 ghost use Rattle.grammar.specs.Sentence.{ruleFine, qosFine};
-ghost use Rattle.filters.specs.Told.{toldGotFilter, optionsOf, FilterPassed};
+ghost use Rattle.filters.specs.FilterRead.{toldGotFilter, optionsOf, FilterPassed};
 
 // A filter and the index after it.
 pub enum GotFilter {

@@ -7,8 +7,8 @@ use var_length::GotLength;
 ghost use mathlib.Core.Path.{_≡_};
 ghost use Rattle.reading.specs.Reader.{_>>_ as first};
 ghost use Rattle.positions.specs.Position.{fromAt};
-ghost use Rattle.records.specs.Told.{limitOf};
-ghost use Rattle.framing.specs.Told.{headerIn, headerOf, toldHeader, Small, limitedTo, wholeIn, frameAt, toldChecked};
+ghost use Rattle.records.specs.AsNumbers.{limitOf};
+ghost use Rattle.framing.specs.HeaderRead.{headerIn, headerOf, toldHeader, Small, limitedTo, wholeIn, frameAt, toldChecked};
 
 pub enum Checked {
     Header(FixedHeader),

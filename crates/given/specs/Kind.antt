@@ -11,7 +11,7 @@ use Rattle.reading.specs.Reader.{Fit, bad}
 use Rattle.reading.specs.Read.{propertyOf}
 use Rattle.reading.specs.Place.{Span, asPlaces, noItem, userAt, reasonAt}
 use Rattle.positions.specs.Position.{fromAt}
-use Rattle.property_value.specs.Told.{toldProperty, OfForm}
+use Rattle.property_value.specs.OneProperty.{toldProperty, OfForm}
 use Rattle.property_value.specs.declared.GotProperty.{GotProperty}
 
 -- of the kind's row, if it has one

@@ -7,7 +7,7 @@ use records::answer::ReasonItem;
 use records::answer::UserItem;
 use records::span::Span;
 ghost use mathlib.Core.Path.{_≡_};
-ghost use Rattle.records.specs.Told.{toldSpan};
+ghost use Rattle.records.specs.AsNumbers.{toldSpan};
 ghost use Rattle.records.specs.Answered.{toldUser, toldReasonItem};
 ghost use Rattle.given.specs.Kind.{userOf, reasonGiven};
 

@@ -4,7 +4,7 @@ use records::span::MaybeU8;
 use records::span::MaybeU16;
 use records::span::MaybeU32;
 ghost use mathlib.Core.Path.{_≡_};
-ghost use Rattle.records.specs.Told.{limitOf, numberU8, numberU16, numberU32};
+ghost use Rattle.records.specs.AsNumbers.{limitOf, numberU8, numberU16, numberU32};
 ghost use Rattle.given.specs.Given.{isOn, limitGiven, maybe};
 
 // A flag: false if it is 0.

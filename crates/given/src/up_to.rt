@@ -10,9 +10,9 @@ use records::error::Error;
 use wire::got::GotSpan;
 use wire::string::read_mqtt_string;
 ghost use mathlib.Core.Path.{_≡_};
-ghost use Rattle.property_value.specs.Told.{toldProperty};
-ghost use Rattle.filters.specs.Told.{toldGotFilter};
-ghost use Rattle.wire.specs.Told.{toldPart};
+ghost use Rattle.property_value.specs.OneProperty.{toldProperty};
+ghost use Rattle.filters.specs.FilterRead.{toldGotFilter};
+ghost use Rattle.wire.specs.StringRead.{toldPart};
 ghost use Rattle.given.specs.Kind.{PropertyGiven};
 ghost use Rattle.given.specs.UpTo.{propertyUpTo, filterUpTo, topicUpTo};
 

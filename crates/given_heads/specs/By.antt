@@ -8,7 +8,7 @@ use Rattle.grammar.specs.Choice.{all}
 use Rattle.reading.specs.Refusal.{nr}
 use Rattle.reading.specs.Reader.{Fit, got, _>>_, guard}
 use Rattle.writing.specs.Handed.{Lent, Handed, publish, ack, subscribe, reply, UnsubscribeHanded, belongs}
-use Rattle.records.specs.Told.{toldBool}
+use Rattle.records.specs.AsNumbers.{toldBool}
 use Rattle.rows.specs.Given.{run}
 use Rattle.given.specs.Given.{isOn, maybe}
 

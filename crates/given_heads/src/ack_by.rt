@@ -6,7 +6,7 @@ ghost use mathlib.Core.Path.{_≡_};
 ghost use mathlib.Core.List.{List};
 ghost use Prim.Native.Nat.{ℕ};
 ghost use Rattle.writing.specs.Handed.{ack};
-ghost use Rattle.records.specs.Told.{toldAckKind};
+ghost use Rattle.records.specs.AsNumbers.{toldAckKind};
 ghost use Rattle.ack_write.specs.Handed.{handed};
 ghost use Rattle.given_heads.specs.By.{ackBy};
 

@@ -14,7 +14,7 @@ ghost use mathlib.Core.List.{List, [], _∷_};
 ghost use Prim.Native.Nat.{ℕ};
 ghost use Rattle.grammar.specs.Choice.{all};
 ghost use Rattle.writing.specs.Handed.{publish};
-ghost use Rattle.records.specs.Told.{toldQoS};
+ghost use Rattle.records.specs.AsNumbers.{toldQoS};
 ghost use Rattle.row_tests.specs.Tested.{toldTested};
 ghost use Rattle.publish_plan.specs.Handed.{handed};
 ghost use Rattle.given_heads.specs.By.{zeroIfOff, qosTest, knownQos, testsOf, publishBy};

@@ -8,7 +8,7 @@ ghost use mathlib.Core.List.{List, []};
 ghost use Prim.Native.Nat.{ℕ};
 ghost use Rattle.reading.specs.Refusal.{nr};
 ghost use Rattle.writing.specs.Handed.{publish, belongs};
-ghost use Rattle.records.specs.Told.{toldError};
+ghost use Rattle.records.specs.AsNumbers.{toldError};
 ghost use Rattle.publish_plan.specs.Handed.{handed};
 
 // 20 if what is handed over of a Publish does not belong together, else the refusal of its QoS.

@@ -6,7 +6,7 @@ use records::answer::Limit;
 use records::answer::Written;
 use records::error::Error;
 use row_tests::Tested;
-ghost use Rattle.records.specs.Told.{limitOf};
+ghost use Rattle.records.specs.AsNumbers.{limitOf};
 ghost use Rattle.records.specs.Answered.{toldWritten};
 ghost use Rattle.given_heads.specs.By.{behind};
 ghost use Rattle.given_heads.specs.Head.{publishHanded, subscribeHanded};

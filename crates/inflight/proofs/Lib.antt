@@ -1,3 +1,3 @@
 pub mod Laws
 pub mod Theorems
-pub mod Told
+pub mod TableAnswer

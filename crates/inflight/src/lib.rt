@@ -6,8 +6,8 @@ use records::qos::QoS;
 ghost use mathlib.Core.Path.{_≡_};
 ghost use lib.ListN.{replicate};
 ghost use Rattle.inflight.specs.Rules.{limit, free, firstFree, claimFor, claimed, waitOf, put, settled, becameOf, oneIfWaits, waiting, call, pubAck, pubRec, pubComp, answerBy};
-ghost use Rattle.inflight.specs.Told.{codeOf, waitsOf, answerOf, afterClaim, afterAnswer};
-ghost use Rattle.records.specs.Told.{toldQoS, toldAckKind};
+ghost use Rattle.inflight.specs.TableAnswer.{codeOf, waitsOf, answerOf, afterClaim, afterAnswer};
+ghost use Rattle.records.specs.AsNumbers.{toldQoS, toldAckKind};
 
 // Identifiers are 1 to LIMIT; `limit` of specs/Rules.antt is the same number.
 pub const LIMIT: usize = 1024;

@@ -24,12 +24,12 @@ use Rattle.positions.proofs.At.{part-slice}
 use Rattle.positions.proofs.Walk.{chain-nil, chain-bad, chain-next}
 use Rattle.positions.proofs.Less.{once-less, once-fresh, once-twice}
 use Rattle.positions.proofs.Position.{bad-left}
-use Rattle.records.specs.Told.{toldError}
+use Rattle.records.specs.AsNumbers.{toldError}
 use Rattle.records.specs.declared.error.Error.{Error}
 use Rattle.tables.specs.Property.{placeOf}
 use Rattle.tables.specs.declared.property.PropertyPlace.{PropertyPlace}
 use Rattle.tables.specs.declared.property.PropertyPlace.the-variants.{Publish, Subscribe, Ack, Unsubscribe}
-use Rattle.property_value.specs.Told.{toldValue, formOf, PropertyRead}
+use Rattle.property_value.specs.OneProperty.{toldValue, formOf, PropertyRead}
 use Rattle.property_value.proofs.Laws.{value-tag, property-left, property-ahead}
 use Rattle.property_value.specs.declared.Value.{Value}
 use Rattle.property_value.specs.declared.Value.the-variants.{U8, U16, U32, Number, Text, Bytes, Pair}

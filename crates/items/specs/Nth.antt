@@ -11,12 +11,12 @@ use Rattle.reading.specs.Reader.{Fit, got, _>>=_, chainFit}
 use Rattle.reading.specs.Read.{onceOf}
 use Rattle.reading.specs.Place.{asPlaces, orNoItem, nthOf, valuesAt, userAt, subscriptionAt}
 use Rattle.reading.specs.Place as place
-use Rattle.records.specs.Told.{toldSpan}
+use Rattle.records.specs.AsNumbers.{toldSpan}
 use Rattle.records.specs.Answered.{toldUser, toldIdentifier}
 use Rattle.records.specs.declared.answer.UserItem.{UserItem}
 use Rattle.records.specs.declared.answer.IdentifierItem.{IdentifierItem}
 use Rattle.records.specs.declared.span.Span.{Span}
-use Rattle.property_value.specs.Told.{toldValue, formOf}
+use Rattle.property_value.specs.OneProperty.{toldValue, formOf}
 use Rattle.property_value.specs.declared.Value.{Value}
 use Rattle.items.specs.declared.Seek.{Seek}
 use Rattle.items.specs.declared.Seek.the-variants.{Left, At}

@@ -10,7 +10,7 @@ use wire::string;
 ghost use mathlib.Core.Path.{_≡_};
 ghost use mathlib.Core.Bool.{not};
 ghost use Rattle.grammar.specs.Tables.{isList};
-ghost use Rattle.records.specs.Told.{toldSpan};
+ghost use Rattle.records.specs.AsNumbers.{toldSpan};
 ghost use Rattle.tables.specs.Property.{placeOf};
 ghost use Rattle.items.specs.Nth.{SeekOn, SeekIn, NthRead, NthUser, NthIdentifier};
 

@@ -12,12 +12,12 @@ use lib.Dec.{eqb, leb}
 use lib.ListN.{length, getD, take, drop, replicate}
 use lib.Seq.{sets, sets-eq, drop-drop}
 use Rattle.inflight.specs.Rules.{limit, free}
-use Rattle.inflight.specs.Told.{waitsOf}
+use Rattle.inflight.specs.TableAnswer.{waitsOf}
 use Rattle.inflight.specs.declared.InFlight.{InFlight}
 use Rattle.journal.specs.declared.Found.{Found}
 use Rattle.journal.specs.Block.{good, numberOf, tableIn, blockOf}
 use Rattle.journal.specs.Area.{whole, blocks, countOf, newer, latest, latestIn, highest, stored, Says, journalEmpty, journalEnded, badArea, recovered, started, saved, recover, recoveredFrom, save, saveAfter, start, left, look, lookAt}
-use Rattle.journal.specs.Told.{Finds, BlockAt, Recovers, Looks}
+use Rattle.journal.specs.JournalAnswer.{Finds, BlockAt, Recovers, Looks}
 use Rattle.journal.proofs.Good.{length-block}
 use Rattle.journal.proofs.Limits.{number-not-zero}
 use Rattle.journal.proofs.Places.{count-is}

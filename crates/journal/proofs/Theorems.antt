@@ -12,7 +12,7 @@ use lib.Arith.{lt-of-le-ne}
 use lib.Dec.{eqb, leb}
 use lib.ListN.{length, getD, replicate}
 use Rattle.inflight.specs.Rules.{limit, free, Call, call, waiting, oneIfFreed, oneIfGranted}
-use Rattle.inflight.specs.Told.{waitsOf, placeCode}
+use Rattle.inflight.specs.TableAnswer.{waitsOf, placeCode}
 use Rattle.inflight.specs.declared.InFlight.{InFlight}
 use Rattle.inflight.specs.declared.Place.{Place}
 use Rattle.inflight.proofs.Laws.{waits-length}

@@ -13,7 +13,7 @@ use lib.Dec.{eqb}
 use lib.ListN.{length, getD, take, drop, set, replicate, length-drop, drop-of-length-le, length-set}
 use lib.Seq.{sets, length-sets, drop-cons, take-suc-set, take-all, length-take-le}
 use Rattle.inflight.specs.Rules.{limit}
-use Rattle.inflight.specs.Told.{codeOf, waitsOf}
+use Rattle.inflight.specs.TableAnswer.{codeOf, waitsOf}
 use Rattle.inflight.proofs.Laws.{waits-length, wait-at, wait-set}
 use Rattle.inflight.specs.declared.Wait.{Wait}
 use Rattle.inflight.specs.declared.Place.{Place}
@@ -21,7 +21,7 @@ use Rattle.inflight.specs.declared.InFlight.{InFlight}
 use Rattle.journal.proofs.Stores.{sets-more}
 use Rattle.journal.specs.Block.{each, bigEndianFrom, bigEndian, allZero, packedAt, waitIn, numberOf, good}
 use Rattle.crc32.specs.Crc.{crcOf}
-use Rattle.journal.specs.Told.{BlockAt}
+use Rattle.journal.specs.JournalAnswer.{BlockAt}
 use Rattle.journal.proofs.Bytes.{length-each}
 
 -- ---- marks one behind the other

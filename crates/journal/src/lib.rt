@@ -13,10 +13,10 @@ ghost use lib.ListN.{length, getD, take, drop, replicate};
 ghost use lib.Seq.{sets};
 ghost use Rattle.crc32.specs.Crc.{crcOf};
 ghost use Rattle.inflight.specs.Rules.{limit};
-ghost use Rattle.inflight.specs.Told.{codeOf, waitsOf};
+ghost use Rattle.inflight.specs.TableAnswer.{codeOf, waitsOf};
 ghost use Rattle.journal.specs.Area.{whole, latestIn, left, start, save};
 ghost use Rattle.journal.specs.Block.{each, bytesOf, bigEndian, allZero, packedAt, waitIn, numberOf, tableIn, blockOf, good};
-ghost use Rattle.journal.specs.Told.{BlockAt, startOf, saveOf, Recovers, Looks, Finds, Betters};
+ghost use Rattle.journal.specs.JournalAnswer.{BlockAt, startOf, saveOf, Recovers, Looks, Finds, Betters};
 
 // What starting answers.
 pub enum Started {

@@ -2,7 +2,7 @@
 use mathlib.Core.Path.{_≡_, refl, sym, ap, subst, _∙_}
 use mathlib.Core.List.{List, [], _∷_, _++_, append-assoc}
 use Prim.Native.Nat.{ℕ}
-use Rattle.records.specs.Told.{toldError, rowOf, valuesOf}
+use Rattle.records.specs.AsNumbers.{toldError, rowOf, valuesOf}
 use Rattle.records.specs.declared.error.Error.{Error}
 use Rattle.records.specs.Ascii.{codesOf}
 use Rattle.names.specs.Names.{nameOf}

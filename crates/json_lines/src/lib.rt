@@ -8,7 +8,7 @@ use records::values::Values;
 use refusals;
 use wire::string;
 ghost use mathlib.Core.List.{_++_, _∷_, []};
-ghost use Rattle.records.specs.Told.{toldValues};
+ghost use Rattle.records.specs.AsNumbers.{toldValues};
 ghost use Rattle.names.specs.Names.{nameOf};
 ghost use Rattle.json_text.specs.Put.{PutIn};
 ghost use Rattle.json_text.specs.Value.{joined};

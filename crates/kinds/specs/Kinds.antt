@@ -8,7 +8,7 @@ use lib.ListN.{length, replicate}
 use Rattle.grammar.specs.Choice.{isIn, lookup}
 use Rattle.grammar.specs.Tables.{Place, Layout, aPublish, anAck, aSubscribe, aReply, anUnsubscribe, aPing, kinds, reserved, reasonsOf}
 use Rattle.records.specs.Ascii.{codesOf}
-use Rattle.records.specs.Told.{toldAckKind, toldReplyKind}
+use Rattle.records.specs.AsNumbers.{toldAckKind, toldReplyKind}
 use Rattle.tables.specs.Property.{placeOf}
 use Rattle.kinds.specs.declared.Kind.{Kind}
 use Rattle.kinds.specs.declared.Kind.the-variants as kind

@@ -5,7 +5,7 @@ use records::reply_record::ReplyKind;
 use tables::property::PropertyPlace;
 ghost use mathlib.Core.Path.{_≡_};
 ghost use Rattle.grammar.specs.Tables.{placeAt, firstOf};
-ghost use Rattle.records.specs.Told.{toldAckKind, toldReplyKind};
+ghost use Rattle.records.specs.AsNumbers.{toldAckKind, toldReplyKind};
 ghost use Rattle.kinds.specs.Kinds.{toldKind, kindRow, numberOf, toldPlace, made, wordOf, padded};
 
 // The layouts, and which of the kinds that share one.

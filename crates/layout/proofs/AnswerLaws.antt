@@ -3,7 +3,7 @@ use mathlib.Core.Path.{_≡_, refl}
 use mathlib.Core.List.{[], _∷_}
 use Rattle.reading.specs.Refusal.{Refusal, nr}
 use Rattle.reading.specs.Reader.{bad}
-use Rattle.records.specs.Told.{valuesOf}
+use Rattle.records.specs.AsNumbers.{valuesOf}
 use Rattle.layout.specs.Value.{valueOrZero}
 use Rattle.layout.specs.Answer.{answerNumbers}
 

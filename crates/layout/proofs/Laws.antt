@@ -6,7 +6,7 @@ use native.Mathlib.Omega.{arith}
 use lib.ListN.{length, getD, set}
 use Rattle.reading.specs.Refusal.{Refusal, nr}
 use Rattle.reading.specs.Reader.{bad}
-use Rattle.records.specs.Told.{rowOf}
+use Rattle.records.specs.AsNumbers.{rowOf}
 use Rattle.byte_puts.proofs.Laws.{Putting, putting-next}
 use Rattle.layout.specs.Value.{fitNumber}
 

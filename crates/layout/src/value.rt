@@ -1,7 +1,7 @@
 // Single values as numbers.
 use records::values::Values;
 ghost use mathlib.Core.Path.{_≡_};
-ghost use Rattle.records.specs.Told.{toldBool, toldValues};
+ghost use Rattle.records.specs.AsNumbers.{toldBool, toldValues};
 ghost use Rattle.layout.specs.Value.{valueOrZero};
 
 // 1 if true, else 0.

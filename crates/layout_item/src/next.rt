@@ -13,12 +13,12 @@ use refusals::values;
 use wire::got::GotSpan;
 ghost use mathlib.Core.Path.{_≡_};
 ghost use lib.Seq.{sets};
-ghost use Rattle.records.specs.Told.{toldError};
-ghost use Rattle.property_value.specs.Told.{toldValue, toldProperty};
-ghost use Rattle.filters.specs.Told.{toldGotFilter};
+ghost use Rattle.records.specs.AsNumbers.{toldError};
+ghost use Rattle.property_value.specs.OneProperty.{toldValue, toldProperty};
+ghost use Rattle.filters.specs.FilterRead.{toldGotFilter};
 ghost use Rattle.layout.specs.Value.{fitNumber};
 ghost use Rattle.layout_item.specs.Next.{badNumbers, propertyRow, propertyNumbers, nextFilterNumbers, nextTopicNumbers};
-ghost use Rattle.wire.specs.Told.{toldPart};
+ghost use Rattle.wire.specs.StringRead.{toldPart};
 
 // The refusal's value.
 fn bad_numbers(e: Error) -> [u64; 7]

@@ -3,7 +3,7 @@ use mathlib.Core.Path.{_≡_, refl}
 use Prim.Native.Nat.{ℕ}
 use Rattle.reading.specs.Refusal.{Refusal, nr, refusedAs}
 use Rattle.reading.specs.Reader.{bad}
-use Rattle.records.specs.Told.{rowOf, valuesOf}
+use Rattle.records.specs.AsNumbers.{rowOf, valuesOf}
 use Rattle.layout_read.specs.Layout.{laidOut}
 use Rattle.layout.specs.Value.{valueOrZero}
 use Rattle.layout_read.specs.Block.{noBlock}

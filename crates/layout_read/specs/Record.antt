@@ -5,7 +5,7 @@ use Rattle.grammar.specs.Record.{publish, ack, subscribe, reply, unsubscribe, p
 use Rattle.reading.specs.Refusal.{Answer, accepted, refused}
 use Rattle.reading.specs.Reader.{Fit, got, bad}
 use Rattle.reading.specs.Place.{Placed}
-use Rattle.records.specs.Told.{backSpan}
+use Rattle.records.specs.AsNumbers.{backSpan}
 use Rattle.records.specs.declared.span.Bounds.{Bounds}
 use Rattle.records.specs.declared.span.Span.{Span}
 use Rattle.layout_read.specs.declared.place.Head.{Head}

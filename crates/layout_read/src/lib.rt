@@ -37,7 +37,7 @@ ghost use lib.Seq.{sets};
 ghost use Rattle.grammar.specs.Record.{publish, ack, subscribe, reply, unsubscribe, ping};
 ghost use Rattle.reading.specs.Refusal.{refusedAs};
 ghost use Rattle.reading.specs.Reader.{bad};
-ghost use Rattle.records.specs.Told.{toldError, toldAckKind, toldReplyKind, toldU8, toldU16, toldU32, toldString, toldSpan};
+ghost use Rattle.records.specs.AsNumbers.{toldError, toldAckKind, toldReplyKind, toldU8, toldU16, toldU32, toldString, toldSpan};
 ghost use Rattle.records.specs.Said.{toldPublish, toldSubscribe, toldAck, toldReply, toldUnsubscribe, toldPacket, toldPublishBlock, toldBlock};
 ghost use Rattle.records.specs.Answered.{told, carried};
 ghost use Rattle.kinds.specs.Kinds.{numberOf};

@@ -9,7 +9,7 @@ use wire::string;
 ghost use mathlib.Core.List.{_++_};
 ghost use Prim.Native.Nat.{_+_, _≤_};
 ghost use lib.ListN.{length};
-ghost use Rattle.records.specs.Told.{toldValues};
+ghost use Rattle.records.specs.AsNumbers.{toldValues};
 ghost use Rattle.records.specs.Ascii.{codesOf};
 ghost use Rattle.names.specs.Names.{nameOf};
 ghost use Rattle.render.specs.Shown.{decimalOf};

@@ -4,7 +4,7 @@ use Prim.Native.Nat.{ℕ, _-_}
 use Prim.Native.String.{String}
 use lib.ListN.{length, getD, replicate}
 use Rattle.records.specs.Ascii.{codesOf}
-use Rattle.records.specs.Told.{toldError, rowOf}
+use Rattle.records.specs.AsNumbers.{toldError, rowOf}
 use Rattle.records.specs.declared.error.Error.{Error}
 use Rattle.names.specs.declared.text.Name.{Name}
 

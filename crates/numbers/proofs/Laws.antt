@@ -13,7 +13,7 @@ use Rattle.reading.specs.Read.{bigOf, byteOf}
 use Rattle.positions.specs.Position.{fromAt}
 use Rattle.positions.proofs.At.{listAt, big-at}
 use Rattle.positions.proofs.Position.{left-at}
-use Rattle.records.specs.Told.{toldBool}
+use Rattle.records.specs.AsNumbers.{toldBool}
 
 -- a flag is a bit
 pub flag-told : (n : ℕ) → n < 2 → toldBool (eqb n 1) ≡ n

@@ -10,8 +10,8 @@ ghost use lib.ListN.{length};
 ghost use Rattle.reading.specs.Refusal.{cut};
 ghost use Rattle.reading.specs.Read.{byteOf, bigOf};
 ghost use Rattle.positions.specs.Position.{fromAt};
-ghost use Rattle.records.specs.Told.{toldBool};
-ghost use Rattle.numbers.specs.Told.{toldGotU8, toldGotU16, toldGotU32};
+ghost use Rattle.records.specs.AsNumbers.{toldBool};
+ghost use Rattle.numbers.specs.NumberRead.{toldGotU8, toldGotU16, toldGotU32};
 
 // How many bytes stand from `at` on.
 fn left(s: &[u8], at: usize) -> usize

@@ -19,16 +19,16 @@ use Rattle.reading.proofs.Reading.{got-inj}
 use Rattle.reading.proofs.Faults.{answered}
 use Rattle.reading.proofs.Places.{placed-says}
 use Rattle.reading.proofs.Bounds.{read-bounds}
-use Rattle.records.specs.Told.{limitOf}
+use Rattle.records.specs.AsNumbers.{limitOf}
 use Rattle.records.specs.Answered.{told, Bounded}
 use Rattle.records.proofs.Answered.{refusal-bounded}
 use Rattle.records.specs.declared.error.Error.{Error}
 use Rattle.records.specs.declared.answer.Limit.{Limit}
 use Rattle.records.specs.declared.answer.Read.{Read}
-use Rattle.framing.specs.Told.{frameAt}
+use Rattle.framing.specs.HeaderRead.{frameAt}
 use Rattle.kinds.specs.Kinds.{kindRow}
 use Rattle.framing.proofs.Laws.{checked-within, checked-read, checked-refused}
-use Rattle.packet.specs.Told.{Tells, Meets, takenIn, Judged}
+use Rattle.packet.specs.PacketRead.{Tells, Meets, takenIn, Judged}
 
 -- ---- the body of a frame whose first byte is x
 

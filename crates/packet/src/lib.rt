@@ -27,10 +27,10 @@ ghost use Rattle.reading.specs.Reader.{got};
 ghost use Rattle.reading.specs.Read.{fieldsFit, bodyFit, bodyAnswer, wholeAnswer};
 ghost use Rattle.reading.specs.Place.{asPlaces};
 ghost use Rattle.reading.specs.Bounds.{endingAt};
-ghost use Rattle.records.specs.Told.{limitOf, toldAckKind, toldReplyKind};
+ghost use Rattle.records.specs.AsNumbers.{limitOf, toldAckKind, toldReplyKind};
 ghost use Rattle.records.specs.Said.{toldPublishBlock, toldBlock};
 ghost use Rattle.records.specs.Answered.{told, toldBounds};
-ghost use Rattle.packet.specs.Told.{Tells, Meets, takenIn, Judged};
+ghost use Rattle.packet.specs.PacketRead.{Tells, Meets, takenIn, Judged};
 
 // Where a block stands that ends at `end`, where the payload or the entries begin or the frame ends: 02's two numbers.
 fn publish_bounds(properties: MaybePublishProperties, end: usize) -> Bounds

@@ -4,7 +4,7 @@ use Rattle.grammar.specs.Choice.{isEmpty, all}
 use Rattle.reading.specs.Refusal.{nr}
 use Rattle.reading.specs.Reader.{Fit, got, _>>_, guard}
 use Rattle.writing.specs.Handed.{Handed, publish, ack, subscribe, reply, unsubscribe, ping}
-use Rattle.records.specs.Told.{toldAckKind, toldReplyKind}
+use Rattle.records.specs.AsNumbers.{toldAckKind, toldReplyKind}
 use Rattle.ack_write.specs.Handed as ack-of
 use Rattle.reply_write.specs.Handed as reply-of
 use Rattle.unsubscribe_write.specs.Handed as unsubscribe-of

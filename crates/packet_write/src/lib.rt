@@ -9,7 +9,7 @@ use records::answer::Sized;
 use records::answer::Written;
 use records::error::Error;
 ghost use mathlib.Core.Path.{_≡_};
-ghost use Rattle.records.specs.Told.{limitOf};
+ghost use Rattle.records.specs.AsNumbers.{limitOf};
 ghost use Rattle.records.specs.Answered.{toldSized, toldWritten};
 ghost use Rattle.packet_write.specs.Parts.{parts};
 ghost use Rattle.writing.specs.Write.{sizedBehind, WrittenBehind};

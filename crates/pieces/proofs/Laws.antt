@@ -15,8 +15,8 @@ use Rattle.reading.specs.Read.{byteOf, numOf}
 use Rattle.reading.proofs.Reading.{bad-got}
 use Rattle.positions.specs.Position.{fromAt}
 use Rattle.positions.proofs.Position.{bad-left}
-use Rattle.records.specs.Told.{rowOf}
-use Rattle.framing.specs.Told.{headerOf, limitedTo}
+use Rattle.records.specs.AsNumbers.{rowOf}
+use Rattle.framing.specs.HeaderRead.{headerOf, limitedTo}
 use Rattle.framing.proofs.Laws.{behindFirst, header-within, header-left, frame-count}
 use Rattle.byte_puts.proofs.Laws.{sets-out}
 use Rattle.pieces_rules.specs.Whole.{frameTooLong, headerUnder, frameBytes, lacks, frame}

@@ -6,13 +6,13 @@ use mathlib.Core.List.{List}
 use Prim.Native.Nat.{ℕ}
 use lib.Dec.{eqb}
 use Rattle.reading.specs.Refusal.{Refusal, nr}
-use Rattle.records.specs.Told.{toldError}
+use Rattle.records.specs.AsNumbers.{toldError}
 use Rattle.records.proofs.Laws.{injective-by}
-use Rattle.records.proofs.Told.{backError, back-error}
+use Rattle.records.proofs.AsNumbers.{backError, back-error}
 use Rattle.records.specs.declared.error.Error.{Error}
 use Rattle.pieces_rules.specs.Step.{Gives, more, inPiece, inBuffer, stops}
 use Rattle.pieces_rules.specs.Step as step
-use Rattle.pieces.specs.Told.{toldStop, toldEnd, toldState, toldGiven, toldStep}
+use Rattle.pieces.specs.PieceAnswer.{toldStop, toldEnd, toldState, toldGiven, toldStep}
 use Rattle.pieces.specs.declared.Stop.{Stop}
 use Rattle.pieces.specs.declared.End.{End}
 use Rattle.pieces.specs.declared.State.{State}

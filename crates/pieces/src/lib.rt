@@ -11,11 +11,11 @@ ghost use mathlib.Core.Path.{_≡_};
 ghost use mathlib.Core.List.{_++_};
 ghost use Prim.Native.Nat.{_+_, _-_, _≤_, _<_, min};
 ghost use lib.ListN.{length, take};
-ghost use Rattle.records.specs.Told.{rowOf, valuesOf, toldValues, limitOf};
+ghost use Rattle.records.specs.AsNumbers.{rowOf, valuesOf, toldValues, limitOf};
 ghost use Rattle.pieces_rules.specs.Whole.{lacks, frame};
 ghost use Rattle.pieces_rules.specs.Step.{serves, waiting, fresh, stepFrom, called, foundOf};
 ghost use Rattle.pieces_rules.specs.Judge.{judgeOf, spans};
-ghost use Rattle.pieces.specs.Told.{toldStop, toldJudged, toldState, toldStep};
+ghost use Rattle.pieces.specs.PieceAnswer.{toldStop, toldJudged, toldState, toldStep};
 
 // Why a call gives no frame, and takes nothing.
 pub enum Stop {

@@ -10,7 +10,7 @@ use Rattle.grammar.specs.Sentence.{Packet}
 use Rattle.reading.specs.Refusal.{Refusal, Answer}
 use Rattle.reading.specs.Reader.{Fit, got}
 use Rattle.reading.specs.Place.{Placed, sayAnswer}
-use Rattle.records.specs.Told.{limitOf}
+use Rattle.records.specs.AsNumbers.{limitOf}
 use Rattle.records.specs.declared.answer.Limit.{Limit}
 use Rattle.pieces_rules.specs.Whole.{lacks, listOf}
 use Rattle.pieces_rules.specs.Step.{fresh, more, inPiece, inBuffer, stops, Step, stepBy, stepOf}
@@ -18,9 +18,9 @@ use Rattle.pieces_rules.specs.Step as step
 use Rattle.pieces_rules.specs.Feed.{Fed, before, once, feedOn, feedFrom}
 use Rattle.pieces_rules.proofs.Run.{Left, waits, over, Runs, stop, turnAt, nil-lacks, run-list}
 use Rattle.pieces_rules.proofs.Feed.{Serves, serves-true, Feeds, feeds, Lists, lists-then}
-use Rattle.pieces.specs.Told.{toldEnd, toldState}
+use Rattle.pieces.specs.PieceAnswer.{toldEnd, toldState}
 use Rattle.pieces.specs.declared.State.{State}
-use Rattle.pieces_read.specs.Told.{toldAnswer, toldReply}
+use Rattle.pieces_read.specs.PacketAnswer.{toldAnswer, toldReply}
 use Rattle.pieces_read.specs.declared.Reply.{Reply}
 use Rattle.pieces_read.specs.Handed.{Meets, Calls, waiting, stopped, fromPiece, fromBuffer, Handed, none, next}
 

@@ -12,7 +12,7 @@ use Rattle.grammar.specs.Sentence.{Packet}
 use Rattle.reading.specs.Refusal.{Refusal, Answer}
 use Rattle.reading.specs.Reader.{Fit}
 use Rattle.reading.specs.Place.{Placed, asPlaces, sayAnswer}
-use Rattle.records.specs.Told.{limitOf}
+use Rattle.records.specs.AsNumbers.{limitOf}
 use Rattle.records.specs.declared.answer.Limit.{Limit}
 use Rattle.pieces_rules.specs.Whole.{Turn, frame, turnOf, answerAs}
 use Rattle.pieces_rules.specs.Step.{badBuffer, fresh, more, inPiece, inBuffer, stops, Step, serves, stepFrom, stepBy, stepOf}
@@ -21,9 +21,9 @@ use Rattle.pieces_rules.specs.Feed.{once}
 use Rattle.pieces_rules.proofs.Seen.{Seen, short, ended, framed, seen}
 use Rattle.pieces_rules.proofs.Feed.{Serves, serves-true}
 use Rattle.pieces_rules.proofs.Calls.{served, joined-length}
-use Rattle.pieces.specs.Told.{toldEnd, toldState}
+use Rattle.pieces.specs.PieceAnswer.{toldEnd, toldState}
 use Rattle.pieces.specs.declared.State.{State}
-use Rattle.pieces_read.specs.Told.{toldAnswer, toldReply}
+use Rattle.pieces_read.specs.PacketAnswer.{toldAnswer, toldReply}
 use Rattle.pieces_read.specs.declared.Reply.{Reply}
 use Rattle.pieces_read.specs.Handed.{Meets, Calls, waiting, stopped, fromPiece, fromBuffer, Handed, none, next}
 

@@ -12,7 +12,7 @@ use Rattle.records.proofs.Laws.{injective-by}
 use Rattle.records.proofs.Answered.{backRead, back-read}
 use Rattle.pieces_rules.specs.Step.{Gives, more, inPiece, inBuffer, stops, Step}
 use Rattle.pieces.proofs.Same.{backStop, back-stop, backState, back-state}
-use Rattle.pieces_read.specs.Told.{toldAnswer, toldReply, Carries}
+use Rattle.pieces_read.specs.PacketAnswer.{toldAnswer, toldReply, Carries}
 use Rattle.pieces_read.specs.declared.Answer.{Answer}
 use Rattle.pieces_read.specs.declared.Reply.{Reply}
 

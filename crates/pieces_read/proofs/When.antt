@@ -15,7 +15,7 @@ use Rattle.reading.specs.Reader.{Fit, got, bad, onlyByOf, thenOf}
 use Rattle.reading.specs.Read.{byteOf, groupOf, groupsOf, numOf}
 use Rattle.reading.specs.Place.{Placed, asPlaces}
 use Rattle.reading.proofs.Reading.{bad-got, Reads}
-use Rattle.records.specs.Told.{rowOf, limitOf}
+use Rattle.records.specs.AsNumbers.{rowOf, limitOf}
 use Rattle.records.specs.declared.answer.Limit.{Limit}
 use Rattle.pieces_rules.specs.Whole.{frameTooLong, headerUnder, frameBytes, answerAs, Turn, lacks, ends, frame, turnOf}
 use Rattle.pieces_rules.specs.Step.{badBuffer, Gives, more, inPiece, inBuffer, stops, Step, serves, waiting, stepFrom, stepBy, stepOf}
@@ -23,9 +23,9 @@ use Rattle.pieces_rules.specs.Judge.{Judge, unknown, forbids, spans, judged, ju
 use Rattle.pieces_rules.proofs.Head.{bad-inj, reads-header}
 use Rattle.pieces_rules.proofs.Says.{Says, lacking, refusing, framing, says, forbids-ends}
 use Rattle.pieces_rules.proofs.Feed.{Serves, serves-true}
-use Rattle.pieces.specs.Told.{toldEnd, toldState}
+use Rattle.pieces.specs.PieceAnswer.{toldEnd, toldState}
 use Rattle.pieces.specs.declared.State.{State}
-use Rattle.pieces_read.specs.Told.{toldAnswer, toldReply}
+use Rattle.pieces_read.specs.PacketAnswer.{toldAnswer, toldReply}
 use Rattle.pieces_read.specs.declared.Reply.{Reply}
 use Rattle.pieces_read.specs.Handed.{Meets}
 use Rattle.pieces_read.specs.When.{Longer, Ending}

@@ -7,13 +7,13 @@ use Rattle.grammar.specs.Sentence.{Packet}
 use Rattle.reading.specs.Refusal.{Refusal, Answer}
 use Rattle.reading.specs.Reader.{Fit}
 use Rattle.reading.specs.Place.{Placed, sayAnswer}
-use Rattle.records.specs.Told.{limitOf}
+use Rattle.records.specs.AsNumbers.{limitOf}
 use Rattle.records.specs.declared.answer.Limit.{Limit}
 use Rattle.pieces_rules.specs.Step.{more, inPiece, inBuffer, stops, stepOf}
 use Rattle.pieces_rules.specs.Feed.{once}
-use Rattle.pieces.specs.Told.{toldEnd, toldState}
+use Rattle.pieces.specs.PieceAnswer.{toldEnd, toldState}
 use Rattle.pieces.specs.declared.State.{State}
-use Rattle.pieces_read.specs.Told.{toldAnswer, toldReply}
+use Rattle.pieces_read.specs.PacketAnswer.{toldAnswer, toldReply}
 use Rattle.pieces_read.specs.declared.Reply.{Reply}
 
 -- the first clause of the contract of `next`: the reply r, and the buffer b′ afterwards; the second (`Carries`) fixes P7's two numbers

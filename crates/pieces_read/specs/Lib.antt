@@ -1,3 +1,3 @@
-pub mod Told
+pub mod PacketAnswer
 pub mod Handed
 pub mod When

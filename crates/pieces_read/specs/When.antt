@@ -8,7 +8,7 @@ use lib.ListN.{length}
 use Rattle.grammar.specs.Gram.{Then, OnlyBy}
 use Rattle.grammar.specs.Number.{Byte, Spells}
 use Rattle.reading.specs.Refusal.{Refusal, passes}
-use Rattle.records.specs.Told.{rowOf}
+use Rattle.records.specs.AsNumbers.{rowOf}
 use Rattle.pieces_rules.specs.Whole.{frameTooLong}
 
 -- "A frame longer than the buffer", of cap bytes, "as soon as its header is complete, after the limit test": s begins with a first byte and an R that

@@ -8,10 +8,10 @@ use records::answer::Limit;
 use records::answer::Read;
 ghost use mathlib.Core.Path.{_≡_};
 ghost use lib.ListN.{take};
-ghost use Rattle.records.specs.Told.{limitOf};
+ghost use Rattle.records.specs.AsNumbers.{limitOf};
 ghost use Rattle.pieces_rules.specs.Step.{readIn, stepOf};
-ghost use Rattle.pieces.specs.Told.{toldState, toldGiven};
-ghost use Rattle.pieces_read.specs.Told.{toldAnswer, toldReply, Carries};
+ghost use Rattle.pieces.specs.PieceAnswer.{toldState, toldGiven};
+ghost use Rattle.pieces_read.specs.PacketAnswer.{toldAnswer, toldReply, Carries};
 
 pub enum Answer {
     // the piece is taken in, and lacks bytes of a frame

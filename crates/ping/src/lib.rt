@@ -9,7 +9,7 @@ ghost use Prim.Native.Nat.{ℕ};
 ghost use Rattle.writing.specs.Handed.{ping};
 ghost use Rattle.grammar.specs.Tables.{firstOf};
 ghost use Rattle.writing.specs.Write.{sizeOf, Written as WrittenOf};
-ghost use Rattle.records.specs.Told.{limitOf};
+ghost use Rattle.records.specs.AsNumbers.{limitOf};
 ghost use Rattle.records.specs.Answered.{toldSized, toldWritten};
 
 // The size of either ping: 2.

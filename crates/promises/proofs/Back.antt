@@ -22,7 +22,7 @@ use Rattle.writing.specs.Handed.{Handed, PublishHanded, SubscribeHanded, AckHan
 use Rattle.writing.specs.Write.{frameBytes, WrittenBehind}
 use Rattle.writing.specs.Meant.{meant, said, publishSet, subscribeSet, ackSet, unsubscribeSet, thePublish, theAck, theSubscribe, theReply, theUnsubscribe, nonePublish, noneSubscribe, noneAck, noneUnsubscribe, Typed, Plain}
 use Rattle.writing.proofs.Demand.{said-meant}
-use Rattle.records.specs.Told.{toldBool, toldQoS, toldAckKind, toldReplyKind, limitOf}
+use Rattle.records.specs.AsNumbers.{toldBool, toldQoS, toldAckKind, toldReplyKind, limitOf}
 use Rattle.records.specs.Said.{toldPacket}
 use Rattle.records.specs.Answered.{toldWritten}
 use Rattle.records.specs.declared.answer.Limit.{Limit}
@@ -42,8 +42,8 @@ use Rattle.records.specs.declared.subscribe_record.Subscribe.{Subscribe}
 use Rattle.records.specs.declared.reply_record.Reply.{Reply}
 use Rattle.records.specs.declared.reply_record.ReplyKind.{ReplyKind}
 use Rattle.records.specs.declared.unsubscribe_record.Unsubscribe.{Unsubscribe}
-use Rattle.packet.specs.Told.{Says}
-use Rattle.packet.specs.Told as reading
+use Rattle.packet.specs.PacketRead.{Says}
+use Rattle.packet.specs.PacketRead as reading
 use Rattle.promises.specs.Reading.{PublishParts, ReasonPart, UserItems, IdentifierItems, FilterItems, ReasonItems, TopicItems}
 use Rattle.promises.proofs.Reading.{sentence-read}
 use Rattle.promises.proofs.Reading as promises

@@ -17,7 +17,7 @@ use Rattle.writing.specs.Order.{Field, raw, word, filter, code, stringField, gi
 use Rattle.writing.specs.Refuse.{Faulty, long-raw, long-word, long-filter, bad-word, bad-filter, bad-rule, bad-qos, unlisted, FirstFault, Unfit, large, nought, FirstUnfit, Unnamed, Unasked, Refuses, Unsized}
 use Rattle.writing.specs.Refuse as r
 use Rattle.writing.specs.Write.{sizedBehind, answeredBehind}
-use Rattle.records.specs.Told.{rowOf}
+use Rattle.records.specs.AsNumbers.{rowOf}
 use Rattle.given_heads.specs.By.{By, handedBy}
 use Rattle.given_heads.specs.Refuse.{InOrder, RefusesBy, UnsizedBy}
 use Rattle.given_heads.specs.Refuse as c

@@ -14,7 +14,7 @@ use Rattle.reading.specs.Place.{asPlaces, noItem, nthOf, onGot, heldOf, sayVal,
 use Rattle.reading.proofs.Reading.{bad-got, got-inj}
 use Rattle.reading.proofs.Refusing.{got-bad}
 use Rattle.reading.proofs.Items.{nth-user, nth-subscription, nth-filter, nth-topic, user-iff, subscription-iff, filter-iff, reason-iff, topic-iff, user-only, subscription-only, filter-only, reason-only, topic-only}
-use Rattle.records.specs.Told.{toldSpan, toldReplyKind}
+use Rattle.records.specs.AsNumbers.{toldSpan, toldReplyKind}
 use Rattle.records.specs.Answered.{toldUser, toldIdentifier, toldFilterItem, toldReasonItem, toldTopicItem}
 use Rattle.records.proofs.Laws.{injective-by}
 use Rattle.records.proofs.Answered.{backUser, back-user, backIdentifier, back-identifier, backFilterItem, back-filter-item, backReasonItem, back-reason-item, backTopicItem, back-topic-item}
@@ -26,8 +26,8 @@ use Rattle.records.specs.declared.answer.TopicItem.{TopicItem}
 use Rattle.records.specs.declared.span.Span.{Span}
 use Rattle.items.specs.Nth.{NthUser, NthIdentifier}
 use Rattle.records.specs.declared.reply_record.ReplyKind.{ReplyKind}
-use Rattle.filter_runs.specs.Told.{NthFilter}
-use Rattle.entry_runs.specs.Told.{NthReason, NthTopic}
+use Rattle.filter_runs.specs.FilterRun.{NthFilter}
+use Rattle.entry_runs.specs.EntryRun.{NthReason, NthTopic}
 use Rattle.promises.specs.Item.{IsNth, HasUser, HasIdentifier, HasFilter, HasReason, HasTopic}
 
 -- the n-th of a list, in both spellings

@@ -13,7 +13,7 @@ use Rattle.reading.specs.Refusal.{accepted}
 use Rattle.reading.specs.Reader.{Fit, got, bad}
 use Rattle.reading.specs.Place.{asPlaces, Placed, filterAt, reasonAt, topicAt, onGot, heldOf, sayVal, sayFilter, Lists, OnBoth, neither, each, PublishItems, PropsItems, Items, ofPublish, ofAck, ofSubscribe, ofReply, ofUnsubscribe, ofPing}
 use Rattle.reading.specs.Place as place
-use Rattle.records.specs.Told.{toldSpan, toldAckKind, toldReplyKind}
+use Rattle.records.specs.AsNumbers.{toldSpan, toldAckKind, toldReplyKind}
 use Rattle.records.specs.Said.{toldPublishProperties, toldProperties, toldPublishBlock, toldBlock, toldPublish, toldSubscribe, toldAck, toldReply, toldUnsubscribe}
 use Rattle.records.specs.declared.answer.Limit.{Limit}
 use Rattle.records.specs.declared.answer.Read.{Read}
@@ -30,7 +30,7 @@ use Rattle.records.specs.declared.reply_record.Reply.{Reply}
 use Rattle.records.specs.declared.reply_record.ReplyKind.{ReplyKind}
 use Rattle.records.specs.declared.subscribe_record.Subscribe.{Subscribe}
 use Rattle.records.specs.declared.unsubscribe_record.Unsubscribe.{Unsubscribe}
-use Rattle.packet.specs.Told.{Meets, Says}
+use Rattle.packet.specs.PacketRead.{Meets, Says}
 use Rattle.promises.specs.Reading.{UserItems, IdentifierItems, FilterItems, ReasonItems, TopicItems}
 use Rattle.promises.proofs.Reading.{items}
 

@@ -5,9 +5,9 @@ use Rattle.reading.specs.Reader.{Fit}
 use Rattle.reading.specs.Place.{Placed}
 use Rattle.records.specs.declared.answer.Read.{Read}
 use Rattle.records.specs.Answered.{told, carried, toldSized, toldWritten, toldUser, toldIdentifier, toldFilterItem, toldReasonItem, toldTopicItem, toldGotRule}
-use Rattle.records.specs.Told.{toldValues, limitOf}
+use Rattle.records.specs.AsNumbers.{toldValues, limitOf}
 use Rattle.records.proofs.Answered.{backRead, back-read, backSized, back-sized, backWritten, back-written, backUser, back-user, backIdentifier, back-identifier, backFilterItem, back-filter-item, backReasonItem, back-reason-item, backTopicItem, back-topic-item, backGotRule, back-got-rule}
-use Rattle.records.proofs.Told.{backValues, back-values, backLimit, back-limit}
+use Rattle.records.proofs.AsNumbers.{backValues, back-values, backLimit, back-limit}
 use Rattle.promises.specs.OneResult.{OneResult}
 use Rattle.promises.proofs.OneLaws.{one-by}
 

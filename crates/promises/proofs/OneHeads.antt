@@ -6,7 +6,7 @@ use Prim.Native.Nat.{ℕ}
 use mathlib.Core.List.{[]}
 use Rattle.reading.specs.Reader.{Fit, got, bad}
 use Rattle.writing.specs.Handed.{Handed, PublishHanded, SubscribeHanded, AckHanded, ReplyHanded, UnsubscribeHanded, publish, ack, subscribe, reply, unsubscribe, ping}
-use Rattle.records.proofs.Told.{backBool, back-bool, backQoS, back-qos, backAckKind, back-ack-kind, backReplyKind, back-reply-kind, backError, back-error}
+use Rattle.records.proofs.AsNumbers.{backBool, back-bool, backQoS, back-qos, backAckKind, back-ack-kind, backReplyKind, back-reply-kind, backError, back-error}
 use Rattle.records.specs.declared.span.MaybeU8.{MaybeU8}
 use Rattle.records.specs.declared.span.MaybeU16.{MaybeU16}
 use Rattle.records.specs.declared.span.MaybeU32.{MaybeU32}
@@ -18,7 +18,7 @@ use Rattle.reply_write.specs.declared.ReplyHead.{ReplyHead}
 use Rattle.reply_write.specs.Handed as replying
 use Rattle.unsubscribe_write.specs.declared.UnsubscribeHead.{UnsubscribeHead}
 use Rattle.unsubscribe_write.specs.Handed as unsubscribing
-use Rattle.records.specs.Told.{toldAckKind, toldReplyKind}
+use Rattle.records.specs.AsNumbers.{toldAckKind, toldReplyKind}
 use Rattle.records.specs.declared.ack_record.AckKind.{AckKind}
 use Rattle.records.specs.declared.reply_record.ReplyKind.{ReplyKind}
 use Rattle.subscribe_write.specs.declared.SubscribeHead.{SubscribeHead}

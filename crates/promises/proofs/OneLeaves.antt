@@ -12,16 +12,16 @@ use Rattle.reading.specs.Refusal.{nr, cut}
 use Rattle.reading.specs.Reader.{Fit, got, bad}
 use Rattle.reading.specs.Place as place
 use Rattle.reading.proofs.Reading.{bad-got, got-inj}
-use Rattle.records.specs.Told.{toldError, backSpan}
-use Rattle.records.proofs.Told.{back-error, error-injective, backFit, backQoS, back-qos, backAckKind, back-ack-kind, backReplyKind, back-reply-kind, back-span, numberIn}
+use Rattle.records.specs.AsNumbers.{toldError, backSpan}
+use Rattle.records.proofs.AsNumbers.{back-error, error-injective, backFit, backQoS, back-qos, backAckKind, back-ack-kind, backReplyKind, back-reply-kind, back-span, numberIn}
 use Rattle.records.specs.declared.span.Span.{Span}
-use Rattle.numbers.specs.Told.{toldGotU8, toldGotU16, toldGotU32}
+use Rattle.numbers.specs.NumberRead.{toldGotU8, toldGotU16, toldGotU32}
 use Rattle.var_length.specs.Length.{toldLength}
 use Rattle.numbers.specs.declared.got.GotU8.{GotU8}
 use Rattle.numbers.specs.declared.got.GotU16.{GotU16}
 use Rattle.numbers.specs.declared.got.GotU32.{GotU32}
 use Rattle.var_length.specs.declared.GotLength.{GotLength}
-use Rattle.wire.specs.Told.{toldPart}
+use Rattle.wire.specs.StringRead.{toldPart}
 use Rattle.tables.specs.Qos.{toldGotQos}
 use Rattle.tables.specs.Property.{placeOf, toldForm}
 use Rattle.wire.specs.declared.got.GotSpan.{GotSpan}
@@ -29,12 +29,12 @@ use Rattle.tables.specs.declared.qos.GotQos.{GotQos}
 use Rattle.tables.specs.declared.property.PropertyForm.{PropertyForm}
 use Rattle.tables.specs.declared.property.PropertyPlace.{PropertyPlace}
 use Rattle.kinds.specs.Kinds.{toldKind, toldPlace}
-use Rattle.framing.specs.Told.{toldHeader, toldChecked, frameAt}
+use Rattle.framing.specs.HeaderRead.{toldHeader, toldChecked, frameAt}
 use Rattle.framing.proofs.Laws as frame
 use Rattle.framing.specs.declared.check.Checked.{Checked}
 use Rattle.kinds.specs.declared.Kind.{Kind}
 use Rattle.kinds.specs.declared.KindPlace.{KindPlace}
-use Rattle.property_value.specs.Told.{toldValue, formOf, toldProperty, OfForm, PropertyRead}
+use Rattle.property_value.specs.OneProperty.{toldValue, formOf, toldProperty, OfForm, PropertyRead}
 use Rattle.property_value.specs.declared.Value.{Value}
 use Rattle.property_value.specs.declared.GotProperty.{GotProperty}
 use Rattle.given.specs.Kind.{propertyAt, formIn, PropertyGiven}

@@ -7,8 +7,8 @@ use Rattle.grammar.specs.Record as record-of
 use Rattle.reading.specs.Reader.{Fit}
 use Rattle.reading.specs.Place.{Placed}
 use Rattle.reading.specs.Place as place
-use Rattle.records.specs.Told.{backSpan}
-use Rattle.records.proofs.Told.{back-error, backFit, back-span}
+use Rattle.records.specs.AsNumbers.{backSpan}
+use Rattle.records.proofs.AsNumbers.{back-error, backFit, back-span}
 use Rattle.records.proofs.Said.{backPublishBlock, back-publish-block, backBlock, back-block, backFilter, back-filter, backPacket, back-packet}
 use Rattle.records.specs.declared.error.Error.{Error}
 use Rattle.records.specs.declared.packet_record.Packet.{Packet}
@@ -21,21 +21,21 @@ use Rattle.properties.specs.Block.{toldBlockAt}
 use Rattle.properties.specs.declared.place_block.GotBlock.{GotBlock}
 use Rattle.publish.specs.Singles.{toldPublishBlockAt}
 use Rattle.publish.specs.declared.GotPublishBlock.{GotPublishBlock}
-use Rattle.ack.specs.Told.{toldGotAck}
+use Rattle.ack.specs.AckRead.{toldGotAck}
 use Rattle.ack.specs.declared.GotAck.{GotAck}
-use Rattle.filters.specs.Told.{toldGotFilter}
-use Rattle.filter_runs.specs.Told.{toldGotFilters}
+use Rattle.filters.specs.FilterRead.{toldGotFilter}
+use Rattle.filter_runs.specs.FilterRun.{toldGotFilters}
 use Rattle.filters.specs.declared.GotFilter.{GotFilter}
 use Rattle.filter_runs.specs.declared.GotFilters.{GotFilters}
-use Rattle.subscribe.specs.Told.{toldGotSubscribe}
+use Rattle.subscribe.specs.SubscribeRead.{toldGotSubscribe}
 use Rattle.subscribe.specs.declared.GotSubscribe.{GotSubscribe}
-use Rattle.reply.specs.Told.{toldGotReasons, toldGotReply}
+use Rattle.reply.specs.ReplyRead.{toldGotReasons, toldGotReply}
 use Rattle.reply.specs.declared.GotReasons.{GotReasons}
 use Rattle.reply.specs.declared.GotReply.{GotReply}
-use Rattle.unsubscribe.specs.Told.{toldGotTopics, toldGotUnsubscribe}
+use Rattle.unsubscribe.specs.UnsubscribeRead.{toldGotTopics, toldGotUnsubscribe}
 use Rattle.unsubscribe.specs.declared.GotTopics.{GotTopics}
 use Rattle.unsubscribe.specs.declared.GotUnsubscribe.{GotUnsubscribe}
-use Rattle.publish.specs.Told.{toldGotPublish}
+use Rattle.publish.specs.PublishRead.{toldGotPublish}
 use Rattle.publish.specs.declared.GotPublish.{GotPublish}
 use Rattle.promises.specs.OneResult.{OneResult}
 use Rattle.promises.proofs.OneLaws.{one-by}

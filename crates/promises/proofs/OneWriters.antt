@@ -3,11 +3,11 @@ use mathlib.Core.Path.{_≡_, refl, ap}
 use mathlib.Core.Option.{Option, none, some}
 use Prim.Native.Nat.{ℕ}
 use Rattle.reading.specs.Reader.{Fit}
-use Rattle.records.proofs.Told.{back-error, backFit}
+use Rattle.records.proofs.AsNumbers.{back-error, backFit}
 use Rattle.records.specs.declared.span.MaybeU8.{MaybeU8}
 use Rattle.records.specs.declared.span.MaybeU16.{MaybeU16}
 use Rattle.records.specs.declared.span.MaybeU32.{MaybeU32}
-use Rattle.records.specs.Told.{numberU8, numberU16, numberU32}
+use Rattle.records.specs.AsNumbers.{numberU8, numberU16, numberU32}
 use Rattle.row_tests.specs.Tested.{toldTested}
 use Rattle.row_tests.specs.declared.Tested.{Tested}
 use Rattle.promises.specs.OneResult.{OneResult}

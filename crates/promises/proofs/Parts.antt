@@ -11,7 +11,7 @@ use Rattle.reading.specs.Reader.{Fit, got, bad}
 use Rattle.reading.specs.Read.{asBytes, reasonsFit}
 use Rattle.reading.specs.Place.{Span, heldOf, again, valuesAt, onGot, onSome, ifSome, sayVal, sayPublishProps, sayProps, say}
 use Rattle.reading.proofs.Reading.{bad-got, from-got, from-bind}
-use Rattle.records.specs.Told.{toldAckKind, toldReplyKind, toldSpan}
+use Rattle.records.specs.AsNumbers.{toldAckKind, toldReplyKind, toldSpan}
 use Rattle.records.specs.Said.{toldPublishBlock, toldBlock, toldPacket}
 use Rattle.records.specs.declared.packet_record.Packet as code
 use Rattle.records.specs.declared.ack_record.Ack.{Ack}
@@ -20,10 +20,10 @@ use Rattle.records.specs.declared.publish_record.Publish.{Publish}
 use Rattle.records.specs.declared.reply_record.Reply.{Reply}
 use Rattle.records.specs.declared.reply_record.ReplyKind.{ReplyKind}
 use Rattle.wire.specs.Part.{placeIf}
-use Rattle.wire.specs.Told.{stringIf, inBlock}
+use Rattle.wire.specs.StringRead.{stringIf, inBlock}
 use Rattle.wire.proofs.Laws.{place-held}
 use Rattle.publish_parts.specs.Parts.{topicIn, payloadIn, response, correlation, content}
-use Rattle.ack.specs.Told.{reason}
+use Rattle.ack.specs.AckRead.{reason}
 use Rattle.promises.specs.Reading.{itself, PartSays, PublishParts, ReasonPart}
 
 module _ (s : List ℕ) where

@@ -7,7 +7,7 @@ use lib.Seq.{take-append-seam}
 use Rattle.grammar.specs.Sentence.{Packet, Sentence}
 use Rattle.reading.specs.Reader.{got}
 use Rattle.reading.specs.Place.{say}
-use Rattle.records.specs.Told.{limitOf}
+use Rattle.records.specs.AsNumbers.{limitOf}
 use Rattle.records.specs.Said.{toldPacket}
 use Rattle.records.specs.Answered.{told}
 use Rattle.records.specs.declared.answer.Limit.{Limit}
@@ -16,7 +16,7 @@ use Rattle.records.specs.declared.span.Bounds.{Bounds}
 use Rattle.records.specs.declared.packet_record.Packet as code
 use Rattle.placing.specs.Placing.{PlacedSentence, PlacedIn}
 use Rattle.placing.proofs.Placed.{read-placed}
-use Rattle.packet.specs.Told.{Meets}
+use Rattle.packet.specs.PacketRead.{Meets}
 use Rattle.promises.proofs.Reading.{read-sentence}
 
 -- two fronts of one stream, as long as each other

@@ -21,7 +21,7 @@ use Rattle.reading.proofs.Demand.{no-accept}
 use Rattle.reading.proofs.Places.{placed-refused}
 use Rattle.reading.proofs.Rows.{row-1, row-2, row-3, row-4, row-5, row-6, field-rows, row-2-inside}
 use Rattle.reading.proofs.Theorems as reading
-use Rattle.records.specs.Told.{toldError, rowOf, valuesOf, limitOf}
+use Rattle.records.specs.AsNumbers.{toldError, rowOf, valuesOf, limitOf}
 use Rattle.records.specs.Said.{toldPacket}
 use Rattle.records.specs.Answered.{told, carried}
 use Rattle.records.proofs.Answered.{read-injective, refusal-bounded}
@@ -30,7 +30,7 @@ use Rattle.records.specs.declared.answer.Read.{Read}
 use Rattle.records.specs.declared.error.Error.{Error}
 use Rattle.records.specs.declared.packet_record.Packet as code
 use Rattle.records.specs.declared.span.Bounds.{Bounds}
-use Rattle.packet.specs.Told.{Meets, takenIn, Says, Judged}
+use Rattle.packet.specs.PacketRead.{Meets, takenIn, Says, Judged}
 use Rattle.packet.proofs.Laws as packet
 
 -- first one, then the other

@@ -31,7 +31,7 @@ use Rattle.positions.proofs.Less.{text-less, property-less, once-many, filter-l
 use Rattle.positions.proofs.Run.{none-passed, passed-end, passed-bad, passed-next, item-ahead}
 use Rattle.positions.proofs.Trails.{Trails, trails-text, trails-property, trails-filter}
 use Rattle.positions.proofs.Walk.{Less}
-use Rattle.records.specs.Told.{toldSpan, toldAckKind, toldReplyKind}
+use Rattle.records.specs.AsNumbers.{toldSpan, toldAckKind, toldReplyKind}
 use Rattle.records.specs.Said.{toldPublishProperties, toldProperties, toldPublishBlock, toldBlock, toldPublish, toldSubscribe, toldAck, toldReply, toldUnsubscribe}
 use Rattle.records.specs.declared.answer.Limit.{Limit}
 use Rattle.records.specs.declared.answer.Read.{Read}
@@ -48,7 +48,7 @@ use Rattle.records.specs.declared.reply_record.Reply.{Reply}
 use Rattle.records.specs.declared.reply_record.ReplyKind.{ReplyKind}
 use Rattle.records.specs.declared.subscribe_record.Subscribe.{Subscribe}
 use Rattle.records.specs.declared.unsubscribe_record.Unsubscribe.{Unsubscribe}
-use Rattle.packet.specs.Told.{Meets, Says}
+use Rattle.packet.specs.PacketRead.{Meets, Says}
 use Rattle.promises.specs.Walk.{Walked, arrived, onward, Walks, nextFilter, nextTopic, UserWalk, PublishWalk, FilterWalk, TopicWalk}
 use Rattle.promises.proofs.Reading.{record-says}
 use Rattle.promises.proofs.Items.{present}

@@ -23,7 +23,7 @@ use Rattle.writing.specs.Refuse as refuse
 use Rattle.writing.specs.Meant.{said, Typed}
 use Rattle.writing.proofs.Verdict.{accepted-when, refused-when, answered-when, unanswered-when, sized-when, unsized-when}
 use Rattle.writing.proofs.Demand.{writes, written-size, out-refused, out-written, out-length}
-use Rattle.records.specs.Told.{toldError, rowOf, limitOf}
+use Rattle.records.specs.AsNumbers.{toldError, rowOf, limitOf}
 use Rattle.records.specs.Answered.{toldSized, toldWritten}
 use Rattle.records.proofs.Answered.{sized-injective, written-injective}
 use Rattle.records.specs.declared.answer.Limit.{Limit}

@@ -9,7 +9,7 @@ use Rattle.grammar.specs.Record.{allOf}
 use Rattle.grammar.specs.Record as record-of
 use Rattle.grammar.specs.Sentence.{Value, Properties, Text, FilterOf, ReasonOf, someOf}
 use Rattle.reading.specs.Place.{partOf}
-use Rattle.records.specs.Told.{toldSpan}
+use Rattle.records.specs.AsNumbers.{toldSpan}
 use Rattle.records.specs.declared.span.Span.{Span}
 
 -- 01: "n from 0": n items stand before v

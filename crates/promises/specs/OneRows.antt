@@ -8,7 +8,7 @@ use Rattle.grammar.specs.Choice.{isIn, lookup}
 use Rattle.grammar.specs.Tables.{Form, u8, u16, u32, number, text, bytes, pair, Place, formAt, Layout, aPublish, anAck, aSubscribe, aReply, anUnsubscribe, aPing, kinds, reserved, reasonsOf}
 use Rattle.reading.specs.Refusal.{Refusal, nr}
 use Rattle.reading.specs.Reader.{Fit, got, bad, _>>=_, _>>_, guard}
-use Rattle.records.specs.Told.{toldAckKind, toldReplyKind}
+use Rattle.records.specs.AsNumbers.{toldAckKind, toldReplyKind}
 use Rattle.tables.specs.declared.property.PropertyForm.{PropertyForm}
 use Rattle.kinds.specs.declared.Kind.{Kind}
 

@@ -9,7 +9,7 @@ use Rattle.grammar.specs.Record as record-of
 use Rattle.grammar.specs.Sentence.{Value}
 use Rattle.reading.specs.Place.{nthOf, onGot, heldOf, sayVal, sayFilter}
 use Rattle.reading.specs.Place as place
-use Rattle.records.specs.Told.{toldSpan}
+use Rattle.records.specs.AsNumbers.{toldSpan}
 use Rattle.records.specs.Answered.{toldUser, toldIdentifier, toldFilterItem, toldReasonItem, toldTopicItem}
 use Rattle.records.specs.declared.answer.UserItem.{UserItem}
 use Rattle.records.specs.declared.answer.IdentifierItem.{IdentifierItem}
@@ -20,11 +20,11 @@ use Rattle.records.specs.declared.properties_record.MaybeProperties.{MaybePrope
 use Rattle.records.specs.declared.publish_record.Publish.{Publish}
 use Rattle.records.specs.declared.span.Span.{Span}
 use Rattle.wire.specs.Part.{PartAt, placeIf}
-use Rattle.wire.specs.Told.{stringIf, inBlock}
+use Rattle.wire.specs.StringRead.{stringIf, inBlock}
 use Rattle.items.specs.Nth.{NthUser, NthIdentifier}
-use Rattle.ack.specs.Told.{reason}
-use Rattle.filter_runs.specs.Told.{NthFilter}
-use Rattle.entry_runs.specs.Told.{NthReason, NthTopic}
+use Rattle.ack.specs.AckRead.{reason}
+use Rattle.filter_runs.specs.FilterRun.{NthFilter}
+use Rattle.entry_runs.specs.EntryRun.{NthReason, NthTopic}
 use Rattle.records.specs.declared.reply_record.ReplyKind.{ReplyKind}
 use Rattle.publish_parts.specs.Parts.{response, correlation, content}
 

@@ -10,7 +10,7 @@ use Rattle.reading.specs.Reader.{got, _>>_, guard}
 use Rattle.writing.specs.Handed.{Handed}
 use Rattle.writing.specs.Meant.{Below}
 use Rattle.reading.specs.Place.{say, Items}
-use Rattle.records.specs.Told.{limitOf, numberU8, numberU16, numberU32}
+use Rattle.records.specs.AsNumbers.{limitOf, numberU8, numberU16, numberU32}
 use Rattle.records.specs.Said.{toldPacket}
 use Rattle.records.specs.Answered.{toldSized, toldWritten}
 use Rattle.records.specs.declared.answer.Limit.{Limit}

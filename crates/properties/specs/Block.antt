@@ -12,7 +12,7 @@ use Rattle.reading.specs.Refusal.{cut, crossed}
 use Rattle.reading.specs.Reader.{Fit, got, bad, Reader, sizedOf, foldFit}
 use Rattle.reading.specs.Read.{numOf, anyBytes, stringFit, onceOf}
 use Rattle.reading.specs.Place.{Span, asPlaces, onGot}
-use Rattle.records.specs.Told.{toldError}
+use Rattle.records.specs.AsNumbers.{toldError}
 use Rattle.records.specs.Said.{toldBlock}
 use Rattle.properties.specs.declared.place_block.GotBlock.{GotBlock}
 

@@ -8,7 +8,7 @@ use wire::got::GotSpan;
 ghost use mathlib.Core.Path.{_≡_};
 ghost use lib.ListN as list;
 ghost use Rattle.positions.specs.Position.{fromAt};
-ghost use Rattle.wire.specs.Told.{toldPart};
+ghost use Rattle.wire.specs.StringRead.{toldPart};
 ghost use Rattle.properties.specs.Block.{extentOf};
 
 // The L bytes after a length L, and the index after them. An L above what is left is refused before any property is looked at (D2).

@@ -19,10 +19,10 @@ ghost use Rattle.grammar.specs.Tables.{formAt};
 ghost use Rattle.reading.specs.Read.{blockOf, propsAs};
 ghost use Rattle.reading.specs.Place.{asPlaces};
 ghost use Rattle.positions.specs.Position.{fromAt};
-ghost use Rattle.records.specs.Told.{toldSpan};
+ghost use Rattle.records.specs.AsNumbers.{toldSpan};
 ghost use Rattle.records.specs.Said.{toldProperties};
 ghost use Rattle.tables.specs.Property.{placeOf, otherOf};
-ghost use Rattle.property_value.specs.Told.{toldValue, formOf};
+ghost use Rattle.property_value.specs.OneProperty.{toldValue, formOf};
 ghost use Rattle.properties.specs.Block.{saidOf, propsSaid, propsRow, applied, filledAt, toldBlockAt};
 
 // The properties, if there are any, and the index after the block; or the refusal.

@@ -21,10 +21,10 @@ use Rattle.positions.proofs.Trails.{Trails, trails-reads, trails-map, trails-th
 use Rattle.positions.proofs.Position.{got-left, got-within, bad-left, left-at, left-bad}
 use borrow.Author.Tests.{ne-eqb}
 use Rattle.positions.proofs.Fill.{then-bad, map-bad, then-got, map-got}
-use Rattle.records.specs.Told.{toldError, toldSpan}
+use Rattle.records.specs.AsNumbers.{toldError, toldSpan}
 use Rattle.records.specs.declared.error.Error.{Error}
 use Rattle.records.specs.declared.span.Span as records
-use Rattle.property_value.specs.Told.{identifierOf, toldValue, formOf, toldProperty, OfForm, ValueRead, PropertyRead, ValuePassed, PropertyPassed}
+use Rattle.property_value.specs.OneProperty.{identifierOf, toldValue, formOf, toldProperty, OfForm, ValueRead, PropertyRead, ValuePassed, PropertyPassed}
 use Rattle.property_value.specs.declared.Value.{Value}
 use Rattle.property_value.specs.declared.Value.the-variants.{Pair}
 use Rattle.property_value.specs.declared.GotProperty.{GotProperty}

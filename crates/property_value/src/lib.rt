@@ -16,9 +16,9 @@ ghost use mathlib.Core.Path.{_≡_};
 ghost use mathlib.Core.Option.{some};
 ghost use Rattle.grammar.specs.Tables.{number, pair};
 ghost use Rattle.positions.specs.Position.{fromAt};
-ghost use Rattle.numbers.specs.Told.{toldGotU32};
+ghost use Rattle.numbers.specs.NumberRead.{toldGotU32};
 ghost use Rattle.tables.specs.Property.{placeOf, toldForm};
-ghost use Rattle.property_value.specs.Told.{identifierOf, ValueRead, PropertyRead, publishLists, ValuePassed, PropertyPassed};
+ghost use Rattle.property_value.specs.OneProperty.{identifierOf, ValueRead, PropertyRead, publishLists, ValuePassed, PropertyPassed};
 
 // A value, by its form.
 pub enum Value {

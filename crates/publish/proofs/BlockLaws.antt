@@ -5,7 +5,7 @@ use Prim.Native.Nat.{ℕ, _<_}
 use native.Mathlib.Omega.{arith}
 use lib.ListN.{length, getD}
 use Rattle.reading.specs.Reader.{Fit}
-use Rattle.property_value.specs.Told.{publishLists, PropertyPassed}
+use Rattle.property_value.specs.OneProperty.{publishLists, PropertyPassed}
 use Rattle.properties.specs.Block.{publishRow}
 use Rattle.properties.proofs.Laws.Fold.{Filling, over-ahead, loop-over}
 use Rattle.publish.specs.Singles.{ListsPassed}

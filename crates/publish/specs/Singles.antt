@@ -8,7 +8,7 @@ use Rattle.grammar.specs.Choice.{isIn}
 use Rattle.grammar.specs.Record.{Val, num, str, PublishProps}
 use Rattle.reading.specs.Reader.{Fit, got, bad}
 use Rattle.reading.specs.Place.{Span}
-use Rattle.records.specs.Told.{toldError, toldSpan}
+use Rattle.records.specs.AsNumbers.{toldError, toldSpan}
 use Rattle.records.specs.Said.{toldPublishBlock}
 use Rattle.properties.specs.Block.{publishRow, loopFrom}
 use Rattle.publish.specs.declared.GotPublishBlock.{GotPublishBlock}

@@ -29,14 +29,14 @@ ghost use Rattle.grammar.specs.Record.{num, str};
 ghost use Rattle.reading.specs.Read.{identOf, bytesOf, fieldsFit, blockOf, publishAs};
 ghost use Rattle.reading.specs.Place.{asPlaces};
 ghost use Rattle.positions.specs.Position.{fromAt};
-ghost use Rattle.records.specs.Told.{toldQoS, toldSpan, toldU8, toldU16, toldU32, toldString};
+ghost use Rattle.records.specs.AsNumbers.{toldQoS, toldSpan, toldU8, toldU16, toldU32, toldString};
 ghost use Rattle.records.specs.Said.{toldPublishProperties};
-ghost use Rattle.numbers.specs.Told.{toldGotU16};
-ghost use Rattle.wire.specs.Told.{toldPart};
-ghost use Rattle.property_value.specs.Told.{toldValue, formOf};
+ghost use Rattle.numbers.specs.NumberRead.{toldGotU16};
+ghost use Rattle.wire.specs.StringRead.{toldPart};
+ghost use Rattle.property_value.specs.OneProperty.{toldValue, formOf};
 ghost use Rattle.properties.specs.Block.{publishRow, applied, filledAt};
 ghost use Rattle.publish.specs.Singles.{given, toldSingles, ListsPassed, toldPublishBlockAt};
-ghost use Rattle.publish.specs.Told.{toldGotPublish};
+ghost use Rattle.publish.specs.PublishRead.{toldGotPublish};
 
 // ---- the properties, after `PublishProperties::read`: a single-valued one given twice is refused; the lists are left in the block, and the
 // record keeps where it stands

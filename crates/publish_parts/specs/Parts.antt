@@ -6,11 +6,11 @@ use Prim.Native.Nat.{ℕ}
 use Rattle.grammar.specs.Record.{Val}
 use Rattle.reading.specs.Place.{heldOf}
 use Rattle.reading.specs.Place as place
-use Rattle.records.specs.Told.{toldSpan, toldString}
+use Rattle.records.specs.AsNumbers.{toldSpan, toldString}
 use Rattle.records.specs.Said.{toldPublishBlock}
 use Rattle.records.specs.declared.publish_record.Publish.{Publish}
 use Rattle.records.specs.declared.publish_record.PublishProperties.{PublishProperties}
-use Rattle.wire.specs.Told.{stringIf, inBlock}
+use Rattle.wire.specs.StringRead.{stringIf, inBlock}
 
 -- the strings of the block of m, each absent where there is no block; 01, table of properties, 8, 9 and 3
 module _ (m : Publish) where

@@ -9,7 +9,7 @@ use records::span::MaybeU32;
 use records::span::Span;
 use wire::string;
 ghost use mathlib.Core.Path.{_≡_};
-ghost use Rattle.records.specs.Told.{toldSpan};
+ghost use Rattle.records.specs.AsNumbers.{toldSpan};
 ghost use Rattle.wire.specs.Part.{PartAt, placeIf};
 ghost use Rattle.publish_parts.specs.Parts.{Strings, response, correlation, content};
 

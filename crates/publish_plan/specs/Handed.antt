@@ -2,7 +2,7 @@
 use mathlib.Core.List.{List}
 use Prim.Native.Nat.{ℕ}
 use Rattle.writing.specs.Handed.{PublishHanded}
-use Rattle.records.specs.Told.{toldBool, toldQoS, numberU8, numberU16, numberU32}
+use Rattle.records.specs.AsNumbers.{toldBool, toldQoS, numberU8, numberU16, numberU32}
 use Rattle.rows.specs.Given.{run}
 use Rattle.publish_plan.specs.declared.head.PublishHead.{PublishHead}
 

@@ -20,7 +20,7 @@ use Rattle.writing.proofs.Says.{length-wide}
 use Rattle.writing.proofs.Sizes.{length-string}
 use Rattle.writing.proofs.Tests.{le-or}
 use Rattle.writing.proofs.ForCode.{runFrom, stringAt, strings-more, strings-done}
-use Rattle.records.specs.Told.{toldQoS}
+use Rattle.records.specs.AsNumbers.{toldQoS}
 use Rattle.records.specs.declared.qos.QoS.{QoS}
 use Rattle.rows.specs.Given.{givenU8, givenU16, givenU32, givenLent, givenPairs}
 use Rattle.publish_plan.specs.Handed.{handed}

@@ -18,7 +18,7 @@ ghost use Rattle.grammar.specs.Tables.{Form, pair};
 ghost use Rattle.writing.specs.Handed.{publish, addsUp};
 ghost use Rattle.writing.specs.Spell.{short, string as spelled, rowBytes};
 ghost use Rattle.writing.specs.Write.{firstByte, identBytes};
-ghost use Rattle.records.specs.Told.{toldBool, toldQoS};
+ghost use Rattle.records.specs.AsNumbers.{toldBool, toldQoS};
 ghost use Rattle.rows.specs.Given.{run as runOf, givenLent, givenPairs};
 ghost use Rattle.publish_plan.specs.Handed.{handed};
 ghost use Rattle.publish_write.specs.Laid.{Laid, Room, numberRows, stringRows, listRows, allRows};

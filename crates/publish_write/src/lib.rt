@@ -13,7 +13,7 @@ use records::answer::Written;
 ghost use mathlib.Core.Path.{_≡_};
 ghost use Rattle.writing.specs.Handed.{publish};
 ghost use Rattle.writing.specs.Write.{sizeOf, Written as WrittenOf};
-ghost use Rattle.records.specs.Told.{limitOf};
+ghost use Rattle.records.specs.AsNumbers.{limitOf};
 ghost use Rattle.records.specs.Answered.{toldSized, toldWritten};
 ghost use Rattle.publish_plan.specs.Handed.{handed};
 

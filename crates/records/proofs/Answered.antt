@@ -8,10 +8,10 @@ use Rattle.reading.specs.Reader.{Fit, got, bad}
 use Rattle.reading.specs.Place.{Placed}
 use Rattle.reading.specs.Place as place
 use Rattle.reading.specs.Bounds.{boundsBy}
-use Rattle.records.specs.Told.{toldError, backSpan}
+use Rattle.records.specs.AsNumbers.{toldError, backSpan}
 use Rattle.records.specs.Answered.{told, carried, Bounded, toldSized, toldWritten, toldUser, toldIdentifier, toldFilterItem, toldReasonItem, toldTopicItem, toldGotRule}
 use Rattle.records.proofs.Laws.{injective-by}
-use Rattle.records.proofs.Told.{backError, back-error, backFit, backRule, back-rule, back-span}
+use Rattle.records.proofs.AsNumbers.{backError, back-error, backFit, backRule, back-rule, back-span}
 use Rattle.records.proofs.Said.{backFilter, back-filter, backPacket, back-packet}
 use Rattle.records.specs.declared.error.Error.{Error}
 use Rattle.records.specs.declared.answer.Read.{Read}

@@ -1,4 +1,4 @@
 pub mod Laws
-pub mod Told
+pub mod AsNumbers
 pub mod Said
 pub mod Answered

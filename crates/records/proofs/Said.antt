@@ -19,8 +19,8 @@ use Rattle.records.specs.declared.subscribe_record.Filter.{Filter}
 use Rattle.records.specs.declared.subscribe_record.Subscribe.{Subscribe}
 use Rattle.records.specs.declared.reply_record.Reply.{Reply}
 use Rattle.records.specs.declared.unsubscribe_record.Unsubscribe.{Unsubscribe}
-use Rattle.records.specs.Told.{backSpan}
-use Rattle.records.proofs.Told.{backBool, backQoS, backAckKind, backReplyKind, backRule, backU8, backU16, backU32, backString, back-bool, back-qos, back-ack-kind, back-reply-kind, back-rule, back-span, back-u8, back-u16, back-u32, back-string}
+use Rattle.records.specs.AsNumbers.{backSpan}
+use Rattle.records.proofs.AsNumbers.{backBool, backQoS, backAckKind, backReplyKind, backRule, backU8, backU16, backU32, backString, back-bool, back-qos, back-ack-kind, back-reply-kind, back-rule, back-span, back-u8, back-u16, back-u32, back-string}
 
 -- ---- property sets
 

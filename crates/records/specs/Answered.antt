@@ -10,7 +10,7 @@ use Rattle.reading.specs.Reader.{Fit, got, bad, _>>_, guard}
 use Rattle.reading.specs.Place.{Placed, noItem}
 use Rattle.reading.specs.Place as place
 use Rattle.reading.specs.Bounds.{boundsBy}
-use Rattle.records.specs.Told.{toldError, toldRule, toldSpan}
+use Rattle.records.specs.AsNumbers.{toldError, toldRule, toldSpan}
 use Rattle.records.specs.Said.{toldFilter, toldPacket}
 use Rattle.records.specs.declared.span.Bounds.{Bounds}
 use Rattle.records.specs.declared.answer.Read.{Read}

@@ -1,4 +1,4 @@
 pub mod Ascii
-pub mod Told
+pub mod AsNumbers
 pub mod Said
 pub mod Answered

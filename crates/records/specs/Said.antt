@@ -4,7 +4,7 @@ use Rattle.grammar.specs.Record.{PublishProps, Props, publish, ack, subscribe, 
 use Rattle.grammar.specs.Record as record-of
 use Rattle.reading.specs.Place.{Placed}
 use Rattle.reading.specs.Place as place
-use Rattle.records.specs.Told.{toldBool, toldQoS, toldAckKind, toldReplyKind, toldRule, toldSpan, toldU8, toldU16, toldU32, toldString}
+use Rattle.records.specs.AsNumbers.{toldBool, toldQoS, toldAckKind, toldReplyKind, toldRule, toldSpan, toldU8, toldU16, toldU32, toldString}
 use Rattle.records.specs.declared.packet_record.Packet.{Packet}
 use Rattle.records.specs.declared.ack_record.Ack.{Ack}
 use Rattle.records.specs.declared.properties_record.Properties.{Properties}

@@ -2,7 +2,7 @@
 use records::error::Error;
 use records::values::Values;
 ghost use mathlib.Core.Path.{_≡_};
-ghost use Rattle.records.specs.Told.{toldError, rowOf, valuesOf, toldValues};
+ghost use Rattle.records.specs.AsNumbers.{toldError, rowOf, valuesOf, toldValues};
 
 // 01's number of a refusal.
 pub fn number(e: Error) -> u8

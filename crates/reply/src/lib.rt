@@ -18,8 +18,8 @@ ghost use Rattle.grammar.specs.Record.{kindOf};
 ghost use Rattle.reading.specs.Read.{reasonOf, fieldsFit};
 ghost use Rattle.reading.specs.Place.{asPlaces, onGot};
 ghost use Rattle.positions.specs.Position.{placedRun};
-ghost use Rattle.records.specs.Told.{toldReplyKind};
-ghost use Rattle.reply.specs.Told.{toldGotReasons, toldGotReply};
+ghost use Rattle.records.specs.AsNumbers.{toldReplyKind};
+ghost use Rattle.reply.specs.ReplyRead.{toldGotReasons, toldGotReply};
 
 // Where the reasons stand.
 pub enum GotReasons {

@@ -27,7 +27,7 @@ ghost use Rattle.writing.specs.Handed.{reply, belongs as belongsOf};
 ghost use Rattle.writing.specs.Size.{most, restIs, cap};
 ghost use Rattle.writing.specs.Order.{judge, code, fieldTests};
 ghost use Rattle.writing.specs.Write.{frameBytes, sizeOf, Written as WrittenOf};
-ghost use Rattle.records.specs.Told.{limitOf, toldReplyKind};
+ghost use Rattle.records.specs.AsNumbers.{limitOf, toldReplyKind};
 ghost use Rattle.records.specs.Answered.{toldSized, toldWritten};
 ghost use Rattle.row_tests.specs.Tested.{toldTested};
 ghost use Rattle.settle.specs.Found.{earlyOf};

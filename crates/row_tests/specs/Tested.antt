@@ -1,6 +1,6 @@
 -- What an answer of a test tells. Assumes nothing.
 use Rattle.reading.specs.Reader.{Fit, got, bad}
-use Rattle.records.specs.Told.{toldError}
+use Rattle.records.specs.AsNumbers.{toldError}
 use Rattle.row_tests.specs.declared.Tested.{Tested}
 
 -- 01, writing order: fine so far, or the refusal

@@ -13,7 +13,7 @@ ghost use Rattle.reading.specs.Reader.{_>>_ as first};
 ghost use Rattle.writing.specs.Lists.{flat};
 ghost use Rattle.writing.specs.Handed.{strings};
 ghost use Rattle.writing.specs.Order.{judge, raw, word, fieldTests, givenFields, numberTests, orNone};
-ghost use Rattle.records.specs.Told.{numberU32};
+ghost use Rattle.records.specs.AsNumbers.{numberU32};
 ghost use Rattle.rows.specs.Given.{givenLent, run as runOf};
 ghost use Rattle.row_tests.specs.Tested.{toldTested};
 

@@ -3,7 +3,7 @@ use mathlib.Core.Bool.{Bool}
 use mathlib.Core.List.{List}
 use Prim.Native.Nat.{ℕ}
 use Rattle.writing.specs.Handed.{Run, Given, one, lent, pairs}
-use Rattle.records.specs.Told.{numberU8, numberU16, numberU32}
+use Rattle.records.specs.AsNumbers.{numberU8, numberU16, numberU32}
 use Rattle.records.specs.declared.span.MaybeU8.{MaybeU8}
 use Rattle.records.specs.declared.span.MaybeU16.{MaybeU16}
 use Rattle.records.specs.declared.span.MaybeU32.{MaybeU32}

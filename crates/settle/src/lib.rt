@@ -11,7 +11,7 @@ ghost use mathlib.Core.Path.{_≡_};
 ghost use Prim.Native.Nat.{_+_, _≤_};
 ghost use Rattle.writing.specs.Size.{most, withLength};
 ghost use Rattle.writing.specs.Order.{judge, limitTests};
-ghost use Rattle.records.specs.Told.{limitOf};
+ghost use Rattle.records.specs.AsNumbers.{limitOf};
 ghost use Rattle.records.specs.Answered.{toldSized, toldWritten};
 ghost use Rattle.row_tests.specs.Tested.{toldTested};
 ghost use Rattle.settle.specs.Found.{withinRoom, settledOf, sizeAlone};

@@ -9,7 +9,7 @@ use Rattle.reading.specs.Reader.{handFit}
 use Rattle.reading.specs.Read.{filtersFit, fieldsFit}
 use Rattle.reading.specs.Place.{asPlaces}
 use Rattle.positions.proofs.Listed.{listedFields}
-use Rattle.filter_runs.specs.Told.{placeFit}
+use Rattle.filter_runs.specs.FilterRun.{placeFit}
 
 pub as-listed : (s : List ℕ) (at x : ℕ) → listedFields subscribePlace (placeFit (length s)) mkSubscribe s at ≡ fieldsFit asPlaces aSubscribe x (length s) (drop at s)
 unfolding fieldsFit handFit filtersFit

@@ -14,7 +14,7 @@ ghost use lib.ListN.{length, drop};
 ghost use Rattle.grammar.specs.Tables.{aSubscribe};
 ghost use Rattle.reading.specs.Read.{fieldsFit};
 ghost use Rattle.reading.specs.Place.{asPlaces};
-ghost use Rattle.subscribe.specs.Told.{toldGotSubscribe};
+ghost use Rattle.subscribe.specs.SubscribeRead.{toldGotSubscribe};
 
 pub enum GotSubscribe {
     Value(Subscribe),

@@ -2,7 +2,7 @@
 use mathlib.Core.List.{List}
 use Prim.Native.Nat.{ℕ}
 use Rattle.writing.specs.Handed.{SubscribeHanded}
-use Rattle.records.specs.Told.{numberU32}
+use Rattle.records.specs.AsNumbers.{numberU32}
 use Rattle.rows.specs.Given.{run}
 use Rattle.subscribe_write.specs.declared.SubscribeHead.{SubscribeHead}
 

@@ -23,7 +23,7 @@ ghost use Rattle.writing.specs.Handed.{subscribe, subscribeGiven, belongs as be
 ghost use Rattle.writing.specs.Spell.{short, propsBytes};
 ghost use Rattle.writing.specs.Size.{most, propsSize, restIs, cap};
 ghost use Rattle.writing.specs.Write.{frameBytes, sizeOf, Written as WrittenOf};
-ghost use Rattle.records.specs.Told.{limitOf};
+ghost use Rattle.records.specs.AsNumbers.{limitOf};
 ghost use Rattle.records.specs.Answered.{toldSized, toldWritten};
 ghost use Rattle.row_tests.specs.Tested.{toldTested};
 ghost use Rattle.row_puts.specs.Behind.{Behind};

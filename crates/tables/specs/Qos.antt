@@ -4,7 +4,7 @@ use Prim.Native.Nat.{ℕ}
 use lib.Dec.{ltb}
 use Rattle.reading.specs.Refusal.{nr}
 use Rattle.reading.specs.Reader.{Fit, got, bad, _>>_, guard}
-use Rattle.records.specs.Told.{toldError, toldQoS}
+use Rattle.records.specs.AsNumbers.{toldError, toldQoS}
 use Rattle.tables.specs.declared.qos.GotQos.{GotQos}
 use Rattle.tables.specs.declared.qos.GotQos.the-variants.{Value, Refused}
 

@@ -4,7 +4,7 @@ use records::reply_record::ReplyKind;
 ghost use mathlib.Core.Path.{_≡_};
 ghost use Rattle.grammar.specs.Choice.{isIn};
 ghost use Rattle.grammar.specs.Tables.{reasons, releaseReasons, subAckReasons, unsubAckReasons, reasonsOf};
-ghost use Rattle.records.specs.Told.{toldAckKind, toldReplyKind};
+ghost use Rattle.records.specs.AsNumbers.{toldAckKind, toldReplyKind};
 
 // Whether a PubAck or PubRec can give this reason.
 fn is_publish_reason(num: u8) -> bool

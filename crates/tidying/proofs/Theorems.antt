@@ -30,9 +30,9 @@ use Rattle.writing.specs.Write.{frameBytes, outOf, leaves, Written, answeredBeh
 use Rattle.writing.proofs.Each.{each-left}
 use Rattle.writing.proofs.Verdict.{accepted-when, refused-when, answered-when, unanswered-when}
 use Rattle.writing.proofs.Sizes.{length-frame}
-use Rattle.records.specs.Told.{toldError}
+use Rattle.records.specs.AsNumbers.{toldError}
 use Rattle.records.proofs.Laws.{injective-by}
-use Rattle.records.proofs.Told.{backError, back-error}
+use Rattle.records.proofs.AsNumbers.{backError, back-error}
 use Rattle.tidy.specs.Tidy.{handedOf, tidyOf}
 use Rattle.tidy.specs.Order.{successIn, shortAck}
 use Rattle.tidy.proofs.Said.{sentence-said}

@@ -15,7 +15,7 @@ use Rattle.reading.specs.Reader.{got}
 use Rattle.reading.specs.Refusal.{accepted, refusedAs}
 use Rattle.reading.specs.Place.{Placed, readPlacedOf}
 use Rattle.reading.specs.Bounds.{frameBounds, boundsOf}
-use Rattle.records.specs.Told.{toldError}
+use Rattle.records.specs.AsNumbers.{toldError}
 use Rattle.writing.specs.Lists.{flat}
 use Rattle.writing.specs.Handed.{Handed}
 use Rattle.writing.specs.Spell.{string, filterBytes}

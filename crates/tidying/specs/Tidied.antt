@@ -12,8 +12,8 @@ use Rattle.grammar.specs.Tables.{Layout, aPublish, anAck, aSubscribe, aReply, a
 use Rattle.reading.specs.Refusal.{nr, Answer, accepted, refused, refusedAs}
 use Rattle.reading.specs.Reader.{Fit, got, bad}
 use Rattle.reading.specs.Read.{readOf}
-use Rattle.records.specs.Told.{toldError}
-use Rattle.packet.specs.Told.{takenIn}
+use Rattle.records.specs.AsNumbers.{toldError}
+use Rattle.packet.specs.PacketRead.{takenIn}
 use Rattle.tidy.specs.Tidy.{tidyOf}
 use Rattle.tidy.specs.Order.{successIn}
 use Rattle.tidying.specs.declared.Tidied.{Tidied}

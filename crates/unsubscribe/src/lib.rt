@@ -16,7 +16,7 @@ ghost use Rattle.grammar.specs.Tables.{anUnsubscribe};
 ghost use Rattle.reading.specs.Read.{textOf, fieldsFit};
 ghost use Rattle.reading.specs.Place.{asPlaces};
 ghost use Rattle.positions.specs.Position.{placedRun};
-ghost use Rattle.unsubscribe.specs.Told.{toldGotTopics, toldGotUnsubscribe};
+ghost use Rattle.unsubscribe.specs.UnsubscribeRead.{toldGotTopics, toldGotUnsubscribe};
 
 // Where the topics stand.
 pub enum GotTopics {

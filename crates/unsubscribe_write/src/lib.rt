@@ -22,7 +22,7 @@ ghost use Rattle.writing.specs.Handed.{unsubscribe, unsubscribeGiven, belongs a
 ghost use Rattle.writing.specs.Spell.{short, propsBytes};
 ghost use Rattle.writing.specs.Size.{most, propsSize, restIs, cap};
 ghost use Rattle.writing.specs.Write.{frameBytes, sizeOf, Written as WrittenOf};
-ghost use Rattle.records.specs.Told.{limitOf};
+ghost use Rattle.records.specs.AsNumbers.{limitOf};
 ghost use Rattle.records.specs.Answered.{toldSized, toldWritten};
 ghost use Rattle.rows.specs.Given.{run as runOf};
 ghost use Rattle.row_tests.specs.Tested.{toldTested};

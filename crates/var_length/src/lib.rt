@@ -8,7 +8,7 @@ ghost use lib.Dec.{leb};
 ghost use Rattle.reading.specs.Refusal.{Refusal, cut};
 ghost use Rattle.reading.specs.Read.{numOf};
 ghost use Rattle.positions.specs.Position.{fromAt};
-ghost use Rattle.numbers.specs.Told.{toldGotU32};
+ghost use Rattle.numbers.specs.NumberRead.{toldGotU32};
 ghost use Rattle.var_length.specs.Length.{toldLength};
 
 // The number that stands at an index, with no word yet on what a number cut off means: the header and a frame refuse it in different ways.

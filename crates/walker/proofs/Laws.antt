@@ -14,10 +14,10 @@ use Rattle.reading.specs.Place.{Span, asPlaces, noItem}
 use Rattle.reading.proofs.Reading.{bad-got}
 use Rattle.positions.specs.Position.{fromAt}
 use Rattle.records.specs.Answered.{toldUser}
-use Rattle.records.specs.Told.{toldError}
+use Rattle.records.specs.AsNumbers.{toldError}
 use Rattle.records.specs.declared.answer.UserItem.{UserItem}
 use Rattle.records.specs.declared.error.Error.{Error}
-use Rattle.property_value.specs.Told.{toldValue, formOf, PropertyRead}
+use Rattle.property_value.specs.OneProperty.{toldValue, formOf, PropertyRead}
 use Rattle.property_value.proofs.Laws.{property-ahead}
 use Rattle.property_value.specs.declared.Value.{Value}
 use Rattle.property_value.specs.declared.GotProperty.the-variants.{Found, Refused}

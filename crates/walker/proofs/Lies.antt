@@ -19,7 +19,7 @@ use Rattle.reading.proofs.Reading.{bad-got, got-inj, from-bind}
 use Rattle.reading.proofs.Forget.{Like, gots, bads}
 use Rattle.reading.proofs.Places.{properties-says, placed-accepted}
 use Rattle.reading.proofs.Items.{again-like}
-use Rattle.records.specs.Told.{toldError}
+use Rattle.records.specs.AsNumbers.{toldError}
 use Rattle.records.specs.Said.{toldPacket}
 use Rattle.records.specs.declared.error.Error.{Error}
 use Rattle.records.specs.declared.packet_record.Packet as code

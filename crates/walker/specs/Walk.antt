@@ -15,7 +15,7 @@ use Rattle.tables.specs.Property.{placeOf}
 use Rattle.tables.specs.declared.property.PropertyPlace.{PropertyPlace}
 use Rattle.records.specs.Answered.{toldUser}
 use Rattle.records.specs.declared.answer.UserItem.{UserItem}
-use Rattle.property_value.specs.Told.{toldValue, formOf}
+use Rattle.property_value.specs.OneProperty.{toldValue, formOf}
 use Rattle.property_value.specs.declared.Value.{Value}
 use denote.Ref.{now}
 use Rattle.grammar.specs.Tables as tables

@@ -17,7 +17,7 @@ ghost use mathlib.Core.Option.{none, some};
 ghost use mathlib.Core.Path.{_≡_};
 ghost use Rattle.grammar.specs.Tables.{publishPlace};
 ghost use Rattle.reading.specs.Place.{onSome};
-ghost use Rattle.records.specs.Told.{toldSpan};
+ghost use Rattle.records.specs.AsNumbers.{toldSpan};
 ghost use Rattle.records.specs.Said.{toldPublishBlock, toldBlock, toldPacket};
 ghost use Rattle.records.specs.Answered.{toldUser};
 ghost use Rattle.tables.specs.Property.{placeOf};

@@ -11,9 +11,9 @@ ghost use lib.ListN.{length};
 ghost use Rattle.reading.specs.Read.{bytesOf, textOf};
 ghost use Rattle.reading.specs.Place.{asPlaces, liesIn};
 ghost use Rattle.positions.specs.Position.{fromAt};
-ghost use Rattle.records.specs.Told.{toldSpan, toldString};
+ghost use Rattle.records.specs.AsNumbers.{toldSpan, toldString};
 ghost use Rattle.wire.specs.Part.{PartAt, placeIf};
-ghost use Rattle.wire.specs.Told.{toldPart};
+ghost use Rattle.wire.specs.StringRead.{toldPart};
 
 // The place of a string of any bytes, behind its length, and the index after it; 7, or 8 with the length.
 pub fn read_mqtt_bytes(s: &[u8], at: usize) -> GotSpan

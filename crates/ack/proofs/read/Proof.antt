@@ -3,7 +3,7 @@ use mathlib.Core.Path.{sym, ap, _∙_}
 use borrow.Author.Needs.{needs}
 use Rattle.grammar.specs.Record.{ack}
 use Rattle.reading.specs.Place.{onGot}
-use Rattle.numbers.specs.Told.{toldGotU16}
+use Rattle.numbers.specs.NumberRead.{toldGotU16}
 use Rattle.ack.proofs.Laws.{ident-bad, ident-got}
 use Rattle.ack.proofs.read.Statement.{statement}
 use Rattle.ack.proofs.read.Tie as tie

@@ -2,7 +2,7 @@
 use mathlib.Core.Path.{sym, ap, _∙_}
 use borrow.Author.Needs.{needs}
 use denote.Ref.{now}
-use Rattle.ack.specs.Told.{toldLastBlock}
+use Rattle.ack.specs.AckRead.{toldLastBlock}
 use Rattle.ack.proofs.Laws.{behind-bad, behind-got}
 use Rattle.ack.proofs.read_behind.Statement.{statement}
 use Rattle.ack.proofs.read_behind.Tie as tie

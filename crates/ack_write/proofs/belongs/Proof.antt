@@ -1,7 +1,7 @@
 -- `ack_write::belongs` is right since only its block can fail to belong together. Assumes nothing.
 use borrow.Author.Needs.{needs}
 use denote.Ref.{now}
-use Rattle.records.specs.Told.{toldAckKind}
+use Rattle.records.specs.AsNumbers.{toldAckKind}
 use Rattle.ack_write.specs.Handed.{handed}
 use Rattle.ack_write.proofs.Laws.{belong-all}
 use Rattle.ack_write.proofs.belongs.Statement.{statement}

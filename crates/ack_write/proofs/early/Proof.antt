@@ -2,7 +2,7 @@
 use borrow.Author.Needs.{needs}
 use denote.Ref.{now}
 use borrow.Author.Tests.{not-true, not-false}
-use Rattle.records.specs.Told.{toldAckKind}
+use Rattle.records.specs.AsNumbers.{toldAckKind}
 use Rattle.writing.specs.Handed.{ack}
 use Rattle.settle.proofs.Laws.{early-foreign}
 use Rattle.ack_write.specs.Handed.{handed}

@@ -2,7 +2,7 @@
 use borrow.Author.Needs.{needs}
 use Rattle.ack_rows.proofs.Laws.{rows-small}
 use denote.Ref.{now}
-use Rattle.records.specs.Told.{toldAckKind}
+use Rattle.records.specs.AsNumbers.{toldAckKind}
 use Rattle.ack_write.specs.Handed.{handed}
 use Rattle.ack_write.proofs.Laws.{put-behind}
 use Rattle.ack_write.proofs.put_block.Statement.{statement}

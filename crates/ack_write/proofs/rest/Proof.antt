@@ -2,7 +2,7 @@
 use borrow.Author.Needs.{needs}
 use denote.Ref.{now}
 use mathlib.Core.Path.{sym, _∙_}
-use Rattle.records.specs.Told.{toldAckKind}
+use Rattle.records.specs.AsNumbers.{toldAckKind}
 use Rattle.ack_write.specs.Handed.{handed}
 use Rattle.ack_write.proofs.Laws.{rest-plain, rest-full}
 use Rattle.ack_write.proofs.rest.Statement.{statement}

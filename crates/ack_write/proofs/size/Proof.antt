@@ -4,7 +4,7 @@ use borrow.Author.Needs.{needs}
 use denote.Ref.{now}
 use Rattle.writing.specs.Handed.{ack}
 use Rattle.settle.proofs.Laws.{sized-found}
-use Rattle.records.specs.Told.{toldAckKind}
+use Rattle.records.specs.AsNumbers.{toldAckKind}
 use Rattle.ack_write.specs.Handed.{handed}
 use Rattle.ack_write.proofs.size.Statement.{statement}
 use Rattle.ack_write.proofs.size.Tie as tie

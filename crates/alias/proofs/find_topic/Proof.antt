@@ -1,6 +1,6 @@
 -- `alias::find_topic` is right since the packet has a topic, or the table has it. Assumes nothing.
 use mathlib.Core.Path.{sym, ap, _∙_}
-use Rattle.alias.specs.Told.{toldJudged}
+use Rattle.alias.specs.AliasAnswer.{toldJudged}
 use Rattle.alias.proofs.Laws.{permits, force-bad, force-own, force-stored}
 use borrow.Author.Needs.{needs}
 use Rattle.alias.proofs.find_topic.Statement.{statement}

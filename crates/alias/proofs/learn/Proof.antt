@@ -1,6 +1,6 @@
 -- `alias::learn` is right since it hands on the topic and the alias of the message. Assumes nothing.
 use mathlib.Core.Path.{ap, _∙_}
-use Rattle.alias.specs.Told.{numberIf}
+use Rattle.alias.specs.AliasAnswer.{numberIf}
 use Rattle.alias.proofs.Laws.{number-told, learnt-as}
 use borrow.Author.Needs.{needs}
 use Rattle.alias.proofs.learn.Statement.{statement}

@@ -1,6 +1,6 @@
 -- `alias::learn_topic` is right since what is refused leaves the table alone, and anything else is set. Assumes nothing.
 use mathlib.Core.Path.{sym, ap, _∙_}
-use Rattle.alias.specs.Told.{toldJudged}
+use Rattle.alias.specs.AliasAnswer.{toldJudged}
 use Rattle.alias.proofs.Laws.{after-bad, after-got}
 use borrow.Author.Needs.{needs}
 use Rattle.alias.proofs.learn_topic.Statement.{statement}

@@ -1,7 +1,7 @@
 -- `alias::place_in_force` is right since it hands on where the topic stands, and the alias of the message. Assumes nothing.
 use mathlib.Core.Path.{ap, _∙_}
 use Rattle.alias.specs.Alias.{inForce}
-use Rattle.alias.specs.Told.{numberIf}
+use Rattle.alias.specs.AliasAnswer.{numberIf}
 use Rattle.alias.proofs.Laws.{number-told}
 use borrow.Author.Needs.{needs}
 use Rattle.alias.proofs.place_in_force.Statement.{statement}

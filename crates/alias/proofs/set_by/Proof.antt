@@ -1,7 +1,7 @@
 -- `alias::set_by` is right since only a topic that is sent with an alias is set. Assumes nothing.
 use mathlib.Core.Path.{ap, _∙_}
 use denote.Ref.{now}
-use Rattle.records.specs.Told.{numberU16}
+use Rattle.records.specs.AsNumbers.{numberU16}
 use Rattle.alias.proofs.Laws.{permits, good-length, in-range, has-room, set-some, set-none}
 use borrow.Author.Needs.{needs}
 use Rattle.alias.proofs.set_by.Statement.{statement}

@@ -4,7 +4,7 @@ use Prim.Native.Nat.{_-_, _*_}
 use native.Mathlib.Omega.{arith}
 use lib.ListN.{length}
 use denote.Ref.{now}
-use Rattle.records.specs.Told.{numberU16}
+use Rattle.records.specs.AsNumbers.{numberU16}
 use Rattle.alias.proofs.Laws.{good-length, in-range}
 use borrow.Author.Needs.{needs}
 use Rattle.alias.proofs.stored_place.Statement.{statement}

@@ -1,6 +1,6 @@
 -- `alias::topic_in_force` is right since `part` hands back what lies at the place. Assumes nothing.
 use mathlib.Core.Path.{sym, ap, _∙_}
-use Rattle.alias.specs.Told.{toldPlaced}
+use Rattle.alias.specs.AliasAnswer.{toldPlaced}
 use borrow.Author.Needs.{needs}
 use Rattle.alias.proofs.topic_in_force.Statement.{statement}
 use Rattle.alias.proofs.topic_in_force.Tie as tie

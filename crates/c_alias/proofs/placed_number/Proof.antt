@@ -2,7 +2,7 @@
 use borrow.Author.Needs.{needs}
 use mathlib.Core.Path.{_∙_}
 use Rattle.layout.proofs.Laws.{bad-number}
-use Rattle.alias.specs.Told.{toldAlias}
+use Rattle.alias.specs.AliasAnswer.{toldAlias}
 use Rattle.c_alias.proofs.placed_number.Statement.{statement}
 use Rattle.c_alias.proofs.placed_number.Tie as tie
 

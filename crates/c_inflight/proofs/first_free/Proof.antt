@@ -3,7 +3,7 @@ use borrow.Author.Needs.{needs}
 use Prim.Native.Nat.{_-_}
 use native.Mathlib.Omega.{arith}
 use lib.ListN.{length}
-use Rattle.inflight.specs.Told.{Ahead}
+use Rattle.inflight.specs.TableAnswer.{Ahead}
 use Rattle.inflight.proofs.Laws.{passed, found, none-free}
 use Rattle.c_inflight.proofs.first_free.Statement.{statement}
 use Rattle.c_inflight.proofs.first_free.Tie as tie

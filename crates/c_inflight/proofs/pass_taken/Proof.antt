@@ -3,7 +3,7 @@ use Prim.Native.Nat.{_-_}
 use native.Mathlib.Omega.{arith}
 use borrow.Author.Tests.{not-false}
 use lib.ListN.{length}
-use Rattle.inflight.specs.Told.{Ahead}
+use Rattle.inflight.specs.TableAnswer.{Ahead}
 use Rattle.inflight.proofs.Laws.{at-start}
 use Rattle.c_inflight.proofs.Laws.{sixteen-on}
 use Rattle.c_inflight.proofs.pass_taken.Statement.{statement}

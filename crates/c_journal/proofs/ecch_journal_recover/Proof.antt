@@ -1,7 +1,7 @@
 -- `c_journal::ecch_journal_recover` is right since number, table and answer are those of `recover`. Assumes nothing.
 use borrow.Author.Needs.{needs}
 use mathlib.Core.Path.{ap, _∙_}
-use Rattle.inflight.specs.Told.{waitsOf}
+use Rattle.inflight.specs.TableAnswer.{waitsOf}
 use Rattle.c_journal.specs.Given.{numberOf, firstOf}
 use Rattle.c_journal.proofs.Laws.{number-any, first-any, recovered-table}
 use Rattle.c_journal.proofs.ecch_journal_recover.Statement.{statement}

@@ -5,7 +5,7 @@ use native.Mathlib.Omega.{arith}
 use borrow.Author.Needs.{needs}
 use lib.ListN.{length}
 use Rattle.inflight.specs.Rules.{limit}
-use Rattle.inflight.specs.Told.{waitsOf}
+use Rattle.inflight.specs.TableAnswer.{waitsOf}
 use Rattle.inflight.proofs.Laws.{waits-length, wait-at, unmapped}
 use Rattle.journal.proofs.Stores.{Put, put-none, put-long, put-all}
 use Rattle.c_journal.proofs.Bytes.{code-more}

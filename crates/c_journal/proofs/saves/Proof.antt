@@ -1,7 +1,7 @@
 -- `c_journal::saves` is right since each way to end is one of the definition's. Assumes nothing.
 use borrow.Author.Needs.{needs}
 use mathlib.Core.Path.{refl, sym, _∙_}
-use Rattle.journal.specs.Told.{saveOf}
+use Rattle.journal.specs.JournalAnswer.{saveOf}
 use Rattle.c_journal.proofs.Laws.{done-save, done-table, done-area}
 use Rattle.c_journal.proofs.saves.Statement.{statement}
 use Rattle.c_journal.proofs.saves.Tie as tie

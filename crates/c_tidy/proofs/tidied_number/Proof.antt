@@ -1,7 +1,7 @@
 -- `c_tidy::tidied_number` is right since a refusal tells its row. Assumes nothing.
 use mathlib.Core.Path.{_∙_}
 use borrow.Author.Needs.{needs}
-use Rattle.records.specs.Told.{toldError}
+use Rattle.records.specs.AsNumbers.{toldError}
 use Rattle.c_tidy.proofs.Laws.{refused-number}
 use Rattle.c_tidy.proofs.tidied_number.Statement.{statement}
 use Rattle.c_tidy.proofs.tidied_number.Tie as tie

@@ -1,6 +1,6 @@
 -- `c_tidy::tidied_numbers` is right since a refusal tells its values. Assumes nothing.
 use borrow.Author.Needs.{needs}
-use Rattle.records.specs.Told.{toldError}
+use Rattle.records.specs.AsNumbers.{toldError}
 use Rattle.c_tidy.proofs.Laws.{refused-numbers}
 use Rattle.c_tidy.proofs.tidied_numbers.Statement.{statement}
 use Rattle.c_tidy.proofs.tidied_numbers.Tie as tie

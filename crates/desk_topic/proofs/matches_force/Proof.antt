@@ -4,7 +4,7 @@ use mathlib.Core.Path.{sym, ap, _∙_}
 use mathlib.Core.List.{List}
 use Prim.Native.Nat.{ℕ}
 use denote.Ref.{now}
-use Rattle.alias.specs.Told.{toldPlaced}
+use Rattle.alias.specs.AliasAnswer.{toldPlaced}
 use Rattle.topics.specs.Match.{matchesOf}
 use Rattle.desk_topic.proofs.matches_force.Statement.{statement}
 use Rattle.desk_topic.proofs.matches_force.Tie as tie

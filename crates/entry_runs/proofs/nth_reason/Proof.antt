@@ -9,7 +9,7 @@ use Rattle.grammar.specs.Tables.{reasonsOf}
 use Rattle.reading.specs.Read.{reasonOf}
 use Rattle.positions.proofs.Less.{reason-less}
 use Rattle.positions.proofs.Trails.{trails-reason}
-use Rattle.records.specs.Told.{toldReplyKind}
+use Rattle.records.specs.AsNumbers.{toldReplyKind}
 use Rattle.reply.proofs.Laws.{reason-here, reason-not}
 use Rattle.records.specs.Answered.{toldReasonItem}
 use Rattle.positions.proofs.Nth.{Counting, counting-start, counting-bad, counting-next, counting-end}

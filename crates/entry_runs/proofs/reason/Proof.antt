@@ -8,7 +8,7 @@ use lib.ListN.{length}
 use lib.Seq.{length-take-le}
 use denote.Ref.{now}
 use Rattle.grammar.specs.Tables.{reasonsOf}
-use Rattle.records.specs.Told.{toldSpan, toldReplyKind}
+use Rattle.records.specs.AsNumbers.{toldSpan, toldReplyKind}
 use Rattle.entry_runs.proofs.Laws.{reason-outside, reason-within}
 use Rattle.entry_runs.proofs.reason.Statement.{statement}
 use Rattle.entry_runs.proofs.reason.Tie as tie

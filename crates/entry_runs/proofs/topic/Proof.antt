@@ -7,7 +7,7 @@ use borrow.Author.Tests.{leb-true, leb-false}
 use lib.ListN.{length}
 use lib.Seq.{length-take-le}
 use denote.Ref.{now}
-use Rattle.records.specs.Told.{toldSpan}
+use Rattle.records.specs.AsNumbers.{toldSpan}
 use Rattle.entry_runs.proofs.Laws.{topic-outside, topic-within}
 use Rattle.entry_runs.proofs.topic.Statement.{statement}
 use Rattle.entry_runs.proofs.topic.Tie as tie

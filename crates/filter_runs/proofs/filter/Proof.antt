@@ -7,7 +7,7 @@ use borrow.Author.Tests.{leb-true, leb-false}
 use lib.ListN.{length}
 use lib.Seq.{length-take-le}
 use denote.Ref.{now}
-use Rattle.records.specs.Told.{toldSpan}
+use Rattle.records.specs.AsNumbers.{toldSpan}
 use Rattle.filter_runs.proofs.Laws.{filter-outside, filter-within}
 use Rattle.filter_runs.proofs.filter.Statement.{statement}
 use Rattle.filter_runs.proofs.filter.Tie as tie

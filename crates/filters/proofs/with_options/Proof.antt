@@ -1,6 +1,6 @@
 -- `filters::with_options` is right since a filter is made of a rule, then of a quality of service. Assumes nothing.
 use borrow.Author.Needs.{needs}
-use Rattle.records.specs.Told.{toldSpan}
+use Rattle.records.specs.AsNumbers.{toldSpan}
 use Rattle.filters.proofs.Laws.{options-rule, options-qos, options-fine}
 use Rattle.filters.proofs.with_options.Statement.{statement}
 use Rattle.filters.proofs.with_options.Tie as tie

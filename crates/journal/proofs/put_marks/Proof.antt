@@ -5,7 +5,7 @@ use native.Mathlib.Omega.{arith}
 use borrow.Author.Needs.{needs}
 use lib.ListN.{length}
 use Rattle.inflight.specs.Rules.{limit}
-use Rattle.inflight.specs.Told.{waitsOf}
+use Rattle.inflight.specs.TableAnswer.{waitsOf}
 use Rattle.inflight.proofs.Laws.{unmapped}
 use Rattle.journal.specs.Block.{packedAt}
 use Rattle.journal.proofs.Turns.{Marked, mark-none, mark-long, mark-more, mark-all, four-places}

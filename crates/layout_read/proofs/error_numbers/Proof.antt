@@ -1,7 +1,7 @@
 -- `layout_read::error_numbers` is right since the values are those of the row. Assumes nothing.
 use mathlib.Core.Path.{_∙_}
 use borrow.Author.Needs.{needs}
-use Rattle.records.specs.Told.{toldError}
+use Rattle.records.specs.AsNumbers.{toldError}
 use Rattle.layout_read.proofs.Laws.{refused-encoded}
 use Rattle.layout_read.proofs.error_numbers.Statement.{statement}
 use Rattle.layout_read.proofs.error_numbers.Tie as tie

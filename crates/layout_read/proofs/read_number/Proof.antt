@@ -1,7 +1,7 @@
 -- `layout_read::read_number` is right since a refusal tells its row. Assumes nothing.
 use mathlib.Core.Path.{_∙_}
 use borrow.Author.Needs.{needs}
-use Rattle.records.specs.Told.{toldError}
+use Rattle.records.specs.AsNumbers.{toldError}
 use Rattle.layout_read.proofs.Laws.{refused-number}
 use Rattle.layout_read.proofs.read_number.Statement.{statement}
 use Rattle.layout_read.proofs.read_number.Tie as tie

@@ -3,9 +3,9 @@ use mathlib.Core.Path.{sym, ap, _∙_}
 use native.Mathlib.Omega.{arith}
 use borrow.Author.Needs.{needs}
 use denote.Ref.{now}
-use Rattle.records.specs.Told.{toldError, limitOf}
+use Rattle.records.specs.AsNumbers.{toldError, limitOf}
 use Rattle.records.specs.declared.answer.Read.{Read}
-use Rattle.framing.specs.Told.{toldChecked}
+use Rattle.framing.specs.HeaderRead.{toldChecked}
 use Rattle.packet.proofs.Laws.{frame-end, frame-count, answer-none, answer-whole, refusing, promised}
 use Rattle.packet.proofs.read.Statement.{statement}
 use Rattle.packet.proofs.read.Tie as tie

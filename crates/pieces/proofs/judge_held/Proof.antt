@@ -1,5 +1,5 @@
 -- `pieces::judge_held` is right since a header is in the piece, or in the buffer, or its bytes are put together. Assumes nothing.
-use Rattle.records.specs.Told.{limitOf}
+use Rattle.records.specs.AsNumbers.{limitOf}
 use lib.ListN.{length}
 use mathlib.Core.Path.{sym}
 use lib.Seq.{length-take-le}

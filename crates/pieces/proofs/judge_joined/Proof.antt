@@ -4,7 +4,7 @@ use lib.ListN.{length}
 use mathlib.Core.Path.{refl, sym}
 use lib.Seq.{length-take-le}
 use denote.Ref.{now}
-use Rattle.records.specs.Told.{limitOf}
+use Rattle.records.specs.AsNumbers.{limitOf}
 use Rattle.pieces.proofs.Laws.{head-count, judge-joined}
 use borrow.Author.Needs.{needs}
 use Rattle.pieces.proofs.judge_joined.Statement.{statement}

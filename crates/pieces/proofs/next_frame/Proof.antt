@@ -1,11 +1,11 @@
 -- `pieces::next_frame` is right since it refuses a bad buffer first, then what has ended. Assumes nothing.
 use denote.Ref.{now}
-use Rattle.records.specs.Told.{limitOf}
+use Rattle.records.specs.AsNumbers.{limitOf}
 use lib.ListN.{length}
 use mathlib.Core.Path.{sym, ap, _∙_}
 use borrow.Author.Tests.{not-true, not-false}
 use Rattle.pieces_rules.proofs.Calls.{served}
-use Rattle.pieces.specs.Told.{toldEnd, toldState}
+use Rattle.pieces.specs.PieceAnswer.{toldEnd, toldState}
 use Rattle.pieces.proofs.Laws.{refused-buffer, refused-again, goes-on}
 use borrow.Author.Needs.{needs}
 use Rattle.pieces.proofs.next_frame.Statement.{statement}

@@ -1,6 +1,6 @@
 -- `pieces::next_length` is right since a frame lacks bytes, or lies in the piece, or began in the buffer. Assumes nothing.
 use denote.Ref.{now}
-use Rattle.records.specs.Told.{limitOf}
+use Rattle.records.specs.AsNumbers.{limitOf}
 use mathlib.Core.Path.{_∙_}
 use Rattle.pieces_rules.proofs.Calls.{call-lacks, call-frame}
 use Rattle.pieces.proofs.Laws.{whole-piece}

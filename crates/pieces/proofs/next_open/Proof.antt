@@ -1,6 +1,6 @@
 -- `pieces::next_open` is right since the header decides what becomes of the call. Assumes nothing.
 use denote.Ref.{now}
-use Rattle.records.specs.Told.{limitOf}
+use Rattle.records.specs.AsNumbers.{limitOf}
 use mathlib.Core.List.{_++_}
 use lib.ListN.{length, take}
 use Rattle.pieces_rules.proofs.Says.{spans-within}

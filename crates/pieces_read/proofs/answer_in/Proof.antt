@@ -5,11 +5,11 @@ use Prim.Native.Nat.{ℕ}
 use Rattle.reading.specs.Place.{readPlacedOf}
 use Rattle.reading.specs.Bounds.{boundsBy}
 use Rattle.reading.proofs.Bounds.{read-bounds}
-use Rattle.records.specs.Told.{limitOf}
+use Rattle.records.specs.AsNumbers.{limitOf}
 use Rattle.records.specs.Answered.{Bounded}
 use Rattle.records.specs.declared.answer.Limit.{Limit}
 use Rattle.records.specs.declared.answer.Read.{Read}
-use Rattle.packet.specs.Told.{Meets}
+use Rattle.packet.specs.PacketRead.{Meets}
 use Rattle.pieces_rules.specs.Step.{inPiece, inBuffer}
 use borrow.Author.Needs.{needs}
 use Rattle.pieces_read.proofs.answer_in.Statement.{statement}

@@ -1,10 +1,10 @@
 -- `pieces_read::next` is right since the answer to the frame that is found is the answer to the call. Assumes nothing.
 use mathlib.Core.Path.{ap, _∙_}
 use denote.Ref.{now}
-use Rattle.records.specs.Told.{limitOf}
+use Rattle.records.specs.AsNumbers.{limitOf}
 use Rattle.pieces_rules.specs.Step.{readStep}
 use Rattle.pieces_rules.proofs.Calls.{found-read}
-use Rattle.pieces.specs.Told.{toldState}
+use Rattle.pieces.specs.PieceAnswer.{toldState}
 use borrow.Author.Needs.{needs}
 use Rattle.pieces_read.proofs.next.Statement.{statement}
 use Rattle.pieces_read.proofs.next.Tie as tie

@@ -25,13 +25,13 @@ use Rattle.positions.specs.Position.{fromAt, nextOr}
 use Rattle.positions.proofs.Walk.{fold-nil, fold-bad, fold-next}
 use Rattle.positions.proofs.Less.{once-less, once-fresh, once-twice}
 use Rattle.positions.proofs.Position.{bad-left}
-use Rattle.records.specs.Told.{toldError}
+use Rattle.records.specs.AsNumbers.{toldError}
 use Rattle.records.specs.declared.error.Error.{Error}
 use Rattle.tables.specs.Property.{placeOf, otherOf}
 use Rattle.tables.specs.declared.property.OtherPlace.{OtherPlace}
 use Rattle.tables.specs.declared.property.PropertyPlace.{PropertyPlace}
 use Rattle.tables.specs.declared.property.PropertyPlace.the-variants.{Publish, Subscribe, Ack, Unsubscribe}
-use Rattle.property_value.specs.Told.{toldValue, formOf, publishLists, PropertyRead, PropertyPassed}
+use Rattle.property_value.specs.OneProperty.{toldValue, formOf, publishLists, PropertyRead, PropertyPassed}
 use Rattle.property_value.proofs.Laws.{value-tag, property-left, property-ahead}
 use Rattle.property_value.specs.declared.Value.{Value}
 use Rattle.property_value.specs.declared.GotProperty.{GotProperty}

@@ -2,7 +2,7 @@
 use mathlib.Core.Path.{refl}
 use borrow.Author.Needs.{needs}
 use Rattle.tables.proofs.Laws.{lookup-absent}
-use Rattle.property_value.specs.Told.{publishLists}
+use Rattle.property_value.specs.OneProperty.{publishLists}
 use Rattle.property_value.proofs.Laws.{past-none, past-in, past-out}
 use Rattle.property_value.proofs.pass_listed.Statement.{statement}
 use Rattle.property_value.proofs.pass_listed.Tie as tie

@@ -6,7 +6,7 @@ use native.Mathlib.Omega.{arith}
 use lib.ListN.{length}
 use borrow.Author.Needs.{needs}
 use Rattle.reading.specs.Reader.{got}
-use Rattle.records.specs.Told.{toldSpan}
+use Rattle.records.specs.AsNumbers.{toldSpan}
 use Rattle.properties.specs.Block.{publishRow}
 use Rattle.publish.specs.Singles.{toldSingles}
 use Rattle.properties.proofs.Laws.Fold.{FillingBy, leftFrom, filling-start, filling-next, read-ahead, publish-lawful, filled-twice, filled-bad, filled-end}

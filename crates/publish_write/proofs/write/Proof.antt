@@ -2,7 +2,7 @@
 use mathlib.Core.Path.{sym, ap, _∙_}
 use denote.Ref.{now}
 use Rattle.writing.specs.Handed.{publish}
-use Rattle.records.specs.Told.{limitOf}
+use Rattle.records.specs.AsNumbers.{limitOf}
 use Rattle.records.specs.Answered.{toldWritten}
 use Rattle.settle.proofs.Laws.{settled-found, none-written, all-written}
 use Rattle.publish_plan.specs.Handed.{handed}

@@ -10,7 +10,7 @@ use Rattle.reading.specs.Read.{reasonOf}
 use Rattle.positions.proofs.Less.{reason-less}
 use Rattle.positions.proofs.Trails.{trails-reason}
 use Rattle.positions.proofs.Runs.{run-empty, Going, going-start, going-bad, going-next, going-end}
-use Rattle.records.specs.Told.{toldReplyKind}
+use Rattle.records.specs.AsNumbers.{toldReplyKind}
 use Rattle.reply.proofs.Laws.{reason-here, reason-not}
 use Rattle.reply.proofs.read_reasons.Statement.{statement}
 use Rattle.reply.proofs.read_reasons.Tie as tie

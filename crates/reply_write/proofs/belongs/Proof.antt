@@ -1,7 +1,7 @@
 -- `reply_write::belongs` is right since only its block can fail to belong together. Assumes nothing.
 use borrow.Author.Needs.{needs}
 use denote.Ref.{now}
-use Rattle.records.specs.Told.{toldReplyKind}
+use Rattle.records.specs.AsNumbers.{toldReplyKind}
 use Rattle.reply_write.specs.Handed.{handed}
 use Rattle.reply_write.proofs.Laws.{belong-all}
 use Rattle.reply_write.proofs.belongs.Statement.{statement}

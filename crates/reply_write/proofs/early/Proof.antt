@@ -2,7 +2,7 @@
 use borrow.Author.Needs.{needs}
 use denote.Ref.{now}
 use borrow.Author.Tests.{not-true, not-false}
-use Rattle.records.specs.Told.{toldReplyKind}
+use Rattle.records.specs.AsNumbers.{toldReplyKind}
 use Rattle.writing.specs.Handed.{reply}
 use Rattle.settle.proofs.Laws.{early-foreign}
 use Rattle.reply_write.specs.Handed.{handed}

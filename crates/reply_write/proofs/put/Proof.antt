@@ -2,7 +2,7 @@
 use borrow.Author.Needs.{needs}
 use Rattle.ack_rows.proofs.Laws.{rows-small}
 use denote.Ref.{now}
-use Rattle.records.specs.Told.{toldReplyKind}
+use Rattle.records.specs.AsNumbers.{toldReplyKind}
 use Rattle.reply_write.specs.Handed.{handed}
 use Rattle.reply_write.proofs.Laws.{put-frame}
 use Rattle.reply_write.proofs.put.Statement.{statement}

@@ -1,7 +1,7 @@
 -- `reply_write::rest` is right since R is the identifier, the block and the reasons. Assumes nothing.
 use borrow.Author.Needs.{needs}
 use denote.Ref.{now}
-use Rattle.records.specs.Told.{toldReplyKind}
+use Rattle.records.specs.AsNumbers.{toldReplyKind}
 use Rattle.reply_write.specs.Handed.{handed}
 use Rattle.reply_write.proofs.Laws.{reply-rest}
 use Rattle.reply_write.proofs.rest.Statement.{statement}

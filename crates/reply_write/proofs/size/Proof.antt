@@ -2,7 +2,7 @@
 use borrow.Author.Needs.{needs}
 use mathlib.Core.Path.{_∙_}
 use denote.Ref.{now}
-use Rattle.records.specs.Told.{toldReplyKind}
+use Rattle.records.specs.AsNumbers.{toldReplyKind}
 use Rattle.writing.specs.Handed.{reply}
 use Rattle.settle.proofs.Laws.{sized-found}
 use Rattle.reply_write.specs.Handed.{handed}

@@ -8,7 +8,7 @@ use lib.ListN.{length, drop}
 use denote.Ref.{now}
 use Rattle.grammar.specs.Tables.{reasonsOf}
 use Rattle.writing.specs.Order.{code}
-use Rattle.records.specs.Told.{toldReplyKind}
+use Rattle.records.specs.AsNumbers.{toldReplyKind}
 use Rattle.row_tests.specs.Tested.{toldTested}
 use Rattle.row_tests.proofs.Laws.{Deciding, field-refused, field-passed, fields-done}
 use Rattle.reply_write.proofs.Laws.{reasons-cut, reasons-done}

@@ -3,7 +3,7 @@ use borrow.Author.Needs.{needs}
 use mathlib.Core.Path.{sym, ap, _∙_}
 use denote.Ref.{now}
 use Rattle.writing.specs.Handed.{reply}
-use Rattle.records.specs.Told.{limitOf, toldReplyKind}
+use Rattle.records.specs.AsNumbers.{limitOf, toldReplyKind}
 use Rattle.records.specs.Answered.{toldWritten}
 use Rattle.settle.proofs.Laws.{settled-found, none-written, all-written}
 use Rattle.reply_write.specs.Handed.{handed}

@@ -2,7 +2,7 @@
 use mathlib.Core.Path.{sym, ap, _∙_}
 use native.Mathlib.Omega.{arith}
 use borrow.Author.Needs.{needs}
-use Rattle.records.specs.Told.{limitOf}
+use Rattle.records.specs.AsNumbers.{limitOf}
 use Rattle.row_tests.specs.Tested.{toldTested}
 use Rattle.settle.proofs.Laws.{early-bad, rest-long, limit-bad, late-bad, late-fine}
 use Rattle.settle.proofs.settle.Statement.{statement}

@@ -3,7 +3,7 @@ use borrow.Author.Needs.{needs}
 use Prim.Native.Nat.{_-_}
 use native.Mathlib.Omega.{arith}
 use lib.ListN.{length}
-use Rattle.records.specs.Told.{toldError}
+use Rattle.records.specs.AsNumbers.{toldError}
 use Rattle.speed_reading.proofs.Laws.{Summed, none-summed, all-summed, last-summed, ahead, one-summed}
 use Rattle.speed_reading.proofs.speed_reading_sum.Statement.{statement}
 use Rattle.speed_reading.proofs.speed_reading_sum.Tie as tie

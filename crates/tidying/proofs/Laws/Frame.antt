@@ -23,7 +23,7 @@ use Rattle.reading.proofs.Places.{placed-refused, placed-accepted}
 use Rattle.reading.proofs.Demand.{reads-sentence}
 use Rattle.reading.proofs.Theorems.{suffix}
 use Rattle.writing.specs.Write.{frameBytes}
-use Rattle.records.specs.Told.{toldError}
+use Rattle.records.specs.AsNumbers.{toldError}
 use Rattle.records.specs.declared.error.Error.{Error}
 use Rattle.kinds.specs.Kinds.{kindRow}
 use Rattle.tables.specs.Property.{placeOf}

@@ -1,7 +1,7 @@
 -- `desk::stream::with_room` is right since what moves is what is held. Assumes nothing.
 use borrow.Author.Needs.{needs}
 use denote.Ref.{now}
-use Rattle.records.specs.Told.{toldSpan}
+use Rattle.records.specs.AsNumbers.{toldSpan}
 use Rattle.desk.proofs.Laws.{kept-none, kept-moved}
 use Rattle.desk.proofs.stream.with_room.Statement.{statement}
 use Rattle.desk.proofs.stream.with_room.Tie as tie

@@ -5,7 +5,7 @@ use native.Mathlib.Omega.{arith}
 use borrow.Author.Needs.{needs}
 use lib.ListN.{length, set}
 use Rattle.inflight.specs.Rules.{limit}
-use Rattle.inflight.specs.Told.{codeOf, waitsOf}
+use Rattle.inflight.specs.TableAnswer.{codeOf, waitsOf}
 use Rattle.inflight.proofs.Laws.{waits-length, wait-set, unmapped, claim-granted, claim-full}
 use Rattle.inflight.proofs.InFlight.claim_for.Statement.{statement}
 use Rattle.inflight.proofs.InFlight.claim_for.Tie as tie

@@ -5,7 +5,7 @@ use native.Mathlib.Omega.{arith}
 use borrow.Author.Needs.{needs}
 use lib.ListN.{length}
 use Rattle.inflight.specs.Rules.{limit}
-use Rattle.inflight.specs.Told.{waitsOf, Ahead}
+use Rattle.inflight.specs.TableAnswer.{waitsOf, Ahead}
 use Rattle.inflight.proofs.Laws.{at-start, passed, found, none-free, waits-length, wait-at, unmapped}
 use Rattle.inflight.proofs.InFlight.first_free.Statement.{statement}
 use Rattle.inflight.proofs.InFlight.first_free.Tie as tie

@@ -1,6 +1,6 @@
 -- `InFlight::new` is right since every place is free: the array computes. Assumes nothing.
 use mathlib.Core.Path.{refl}
-use Rattle.inflight.specs.Told.{waitsOf}
+use Rattle.inflight.specs.TableAnswer.{waitsOf}
 use Rattle.inflight.proofs.InFlight.new.Statement.{statement}
 use Rattle.inflight.proofs.InFlight.new.Tie as tie
 

@@ -5,7 +5,7 @@ use native.Mathlib.Omega.{arith}
 use borrow.Author.Needs.{needs}
 use lib.ListN.{length}
 use Rattle.inflight.specs.Rules.{limit, oneIfWaits}
-use Rattle.inflight.specs.Told.{waitsOf}
+use Rattle.inflight.specs.TableAnswer.{waitsOf}
 use Rattle.inflight.proofs.Laws.{waits-length, wait-at, unmapped, Counted, none-counted, counted, all-counted}
 use Rattle.inflight.proofs.InFlight.waiting.Statement.{statement}
 use Rattle.inflight.proofs.InFlight.waiting.Tie as tie

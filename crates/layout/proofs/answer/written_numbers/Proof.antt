@@ -1,6 +1,6 @@
 -- `layout::answer::written_numbers` is right since a refusal tells its values. Assumes nothing.
 use borrow.Author.Needs.{needs}
-use Rattle.records.specs.Told.{toldError}
+use Rattle.records.specs.AsNumbers.{toldError}
 use Rattle.layout.proofs.AnswerLaws.{bad-numbers}
 use Rattle.layout.proofs.answer.written_numbers.Statement.{statement}
 use Rattle.layout.proofs.answer.written_numbers.Tie as tie

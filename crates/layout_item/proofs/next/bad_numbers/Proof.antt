@@ -1,6 +1,6 @@
 -- `layout_item::next::bad_numbers` is right since the first value is that of the row. Assumes nothing.
 use borrow.Author.Needs.{needs}
-use Rattle.records.specs.Told.{toldError}
+use Rattle.records.specs.AsNumbers.{toldError}
 use Rattle.layout_item.proofs.NextLaws.{bad-next}
 use Rattle.layout_item.proofs.next.bad_numbers.Statement.{statement}
 use Rattle.layout_item.proofs.next.bad_numbers.Tie as tie

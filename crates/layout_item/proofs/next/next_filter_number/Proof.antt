@@ -1,7 +1,7 @@
 -- `layout_item::next::next_filter_number` is right since a refusal tells its row. Assumes nothing.
 use mathlib.Core.Path.{_∙_}
 use borrow.Author.Needs.{needs}
-use Rattle.records.specs.Told.{toldError}
+use Rattle.records.specs.AsNumbers.{toldError}
 use Rattle.layout.proofs.Laws.{bad-number}
 use Rattle.layout_item.proofs.next.next_filter_number.Statement.{statement}
 use Rattle.layout_item.proofs.next.next_filter_number.Tie as tie

@@ -1,7 +1,7 @@
 -- `layout_item::next::next_topic_number` is right since a refusal tells its row. Assumes nothing.
 use borrow.Author.Needs.{needs}
 use mathlib.Core.Path.{_∙_}
-use Rattle.records.specs.Told.{toldError}
+use Rattle.records.specs.AsNumbers.{toldError}
 use Rattle.layout.proofs.Laws.{bad-number}
 use Rattle.layout_item.proofs.next.next_topic_number.Statement.{statement}
 use Rattle.layout_item.proofs.next.next_topic_number.Tie as tie

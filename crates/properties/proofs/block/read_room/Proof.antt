@@ -4,7 +4,7 @@ use mathlib.Core.Path.{ap, sym, _∙_}
 use native.Mathlib.Omega.{arith}
 use borrow.Author.Needs.{needs}
 use denote.Ref.{now}
-use Rattle.numbers.specs.Told.{toldGotU32}
+use Rattle.numbers.specs.NumberRead.{toldGotU32}
 use Rattle.properties.proofs.Laws.Block.{length-within, room-short, room-over, room-within}
 use Rattle.properties.proofs.block.read_room.Statement.{statement}
 use Rattle.properties.proofs.block.read_room.Tie as tie

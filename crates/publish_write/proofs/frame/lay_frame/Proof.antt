@@ -5,7 +5,7 @@ use denote.Ref.{now}
 use Rattle.writing.specs.Handed.{publish}
 use Rattle.writing.specs.Spell.{short, string}
 use Rattle.writing.specs.Write.{firstByte, identBytes}
-use Rattle.records.specs.Told.{toldQoS}
+use Rattle.records.specs.AsNumbers.{toldQoS}
 use Rattle.publish_plan.specs.Handed.{handed}
 use Rattle.publish_write.specs.Laid.{allRows}
 use Rattle.publish_write.proofs.Lay.{laid-last, room-first, room-rest, room-same, first-laid}

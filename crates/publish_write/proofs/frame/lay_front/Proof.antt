@@ -5,7 +5,7 @@ use denote.Ref.{now}
 use Rattle.writing.specs.Spell.{short, string}
 use Rattle.writing.specs.Write.{identBytes}
 use Rattle.writing.proofs.Sizes.{length-string}
-use Rattle.records.specs.Told.{toldQoS}
+use Rattle.records.specs.AsNumbers.{toldQoS}
 use Rattle.publish_write.proofs.Lay.{stored-laid, laid-then, room-first, room-rest}
 use Rattle.publish_write.proofs.Parts.{whole-laid}
 use borrow.Author.Needs.{needs}

@@ -7,7 +7,7 @@ use borrow.Author.Needs.{needs}
 use borrow.Author.Tests.{leb-true, leb-false}
 use lib.ListN.{length}
 use denote.Ref.{now}
-use Rattle.records.specs.Told.{toldSpan}
+use Rattle.records.specs.AsNumbers.{toldSpan}
 use Rattle.wire.proofs.Laws.{held-within, held-outside, start-within, start-outside}
 use Rattle.wire.proofs.string.part.Statement.{statement}
 use Rattle.wire.proofs.string.part.Tie as tie

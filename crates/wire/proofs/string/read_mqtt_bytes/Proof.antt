@@ -6,7 +6,7 @@ use borrow.Author.Needs.{needs}
 use denote.Ref.{now}
 use Rattle.reading.specs.Refusal.{cut}
 use Rattle.reading.specs.Read.{anyBytes, bytesOf}
-use Rattle.numbers.specs.Told.{toldGotU16}
+use Rattle.numbers.specs.NumberRead.{toldGotU16}
 use Rattle.wire.proofs.Laws.{size-within, string-bad, string-crossed, string-fine}
 use Rattle.wire.proofs.string.read_mqtt_bytes.Statement.{statement}
 use Rattle.wire.proofs.string.read_mqtt_bytes.Tie as tie

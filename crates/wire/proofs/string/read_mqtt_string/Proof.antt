@@ -4,7 +4,7 @@ use mathlib.Core.Path.{ap, sym, _∙_}
 use borrow.Author.Needs.{needs}
 use denote.Ref.{now}
 use Rattle.reading.specs.Read.{isText}
-use Rattle.wire.specs.Told.{toldPart}
+use Rattle.wire.specs.StringRead.{toldPart}
 use Rattle.wire.proofs.Laws.{string-stands, text-bad, text-fine, text-broken}
 use Rattle.wire.proofs.string.read_mqtt_string.Statement.{statement}
 use Rattle.wire.proofs.string.read_mqtt_string.Tie as tie

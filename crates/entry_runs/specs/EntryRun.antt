@@ -4,7 +4,7 @@ use mathlib.Core.List.{List}
 use Prim.Native.Nat.{ℕ}
 use Rattle.grammar.specs.Tables.{reasonsOf}
 use Rattle.reading.specs.Place.{asPlaces, reasonAt, topicAt}
-use Rattle.records.specs.Told.{toldSpan, toldReplyKind}
+use Rattle.records.specs.AsNumbers.{toldSpan, toldReplyKind}
 use Rattle.records.specs.Answered.{toldReasonItem, toldTopicItem}
 use Rattle.records.specs.declared.answer.ReasonItem.{ReasonItem}
 use Rattle.records.specs.declared.answer.TopicItem.{TopicItem}

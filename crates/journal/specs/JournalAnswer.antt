@@ -7,7 +7,7 @@ use Prim.Native.Nat.{ℕ, zero, suc, _+_, _*_, _<_, _≤_}
 use lib.ListN.{length, take, drop, replicate}
 use Rattle.reading.specs.Refusal.{nr}
 use Rattle.inflight.specs.Rules.{limit, free}
-use Rattle.inflight.specs.Told.{waitsOf}
+use Rattle.inflight.specs.TableAnswer.{waitsOf}
 use Rattle.journal.specs.Area.{Says, started, saved, recovered, refused, newer, latest, latestIn, highest, recover, look}
 use Rattle.journal.specs.declared.Started.{Started}
 use Rattle.journal.specs.declared.Saved.{Saved}

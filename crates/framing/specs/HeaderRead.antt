@@ -9,7 +9,7 @@ use Rattle.reading.specs.Reader.{Fit, got, bad, _>>_, guard, Reader, thenOf}
 use Rattle.reading.specs.Read.{byteOf, numOf, frameOf}
 use Rattle.reading.specs.Place.{partOf}
 use Rattle.positions.specs.Position.{fromAt}
-use Rattle.records.specs.Told.{toldError}
+use Rattle.records.specs.AsNumbers.{toldError}
 use Rattle.framing.specs.declared.check.Checked.{Checked}
 use Rattle.framing.specs.declared.check.Checked.the-variants.{Header, Refused}
 use Rattle.framing.specs.declared.header.FixedHeader.{FixedHeader}

@@ -9,7 +9,7 @@ use Rattle.reading.specs.Read.{filterOf}
 use Rattle.reading.specs.Place.{asPlaces, filterAt}
 use Rattle.reading.specs.Place as place
 use Rattle.positions.specs.Position.{fromAt, placedRun}
-use Rattle.records.specs.Told.{toldError, toldSpan}
+use Rattle.records.specs.AsNumbers.{toldError, toldSpan}
 use Rattle.records.specs.Answered.{toldFilterItem}
 use Rattle.records.specs.declared.answer.FilterItem.{FilterItem}
 use Rattle.records.specs.declared.span.Span.{Span}

@@ -3,7 +3,7 @@ use mathlib.Core.Option.{Option, none, some}
 use mathlib.Core.List.{List}
 use Prim.Native.Nat.{ℕ}
 use Rattle.reading.specs.Refusal.{Refusal}
-use Rattle.records.specs.Told.{toldError}
+use Rattle.records.specs.AsNumbers.{toldError}
 use Rattle.pieces_rules.specs.Whole.{frameTooLong}
 use Rattle.pieces_rules.specs.Step.{badBuffer, Gives, more, inPiece, inBuffer, stops}
 use Rattle.pieces_rules.specs.Step as step

@@ -2,7 +2,7 @@
 use Rattle.grammar.specs.Record as record-of
 use Rattle.reading.specs.Reader.{Fit, got, bad}
 use Rattle.reading.specs.Place as place
-use Rattle.records.specs.Told.{toldError, toldSpan}
+use Rattle.records.specs.AsNumbers.{toldError, toldSpan}
 use Rattle.records.specs.Said.{toldReply}
 use Rattle.reply.specs.declared.GotReasons.{GotReasons}
 use Rattle.reply.specs.declared.GotReply.{GotReply}

@@ -2,7 +2,7 @@
 use Rattle.grammar.specs.Record.{publish}
 use Rattle.reading.specs.Reader.{Fit, got, bad}
 use Rattle.reading.specs.Place.{Placed}
-use Rattle.records.specs.Told.{toldError}
+use Rattle.records.specs.AsNumbers.{toldError}
 use Rattle.records.specs.Said.{toldPublish}
 use Rattle.publish.specs.declared.GotPublish.{GotPublish}
 

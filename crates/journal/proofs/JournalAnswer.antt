@@ -8,11 +8,11 @@ use native.Mathlib.Omega.{arith}
 use lib.Dec.{eqb}
 use Rattle.reading.specs.Refusal.{Refusal, nr}
 use Rattle.records.proofs.Laws.{injective-by}
-use Rattle.inflight.specs.Told.{waitsOf}
+use Rattle.inflight.specs.TableAnswer.{waitsOf}
 use Rattle.inflight.specs.declared.InFlight.{InFlight}
-use Rattle.inflight.proofs.Told.{table-same}
+use Rattle.inflight.proofs.TableAnswer.{table-same}
 use Rattle.journal.specs.Area.{Says, started, saved, recovered, refused, recover, look}
-use Rattle.journal.specs.Told.{startOf, saveOf, foundOf, freshUnless, Recovers, Looks}
+use Rattle.journal.specs.JournalAnswer.{startOf, saveOf, foundOf, freshUnless, Recovers, Looks}
 use Rattle.journal.specs.declared.Started.{Started}
 use Rattle.journal.specs.declared.Saved.{Saved}
 use Rattle.journal.specs.declared.Found.{Found}

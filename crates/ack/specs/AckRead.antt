@@ -8,10 +8,10 @@ use Rattle.reading.specs.Reader.{Fit, got, bad, _>>=_}
 use Rattle.reading.specs.Read.{ackBlockFit, ackRestFit}
 use Rattle.reading.specs.Place.{asPlaces, heldOf}
 use Rattle.reading.specs.Place as place
-use Rattle.records.specs.Told.{toldError}
+use Rattle.records.specs.AsNumbers.{toldError}
 use Rattle.records.specs.Said.{toldAck, toldBlock}
 use Rattle.records.specs.declared.properties_record.MaybeProperties.{MaybeProperties}
-use Rattle.wire.specs.Told.{stringIf, inBlock}
+use Rattle.wire.specs.StringRead.{stringIf, inBlock}
 use Rattle.ack.specs.declared.GotAck.{GotAck}
 use Rattle.ack.specs.declared.GotLastBlock.{GotLastBlock}
 

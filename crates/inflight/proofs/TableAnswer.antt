@@ -8,7 +8,7 @@ use lib.Dec.{eqb}
 use Rattle.reading.specs.Refusal.{Refusal, nr}
 use Rattle.records.proofs.Laws.{injective-by}
 use Rattle.inflight.specs.Rules.{Says, granted, freed, moved, refused, Left}
-use Rattle.inflight.specs.Told.{codeOf, placeCode, waitsOf, claimOf, answerOf, afterClaim, afterAnswer}
+use Rattle.inflight.specs.TableAnswer.{codeOf, placeCode, waitsOf, claimOf, answerOf, afterClaim, afterAnswer}
 use Rattle.inflight.specs.declared.Wait.{Wait}
 use Rattle.inflight.specs.declared.Place.{Place}
 use Rattle.inflight.specs.declared.InFlight.{InFlight}

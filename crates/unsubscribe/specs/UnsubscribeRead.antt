@@ -3,7 +3,7 @@ use Rattle.grammar.specs.Record.{unsubscribe}
 use Rattle.reading.specs.Reader.{Fit, got, bad}
 use Rattle.reading.specs.Place.{Placed}
 use Rattle.reading.specs.Place as place
-use Rattle.records.specs.Told.{toldError, toldSpan}
+use Rattle.records.specs.AsNumbers.{toldError, toldSpan}
 use Rattle.records.specs.Said.{toldUnsubscribe}
 use Rattle.unsubscribe.specs.declared.GotTopics.{GotTopics}
 use Rattle.unsubscribe.specs.declared.GotUnsubscribe.{GotUnsubscribe}

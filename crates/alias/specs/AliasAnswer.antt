@@ -8,10 +8,10 @@ use Rattle.grammar.specs.Record.{Val, num, str, duo}
 use Rattle.reading.specs.Refusal.{Refusal}
 use Rattle.reading.specs.Reader.{Fit, got, bad}
 use Rattle.reading.specs.Place.{Span}
-use Rattle.records.specs.Told.{toldSpan}
+use Rattle.records.specs.AsNumbers.{toldSpan}
 use Rattle.records.specs.Said.{toldPublishBlock}
 use Rattle.records.specs.declared.publish_record.Publish.{Publish}
-use Rattle.wire.specs.Told.{inBlock}
+use Rattle.wire.specs.StringRead.{inBlock}
 use Rattle.wire.specs.Part.{PartAt}
 use Rattle.alias.specs.Alias.{aliasTableBad, aliasInvalid, topicMissing, aliasUnknown, aliasNoRoom, permit, tableAfter, Lies, in-packet, in-table}
 use Rattle.alias.specs.declared.AliasError.{AliasError}

@@ -10,7 +10,7 @@ use Rattle.grammar.specs.Record.{Val, num, str, duo}
 use Rattle.reading.specs.Refusal.{Refusal, nr}
 use Rattle.reading.specs.Reader.{Fit, got, bad}
 use Rattle.reading.specs.Place as place
-use Rattle.records.specs.Told.{toldError, toldValues, limitOf, toldBool, toldQoS, toldAckKind, toldReplyKind, toldRule, toldSpan, backSpan, toldU8, toldU16, toldU32, toldString}
+use Rattle.records.specs.AsNumbers.{toldError, toldValues, limitOf, toldBool, toldQoS, toldAckKind, toldReplyKind, toldRule, toldSpan, backSpan, toldU8, toldU16, toldU32, toldString}
 use Rattle.records.specs.declared.answer.Limit.{Limit}
 use Rattle.records.specs.declared.error.Error.{Error}
 use Rattle.records.specs.declared.ack_record.AckKind.{AckKind}

@@ -11,7 +11,7 @@ use Rattle.reading.specs.Reader.{Fit, got, bad, _>>_, guard}
 use Rattle.reading.specs.Read.{filterOf}
 use Rattle.reading.specs.Place as place
 use Rattle.positions.specs.Position.{fromAt, nextOr}
-use Rattle.records.specs.Told.{toldError}
+use Rattle.records.specs.AsNumbers.{toldError}
 use Rattle.records.specs.Said.{toldFilter}
 use Rattle.filters.specs.declared.GotFilter.{GotFilter}
 

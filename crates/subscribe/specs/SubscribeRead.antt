@@ -2,7 +2,7 @@
 use Rattle.grammar.specs.Record.{subscribe}
 use Rattle.reading.specs.Reader.{Fit, got, bad}
 use Rattle.reading.specs.Place.{Placed}
-use Rattle.records.specs.Told.{toldError}
+use Rattle.records.specs.AsNumbers.{toldError}
 use Rattle.records.specs.Said.{toldSubscribe}
 use Rattle.subscribe.specs.declared.GotSubscribe.{GotSubscribe}
 

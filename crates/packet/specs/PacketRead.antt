@@ -10,7 +10,7 @@ use Rattle.reading.specs.Fault.{Verdict}
 use Rattle.reading.specs.Reader.{got}
 use Rattle.reading.specs.Place.{Placed, readPlacedOf, sayAnswer}
 use Rattle.reading.specs.Bounds.{boundsOf}
-use Rattle.records.specs.Told.{limitOf}
+use Rattle.records.specs.AsNumbers.{limitOf}
 use Rattle.records.specs.Answered.{told, carried, Bounded}
 use Rattle.records.specs.declared.answer.Limit.{Limit}
 use Rattle.records.specs.declared.answer.Read.{Read}

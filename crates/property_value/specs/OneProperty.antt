@@ -13,7 +13,7 @@ use Rattle.grammar.specs.Sentence.{notZero}
 use Rattle.reading.specs.Place.{asPlaces}
 use Rattle.reading.specs.Place as place
 use Rattle.positions.specs.Position.{fromAt, nextOr}
-use Rattle.records.specs.Told.{toldError, toldSpan}
+use Rattle.records.specs.AsNumbers.{toldError, toldSpan}
 use Rattle.property_value.specs.declared.Value.{Value}
 use Rattle.property_value.specs.declared.Value.the-variants.{U8, U16, U32, Number, Text, Bytes, Pair}
 use Rattle.property_value.specs.declared.GotProperty.{GotProperty}

@@ -1,7 +1,7 @@
 -- What each answer on a number tells: the value and the index after it, or 01's number and values of the refusal. Assumes nothing.
 use Prim.Native.Nat.{ℕ}
 use Rattle.reading.specs.Reader.{Fit, got, bad}
-use Rattle.records.specs.Told.{toldError}
+use Rattle.records.specs.AsNumbers.{toldError}
 use Rattle.numbers.specs.declared.got.GotU8.{GotU8}
 use Rattle.numbers.specs.declared.got.GotU8.the-variants as g8
 use Rattle.numbers.specs.declared.got.GotU16.{GotU16}
