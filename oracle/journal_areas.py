@@ -1,6 +1,6 @@
 #!/usr/bin/env python3
-# oracle/journal_areas.py: areas of P11 made without the port, from 02's words and Python's zlib: crates/show_journal/data has the bytes, and
-# crates/show_journal/stdout what is to be shown of them. One area was written under the limit of 128, with a block that a cut left torn, one under 1,024.
+# oracle/journal_areas.py: areas of P11 made without the port, from 02's words and Python's zlib: crates/desk_journal/data has the bytes, and
+# crates/desk_journal/stdout what is to be shown of them. One area was written under the limit of 128, with a block that a cut left torn, one under 1,024.
 import os, struct, zlib
 
 NAMES = {1: 'PubAck', 2: 'PubRec', 3: 'PubComp'}
@@ -30,7 +30,7 @@ def shown(blocks):
 
 
 def main():
-    data = os.path.join(os.path.dirname(os.path.abspath(__file__)), '..', 'crates', 'show_journal')
+    data = os.path.join(os.path.dirname(os.path.abspath(__file__)), '..', 'crates', 'desk_journal')
     os.makedirs(os.path.join(data, 'data'), exist_ok=True)
     # saves 4 and 5 stand, save 6 was cut half way through block 2 of 3, over save 3
     four, five, six = {1: 1, 2: 2, 128: 1}, {1: 1, 2: 3, 128: 1}, {2: 3}

@@ -1,4 +1,4 @@
-/* Ecchjulmina for C: MQTT 5 packets read and written by proved code (crates capi, capi_put and c_ROOM for each room beside them). x86-64; link
+/* Ecchjulmina for C: MQTT 5 packets read and written by proved code (crates c_read, c_write and c_ROOM for each room beside them). x86-64; link
  * with libecchjulmina.a (bindings/library).
  *
  * Every function ends, allocates nothing, keeps nothing, and calls nothing but its own code and C's memcpy. What each gives for every

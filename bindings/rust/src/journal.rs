@@ -138,7 +138,7 @@ mod tests {
     #[test]
     fn the_largest_number_ends_the_journal() {
         let path = path("ended");
-        let made = include_bytes!("../../../crates/show_journal/data/area1024.bin");
+        let made = include_bytes!("../../../crates/desk_journal/data/area1024.bin");
         std::fs::write(&path, made).unwrap();
         let mut journal = Journal::open(&path).unwrap();
         assert_eq!(journal.recover().unwrap().number, u64::MAX);

@@ -1,4 +1,4 @@
-//! MQTT 5 packets read and written by proved code (crates/capi and crates/capi_put of this repository), in two layers.
+//! MQTT 5 packets read and written by proved code (crates/c_read and crates/c_write of this repository), in two layers.
 //!
 //! The first, `mqttbytes`, has the paths, types and signatures of rumqttc's `v5::mqttbytes`: `Packet::read(&mut BytesMut, Option<u32>)`,
 //! `write`, `size`, and the records with `Bytes` that share the stream's memory. Where the answers differ from the crate's is listed in

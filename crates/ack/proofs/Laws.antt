@@ -8,7 +8,7 @@ use native.Mathlib.Numerals.{add-one}
 use lib.ListN.{length, drop, getD, drop-of-length-le}
 use lib.Seq.{drop-cons}
 use Rattle.grammar.specs.Choice.{isIn}
-use Rattle.grammar.specs.Tables.{ackPlace, anAck}
+use Rattle.grammar.specs.Tables.{ackRow, anAck}
 use Rattle.grammar.specs.Record.{Props, ack, kindOf}
 use Rattle.reading.specs.Refusal.{Refusal, nr, cut}
 use Rattle.reading.specs.Reader.{Fit, got, bad, _>>=_, _>>_, guard, mapFit, exactFit}
@@ -85,21 +85,21 @@ block-none s at h = rw (drop-of-length-le s h)
 
 -- the block at an index
 abbrev blockAt : List ℕ → ℕ → Fit (Block × ℕ)
-blockAt s at = fromAt (blockOf asPlaces ackPlace (propsAs asPlaces) (length s)) s at
+blockAt s at = fromAt (blockOf asPlaces ackRow (propsAs asPlaces) (length s)) s at
 
 module _ (s : List ℕ) (at : ℕ) (h : at < length s) where
-  block-exact : ackBlockFit asPlaces (length s) (drop at s) ≡ exactFit (blockOf asPlaces ackPlace (propsAs asPlaces) (length s)) cut (drop at s)
+  block-exact : ackBlockFit asPlaces (length s) (drop at s) ≡ exactFit (blockOf asPlaces ackRow (propsAs asPlaces) (length s)) cut (drop at s)
   unfolding ackBlockFit
   block-exact = rw (drop-cons s at 0 h)
 
   pub block-bad : (k : Refusal) → bad k ≡ blockAt s at → bad k ≡ ackBlockFit asPlaces (length s) (drop at s)
   unfolding exactFit
-  block-bad k e = sym (block-exact ∙ rw (bad-left (blockOf asPlaces ackPlace (propsAs asPlaces) (length s)) s at k (sym e)))
+  block-bad k e = sym (block-exact ∙ rw (bad-left (blockOf asPlaces ackRow (propsAs asPlaces) (length s)) s at k (sym e)))
 
   -- the block ps ends at n
   module _ (ps : Block) (n : ℕ) (e : got (ps, n) ≡ blockAt s at) where
-    block-left : blockOf asPlaces ackPlace (propsAs asPlaces) (length s) (drop at s) ≡ got (ps, drop n s)
-    block-left = got-left (blockOf asPlaces ackPlace (propsAs asPlaces) (length s)) s at (trails-block asPlaces (length s) ackPlace (propsAs asPlaces)) ps n (sym e)
+    block-left : blockOf asPlaces ackRow (propsAs asPlaces) (length s) (drop at s) ≡ got (ps, drop n s)
+    block-left = got-left (blockOf asPlaces ackRow (propsAs asPlaces) (length s)) s at (trails-block asPlaces (length s) ackRow (propsAs asPlaces)) ps n (sym e)
 
     pub bytes-after : n < length s → bad cut ≡ ackBlockFit asPlaces (length s) (drop at s)
     unfolding exactFit

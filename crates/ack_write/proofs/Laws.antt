@@ -7,7 +7,7 @@ use native.Mathlib.Omega.{arith}
 use lib.Dec.{eqb}
 use lib.ListN.{length}
 use lib.Seq.{sets}
-use Rattle.grammar.specs.Tables.{ackPlace, reasonsOf, firstOf}
+use Rattle.grammar.specs.Tables.{ackRow, reasonsOf, firstOf}
 use Rattle.reading.specs.Reader.{Fit, got, _>>_}
 use Rattle.writing.specs.Lists.{flat}
 use Rattle.writing.specs.Handed.{AckHanded, ack, ackGiven, blockBelongs, belongs}
@@ -18,15 +18,15 @@ use Rattle.writing.specs.Write.{firstByte, frameBytes}
 use Rattle.writing.proofs.ForCode.{ack-frame, cap-small, cap-length}
 use Rattle.writing.proofs.Judge.{fields-more}
 use Rattle.writing.proofs.Says.{length-wide}
-use Rattle.row_sizes.proofs.Laws.{cap-left}
-use Rattle.row_puts.specs.Put.{Put}
-use Rattle.row_puts.specs.Behind.{Behind}
-use Rattle.row_puts.proofs.Laws.{store-next, put-next, next-last}
-use Rattle.settle.specs.Found.{earlyOf, lateOf}
-use Rattle.settle.proofs.Laws.{early-fields}
+use Rattle.write_sizes.proofs.Laws.{cap-left}
+use Rattle.write_properties.specs.Put.{Put}
+use Rattle.write_properties.specs.Behind.{Behind}
+use Rattle.write_properties.proofs.Laws.{store-next, put-next, next-last}
+use Rattle.write_order.specs.Found.{beforeSize, afterLimit}
+use Rattle.write_order.proofs.Laws.{before-size-fields}
 
 module _ (k : ℕ) (h : AckHanded) where
-  pub belong-all : {r : Bool} → r ≡ blockBelongs ackPlace (h .block) (ackGiven (h .text) (h .user)) → r ≡ belongs (ack k h)
+  pub belong-all : {r : Bool} → r ≡ blockBelongs ackRow (h .block) (ackGiven (h .text) (h .user)) → r ≡ belongs (ack k h)
   unfolding belongs
   belong-all e = e
 
@@ -36,38 +36,38 @@ module _ (k : ℕ) (h : AckHanded) where
   unfolding restIs
   rest-plain e = rw e
 
-  pub rest-full : isPlain h ≡ false → (l w r : ℕ) → l ≡ cap (propsSize ackPlace (ackGiven (h .text) (h .user))) → w ≡ cap (withLength l) → r ≡ cap (w + 3) → r ≡ cap (restIs (ack k h))
+  pub rest-full : isPlain h ≡ false → (l w r : ℕ) → l ≡ cap (propsSize ackRow (ackGiven (h .text) (h .user))) → w ≡ cap (withLength l) → r ≡ cap (w + 3) → r ≡ cap (restIs (ack k h))
   unfolding restIs
   rest-full e l w r f g i =
-      let n : ℕ = propsSize ackPlace (ackGiven (h .text) (h .user)) in
+      let n : ℕ = propsSize ackRow (ackGiven (h .text) (h .user)) in
       let j : w ≡ cap (withLength n) = g ∙ rw f (cap-length n) in
       let o : withLength n + 3 ≡ 3 + withLength n = omega arith in
       i ∙ cap-left w (withLength n) 3 j ∙ rw (e, o)
 
   -- ---- 20 and the fields
 
-  tests-both : judge (flat fieldTests (fieldsOf (ack k h))) ≡ (judge (fieldTests (code (reasonsOf k) (h .reason))) >> judge (flat fieldTests (propsFields ackPlace (ackGiven (h .text) (h .user)))))
+  tests-both : judge (flat fieldTests (fieldsOf (ack k h))) ≡ (judge (fieldTests (code (reasonsOf k) (h .reason))) >> judge (flat fieldTests (propsFields ackRow (ackGiven (h .text) (h .user)))))
   unfolding fieldsOf
-  tests-both = fields-more (code (reasonsOf k) (h .reason)) (propsFields ackPlace (ackGiven (h .text) (h .user)))
+  tests-both = fields-more (code (reasonsOf k) (h .reason)) (propsFields ackRow (ackGiven (h .text) (h .user)))
 
-  pub early-all : {b : Bool} {x y r : Fit (Unit {0})} → b ≡ belongs (ack k h) → b ≡ true → x ≡ judge (fieldTests (code (reasonsOf k) (h .reason)))
-      → y ≡ judge (flat fieldTests (propsFields ackPlace (ackGiven (h .text) (h .user)))) → r ≡ (x >> y) → r ≡ earlyOf (ack k h)
-  early-all {b} e f i j l = l ∙ rw (i, j) (sym tests-both) ∙ early-fields (ack k h) b e f
+  pub before-size-all : {b : Bool} {x y r : Fit (Unit {0})} → b ≡ belongs (ack k h) → b ≡ true → x ≡ judge (fieldTests (code (reasonsOf k) (h .reason)))
+      → y ≡ judge (flat fieldTests (propsFields ackRow (ackGiven (h .text) (h .user)))) → r ≡ (x >> y) → r ≡ beforeSize (ack k h)
+  before-size-all {b} e f i j l = l ∙ rw (i, j) (sym tests-both) ∙ before-size-fields (ack k h) b e f
 
-  pub ack-late : got tt ≡ lateOf (ack k h)
+  pub ack-after-limit : got tt ≡ afterLimit (ack k h)
   unfolding judge
-  ack-late = refl
+  ack-after-limit = refl
 
   -- ---- the bytes
 
   -- all but the first byte, R and the identifier
   abbrev pub behind : List ℕ
-  behind = h .reason ∷ (short (propsSize ackPlace (ackGiven (h .text) (h .user))) ++ propsBytes ackPlace (ackGiven (h .text) (h .user)))
+  behind = h .reason ∷ (short (propsSize ackRow (ackGiven (h .text) (h .user))) ++ propsBytes ackRow (ackGiven (h .text) (h .user)))
 
   -- a block in a frame that is not too long is not too long
-  pub length-small : isPlain h ≡ false → restIs (ack k h) ≤ most → propsSize ackPlace (ackGiven (h .text) (h .user)) ≤ most
+  pub length-small : isPlain h ≡ false → restIs (ack k h) ≤ most → propsSize ackRow (ackGiven (h .text) (h .user)) ≤ most
   unfolding restIs
-  length-small e s = let t : 3 + withLength (propsSize ackPlace (ackGiven (h .text) (h .user))) ≤ most = rw e at s in omega arith
+  length-small e s = let t : 3 + withLength (propsSize ackRow (ackGiven (h .text) (h .user))) ≤ most = rw e at s in omega arith
 
   module _ (before out₁ out₂ : List ℕ) (len n first : ℕ) (l : len ≡ cap (restIs (ack k h)))
       (p : Put before 0 (firstOf k ∷ short len) out₁ n) (m : first ≡ min (0 + n) (length out₁)) (q : out₂ ≡ sets out₁ first (wide 2 (h .ident)))
@@ -89,11 +89,11 @@ module _ (k : ℕ) (h : AckHanded) where
         next-last (put-next p m) (wide 2 (h .ident) ++ behind) (next-last (store-next (wide 2 (h .ident)) q (sym (length-wide 2 (h .ident))) o) behind r) ∙ ap (sets before 0) (sym f)
 
   pub put-behind : (before out₁ out₂ : List ℕ) (at next last : ℕ) → out₁ ≡ sets before at (h .reason ∷ []) → next ≡ min (at + 1) (length out₁)
-      → (propsSize ackPlace (ackGiven (h .text) (h .user)) ≤ most
-      → Behind out₁ next (short (propsSize ackPlace (ackGiven (h .text) (h .user))) ++ propsBytes ackPlace (ackGiven (h .text) (h .user))) out₂ last)
-      → propsSize ackPlace (ackGiven (h .text) (h .user)) ≤ most → out₂ ≡ sets before at behind
+      → (propsSize ackRow (ackGiven (h .text) (h .user)) ≤ most
+      → Behind out₁ next (short (propsSize ackRow (ackGiven (h .text) (h .user))) ++ propsBytes ackRow (ackGiven (h .text) (h .user))) out₂ last)
+      → propsSize ackRow (ackGiven (h .text) (h .user)) ≤ most → out₂ ≡ sets before at behind
   put-behind before out₁ out₂ at next last q₁ m₁ p₂ s =
-      next-last (store-next (h .reason ∷ []) {l = before} {n = 1} q₁ refl m₁) (short (propsSize ackPlace (ackGiven (h .text) (h .user))) ++ propsBytes ackPlace (ackGiven (h .text) (h .user))) (p₂ s .stores)
+      next-last (store-next (h .reason ∷ []) {l = before} {n = 1} q₁ refl m₁) (short (propsSize ackRow (ackGiven (h .text) (h .user))) ++ propsBytes ackRow (ackGiven (h .text) (h .user))) (p₂ s .stores)
 
 -- ---- whether it is a plain success
 

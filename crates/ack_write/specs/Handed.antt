@@ -2,7 +2,7 @@
 use mathlib.Core.List.{List}
 use Prim.Native.Nat.{ℕ}
 use Rattle.writing.specs.Handed.{AckHanded, Givens, ackGiven}
-use Rattle.rows.specs.Given.{run}
+use Rattle.write_runs.specs.Given.{run}
 use Rattle.ack_write.specs.declared.AckHead.{AckHead}
 
 -- 01, grammar: "PubAck (4)"; 02, P1: the four share one layout: the numbers and presence, the reason string, the user properties and their lengths

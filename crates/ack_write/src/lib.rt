@@ -3,21 +3,21 @@
 use kinds;
 use kinds::Kind;
 use kinds::number_of;
-use number_puts::fixed;
 use records::ack_record::AckKind;
 use records::answer::Limit;
 use records::answer::Sized;
 use records::answer::Written;
 use records::error::Error;
-use row_tests::Tested;
-use rows::run;
 use tables::reason::is_ack_reason;
+use write_numbers::fixed;
+use write_runs::run;
+use write_tests::Tested;
 ghost use mathlib.Core.Path.{_≡_};
 ghost use mathlib.Core.Bool.{true};
 ghost use mathlib.Core.List.{[], _∷_, _++_};
 ghost use Prim.Native.Nat.{_≤_};
 ghost use lib.Seq.{sets};
-ghost use Rattle.grammar.specs.Tables.{ackPlace, reasonsOf, firstOf};
+ghost use Rattle.grammar.specs.Tables.{ackRow, reasonsOf, firstOf};
 ghost use Rattle.writing.specs.Handed.{ack, belongs as belongsOf};
 ghost use Rattle.writing.specs.Spell.{short, propsBytes};
 ghost use Rattle.writing.specs.Size.{most, propsSize, isPlain, restIs, cap};
@@ -25,8 +25,8 @@ ghost use Rattle.writing.specs.Order.{judge, code, fieldTests};
 ghost use Rattle.writing.specs.Write.{frameBytes, sizeOf, Written as WrittenOf};
 ghost use Rattle.records.specs.AsNumbers.{limitOf, toldAckKind};
 ghost use Rattle.records.specs.Answered.{toldSized, toldWritten};
-ghost use Rattle.row_tests.specs.Tested.{toldTested};
-ghost use Rattle.settle.specs.Found.{earlyOf};
+ghost use Rattle.write_tests.specs.Tested.{toldTested};
+ghost use Rattle.write_order.specs.Found.{beforeSize};
 ghost use Rattle.ack_write.specs.Handed.{handed, givenFor};
 
 // What is handed over by value; the reason string and the user properties are lent beside it.
@@ -44,7 +44,7 @@ pub struct AckHead {
 fn belongs(m: AckHead, reason_string: &[u8], user: &[u8], user_lengths: &[usize]) -> bool
     ensures { λ r. ⌜ r ≡ belongsOf (ack (toldAckKind (m .kind)) (handed m (now («reason_string» .entry)) (now (user .entry)) (now («user_lengths» .entry)))) ⌝ }
 {
-    ack_rows::rows_belong(m.block, m.reason_string, reason_string, user, user_lengths)
+    write_ack_properties::rows_belong(m.block, m.reason_string, reason_string, user, user_lengths)
 }
 
 fn is_plain(m: AckHead) -> bool
@@ -63,15 +63,15 @@ fn rest(m: AckHead, reason_string: &[u8], user: &[u8], user_lengths: &[usize]) -
     if is_plain(m) {
         return 2;
     }
-    let len = ack_rows::rows_length(m.reason_string, reason_string, user, user_lengths);
-    row_sizes::add(row_sizes::with_length(len), 3)
+    let len = write_ack_properties::rows_length(m.reason_string, reason_string, user, user_lengths);
+    write_sizes::add(write_sizes::with_length(len), 3)
 }
 
 // How many bytes the frame is: refused with 20, then 17 for R.
 pub fn size(m: AckHead, reason_string: &[u8], user: &[u8], user_lengths: &[usize]) -> Sized
     ensures { λ r. ⌜ toldSized r ≡ sizeOf (ack (toldAckKind (m .kind)) (handed m (now («reason_string» .entry)) (now (user .entry)) (now («user_lengths» .entry)))) ⌝ }
 {
-    settle::size(
+    write_order::size(
         belongs(m, reason_string, user, user_lengths),
         rest(m, reason_string, user, user_lengths),
     )
@@ -95,16 +95,16 @@ fn first_byte(kind: AckKind) -> u8
 }
 
 // 20, then the fields.
-fn early(m: AckHead, reason_string: &[u8], user: &[u8], user_lengths: &[usize]) -> Tested
-    ensures { λ r. ⌜ toldTested r ≡ earlyOf (ack (toldAckKind (m .kind)) (handed m (now («reason_string» .entry)) (now (user .entry)) (now («user_lengths» .entry)))) ⌝ }
+fn before_size(m: AckHead, reason_string: &[u8], user: &[u8], user_lengths: &[usize]) -> Tested
+    ensures { λ r. ⌜ toldTested r ≡ beforeSize (ack (toldAckKind (m .kind)) (handed m (now («reason_string» .entry)) (now (user .entry)) (now («user_lengths» .entry)))) ⌝ }
 {
     if !belongs(m, reason_string, user, user_lengths) {
         return Tested::Refused(Error::ListMismatch);
     }
     let kind = m.kind;
-    row_tests::then(
+    write_tests::then(
         test_reason(kind, m.reason),
-        ack_rows::test_rows(m.reason_string, reason_string, user, user_lengths),
+        write_ack_properties::test_rows(m.reason_string, reason_string, user, user_lengths),
     )
 }
 
@@ -124,11 +124,11 @@ fn put_block(
     user: &[u8],
     user_lengths: &[usize],
 )
-    ensures { λ r. ⌜ (propsSize ackPlace (givenFor m (now («reason_string» .entry)) (now (user .entry)) (now («user_lengths» .entry))) ≤ most → now (out .exit) ≡ sets (now (out .entry)) at (m .reason ∷ (short (propsSize ackPlace (givenFor m (now («reason_string» .entry)) (now (user .entry)) (now («user_lengths» .entry)))) ++ propsBytes ackPlace (givenFor m (now («reason_string» .entry)) (now (user .entry)) (now («user_lengths» .entry)))))) ⌝ }
+    ensures { λ r. ⌜ (propsSize ackRow (givenFor m (now («reason_string» .entry)) (now (user .entry)) (now («user_lengths» .entry))) ≤ most → now (out .exit) ≡ sets (now (out .entry)) at (m .reason ∷ (short (propsSize ackRow (givenFor m (now («reason_string» .entry)) (now (user .entry)) (now («user_lengths» .entry)))) ++ propsBytes ackRow (givenFor m (now («reason_string» .entry)) (now (user .entry)) (now («user_lengths» .entry)))))) ⌝ }
 {
     put_reason(&mut *out, at, m.reason);
     let next = run::after(out.len(), at, 1);
-    ack_rows::put_rows(
+    write_ack_properties::put_rows(
         &mut *out,
         next,
         m.reason_string,
@@ -145,7 +145,7 @@ fn put(out: &mut [u8], m: AckHead, reason_string: &[u8], user: &[u8], user_lengt
     let len = rest(m, reason_string, user, user_lengths);
     let kind = m.kind;
     let byte1 = first_byte(kind);
-    let n = row_puts::put_header(&mut *out, byte1, len);
+    let n = write_properties::put_header(&mut *out, byte1, len);
     let first = run::after(out.len(), 0, n);
     fixed::put_u16(&mut *out, first, m.pkid);
     if !is_plain(m) {
@@ -165,9 +165,9 @@ pub fn write(
 ) -> Written
     ensures { λ r. ⌜ WrittenOf (limitOf limit) (ack (toldAckKind (m .kind)) (handed m (now («reason_string» .entry)) (now (user .entry)) (now («user_lengths» .entry)))) (now (out .entry)) (now (out .exit)) (toldWritten r) ⌝ }
 {
-    let fields = early(m, reason_string, user, user_lengths);
+    let fields = before_size(m, reason_string, user, user_lengths);
     let len = rest(m, reason_string, user, user_lengths);
-    match settle::settle(fields, len, limit, Tested::Fine, out.len()) {
+    match write_order::settle(fields, len, limit, Tested::Fine, out.len()) {
         Written::Refused(e) => Written::Refused(e),
         Written::Size(n) => {
             put(&mut *out, m, reason_string, user, user_lengths);

@@ -141,7 +141,7 @@ fn set(table: &mut [u8], alias: u16, topic: &[u8])
     let at = (alias as usize - 1) * 129;
     let len = topic.len() as u8;
     table[at] = len;
-    byte_puts::put_bytes(&mut *table, at + 1, topic);
+    write_bytes::put_bytes(&mut *table, at + 1, topic);
 }
 
 // Sets the alias of a message that has a topic and an alias.

@@ -1,7 +1,7 @@
 // A frame and its answer on standard output, the fields and the refusals as `desk` writes them.
-use codes;
 use entry_runs;
 use publish_parts;
+use qos_numbers;
 use records::ack_record::Ack;
 use records::answer::FilterItem;
 use records::answer::IdentifierItem;
@@ -47,7 +47,7 @@ pub fn number(words: &[u8], n: u64) {
 // Bytes behind the words before them.
 fn text(words: &[u8], s: &[u8]) {
     let mut out = [0u8; 64];
-    let shown = render::put_shown(&mut out, 0, s);
+    let shown = desk_render::put_shown(&mut out, 0, s);
     let place = Span {
         start: 0,
         len: shown.put,
@@ -71,7 +71,7 @@ pub fn taken(taken: usize) {
 // The line of a refusal at offset 0.
 pub fn refused(e: Error, taken: usize) {
     let mut out = [0u8; 128];
-    let len = lines::put_refused(&mut out, 0, e, taken);
+    let len = desk_lines::put_refused(&mut out, 0, e, taken);
     io::write_all(1, b" ");
     io::write_all(1, string::part(&out, Span { start: 0, len }));
 }
@@ -104,7 +104,7 @@ fn publish_of(s: &[u8], m: Publish) {
 fn filter_of(s: &[u8], f: Filter) {
     text(b" filter=", string::part(s, f.path));
     let q = f.qos;
-    number(b" qos=", wide(codes::qos_number(q)));
+    number(b" qos=", wide(qos_numbers::qos_number(q)));
 }
 
 // The filters of the run; it has fewer than it has bytes.

@@ -7,7 +7,7 @@ use pieces_read::Answer;
 use records::answer::Limit;
 use records::answer::Read;
 use records::span::Span;
-use refusals;
+use refusal_numbers;
 use wire::string;
 ghost use Prim.Native.Nat.{_≤_, _<_};
 
@@ -16,7 +16,7 @@ fn frame(words: &[u8], r: Read) {
     io::write_all(1, words);
     match r {
         Read::Packet(_, _, taken) => said(0, taken),
-        Read::Refused(e, taken) => said(refusals::number(e), taken),
+        Read::Refused(e, taken) => said(refusal_numbers::number(e), taken),
     }
 }
 

@@ -2,7 +2,6 @@
 use crate::show;
 use crate::text;
 use ack_write::AckHead;
-use length_puts::write_remaining_length;
 use packet_write::head::PacketHead;
 use packet_write::size;
 use packet_write::write;
@@ -17,10 +16,11 @@ use records::span::MaybeU16;
 use records::span::MaybeU32;
 use records::span::Span;
 use reply_write::ReplyHead;
-use string_puts::write_mqtt_bytes;
 use subscribe_write::SubscribeHead;
 use unsubscribe_write::UnsubscribeHead;
 use wire::string;
+use write_lengths::write_remaining_length;
+use write_strings::write_mqtt_bytes;
 ghost use Prim.Native.Nat.{_≤_};
 
 // The words of the line.

@@ -3,7 +3,7 @@ use records::answer::Sized;
 use records::answer::Written;
 use records::error::Error;
 use records::values::Values;
-use refusals;
+use refusal_numbers;
 
 fn wide(b: u8) -> usize {
     b as usize
@@ -42,8 +42,8 @@ fn values(v: Values) {
 
 // The number of the row, and its values.
 fn refusal(words: &[u8], e: Error) {
-    number(words, wide(refusals::number(e)));
-    values(refusals::values(e));
+    number(words, wide(refusal_numbers::number(e)));
+    values(refusal_numbers::values(e));
 }
 
 pub fn sized(s: Sized) {

@@ -2,15 +2,15 @@
 // filled is in bindings/c/ecchjulmina.h.
 use alias::Judged;
 use alias::Placed;
-use given::number::maybe_u16;
-use layout::store::store;
+use c_arguments::number::maybe_u16;
+use c_layout::store::store;
 use records::span::Span;
 use wire::string;
 ghost use mathlib.Core.Path.{_≡_};
 ghost use lib.Seq.{sets};
 ghost use Rattle.reading.specs.Place.{heldOf};
-ghost use Rattle.layout.specs.Value.{fitNumber};
-ghost use Rattle.given.specs.Given.{maybe};
+ghost use Rattle.c_layout.specs.Value.{fitNumber};
+ghost use Rattle.c_arguments.specs.Given.{maybe};
 ghost use Rattle.alias.specs.Alias.{permit, tableAfter, inForce};
 ghost use Rattle.alias.specs.AliasAnswer.{toldJudged, toldPlaced};
 ghost use Rattle.c_alias.specs.Force.{forceNumbers};

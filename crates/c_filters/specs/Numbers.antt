@@ -6,7 +6,7 @@ use lib.Seq.{sets}
 use Rattle.reading.specs.Reader.{Fit, got, bad}
 use Rattle.reading.specs.Place.{onGot}
 use Rattle.records.specs.AsNumbers.{rowOf, valuesOf}
-use Rattle.layout.specs.Value.{valueOrZero}
+use Rattle.c_layout.specs.Value.{valueOrZero}
 use Rattle.filter_table.specs.Table.{tableOf, filledOf, entryAt}
 use Rattle.filter_table.specs.declared.FilterEntry.{FilterEntry}
 

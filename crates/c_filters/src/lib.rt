@@ -1,14 +1,14 @@
 // The filters of a Subscribe in a table that C lends as an array of numbers, three for an entry (02, P7); bindings/c/ecchjulmina.h has the
 // words.
+use c_layout::store::store;
+use c_layout::value::first_value;
+use c_layout::value::second_value;
 use filter_table::FilterEntry;
 use filter_table::FilterTable;
 use filter_table::entry_at;
 use filter_table::plan_of;
-use layout::store::store;
-use layout::value::first_value;
-use layout::value::second_value;
-use refusals::number;
-use refusals::values;
+use refusal_numbers::number;
+use refusal_numbers::values;
 ghost use mathlib.Core.Path.{_≡_};
 ghost use mathlib.Core.Option.{none};
 ghost use Prim.Native.Nat.{_+_, _*_, _≤_};

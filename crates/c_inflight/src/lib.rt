@@ -1,8 +1,8 @@
 // What C calls for P4: the table as lent bytes, one for each identifier from 1 upward, 0 if it is free, 1, 2 or 3 if it waits for PubAck,
 // PubRec or PubComp. A start clears every byte, whatever it was; any other call tests every byte, and changes at most one.
 // bindings/c/ecchjulmina.h says the rest.
+use c_layout::store::store;
 use inflight::LIMIT;
-use layout::store::store;
 ghost use mathlib.Core.Path.{_≡_};
 ghost use mathlib.Core.Bool.{true, not};
 ghost use mathlib.Core.List.{_∷_, []};

@@ -1,4 +1,5 @@
 // What C calls for P11: a journal over lent memory, and its table as the lent bytes of c_inflight. bindings/c/ecchjulmina.h says the rest.
+use c_layout::store::store;
 use inflight::InFlight;
 use inflight::LIMIT;
 use inflight::Place;
@@ -11,7 +12,6 @@ use journal::is_whole;
 use journal::recover;
 use journal::save;
 use journal::start;
-use layout::store::store;
 ghost use mathlib.Core.Path.{_≡_};
 ghost use mathlib.Core.List.{_∷_, []};
 ghost use Prim.Native.Nat.{_<_, _≤_};

@@ -8,7 +8,7 @@ use lib.ListN.{length, getD}
 use lib.Seq.{sets}
 use Rattle.reading.specs.Refusal.{Refusal, nr}
 use Rattle.records.specs.AsNumbers.{rowOf, valuesOf}
-use Rattle.layout.specs.Value.{valueOrZero}
+use Rattle.c_layout.specs.Value.{valueOrZero}
 use Rattle.pieces_rules.specs.Whole.{frameTooLong}
 use Rattle.pieces_rules.specs.Step.{badBuffer, State, fresh, Gives, more, inPiece, inBuffer, stops, Step, refuses, foundOf}
 use Rattle.pieces.specs.PieceAnswer.{toldEnd, toldState}

@@ -1,8 +1,8 @@
 // Where the next frame of a stream that arrives in pieces lies (02, P10), as C asks for it; bindings/c/ecchjulmina.h has the words.
-use given::number::bound;
-use layout::store::store;
-use layout::value::first_value;
-use layout::value::second_value;
+use c_arguments::number::bound;
+use c_layout::store::store;
+use c_layout::value::first_value;
+use c_layout::value::second_value;
 use pieces;
 use pieces::End;
 use pieces::Given;
@@ -16,7 +16,7 @@ ghost use lib.Seq.{sets};
 ghost use Rattle.records.specs.AsNumbers.{limitOf};
 ghost use Rattle.pieces_rules.specs.Step.{foundOf};
 ghost use Rattle.pieces.specs.PieceAnswer.{toldState, toldGiven, toldStep};
-ghost use Rattle.given.specs.Given.{limitGiven};
+ghost use Rattle.c_arguments.specs.Given.{limitGiven};
 ghost use Rattle.c_pieces.specs.Frame.{toldGotEnd, endGiven, toldGotState, stateGiven, stateNumbers, gaveNumber, frameNumbers, frameFor, stateAfter};
 
 enum GotEnd {

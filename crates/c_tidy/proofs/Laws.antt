@@ -4,7 +4,7 @@ use mathlib.Core.List.{List, [], _∷_}
 use Prim.Native.Nat.{ℕ}
 use Rattle.reading.specs.Refusal.{Refusal, nr, refusedAs}
 use Rattle.records.specs.AsNumbers.{rowOf, valuesOf}
-use Rattle.layout.specs.Value.{valueOrZero}
+use Rattle.c_layout.specs.Value.{valueOrZero}
 use Rattle.c_tidy.specs.Numbers.{tidyNumber, tidyNumbers}
 
 pub refused-number : (k : Refusal) (n : ℕ) → rowOf k ≡ tidyNumber (refusedAs k n)

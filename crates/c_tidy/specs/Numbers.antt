@@ -2,7 +2,7 @@
 use mathlib.Core.List.{List, [], _∷_}
 use Prim.Native.Nat.{ℕ}
 use Rattle.reading.specs.Refusal.{Answer, accepted, refused}
-use Rattle.layout.specs.Value.{valueOrZero}
+use Rattle.c_layout.specs.Value.{valueOrZero}
 
 -- header: "0, or the refusal's number"
 abbrev pub tidyNumber : Answer ℕ → ℕ

@@ -1,9 +1,9 @@
 // The tidy form of a frame (02, P14), as C asks for it; bindings/c/ecchjulmina.h has the words.
-use layout::store::store;
-use layout::value::first_value;
-use layout::value::second_value;
-use refusals::number;
-use refusals::values;
+use c_layout::store::store;
+use c_layout::value::first_value;
+use c_layout::value::second_value;
+use refusal_numbers::number;
+use refusal_numbers::values;
 use tidying::Tidied;
 use tidying::tidy;
 ghost use mathlib.Core.Path.{_≡_};

@@ -4,14 +4,14 @@ use mathlib.Core.List.{List, [], _∷_}
 use Prim.Native.Nat.{ℕ, _≤_}
 use lib.ListN.{length, take, drop, getD}
 use Rattle.grammar.specs.Record.{Val, publish, ack, subscribe, reply, unsubscribe, ping}
-use Rattle.grammar.specs.Tables.{Place}
+use Rattle.grammar.specs.Tables.{Row}
 use Rattle.reading.specs.Reader.{Fit}
 use Rattle.reading.specs.Place.{Span, Placed}
-use Rattle.layout.specs.Value.{fitNumber}
+use Rattle.c_layout.specs.Value.{fitNumber}
 use Rattle.c_walk.specs.Next.{stepNumbers, Stored}
 
 -- header: "the index after it, where the next call begins": what each call returns, and its array afterwards, which has room for the five numbers
-pub data Calls (row : Option Place) (s : List ℕ) (end : ℕ) : ℕ → List (ℕ × List ℕ) → Type 0 where
+pub data Calls (row : Option Row) (s : List ℕ) (end : ℕ) : ℕ → List (ℕ × List ℕ) → Type 0 where
   uncalled : {at : ℕ} → Calls row s end at []
   called : {at number : ℕ} {before after : List ℕ} {rs : List (ℕ × List ℕ)} → 5 ≤ length before → Stored row s end at number before after → Calls row s end (getD after 0 0) rs → Calls row s end at ((number, after) ∷ rs)
 

@@ -1,23 +1,23 @@
 // The next user property in a block, and the index after it: the caller keeps the position, as `walker::Walker` does.
-use kinds::KindPlace;
-use kinds::place_of;
-use layout::store::store;
+use c_layout::store::store;
+use kinds::KindRow;
+use kinds::row_of;
 use records::answer::UserItem;
 use walker::Step;
 use walker::step_at;
 ghost use mathlib.Core.Path.{_≡_};
-ghost use Rattle.grammar.specs.Tables.{placeAt};
+ghost use Rattle.grammar.specs.Tables.{rowOfKind};
 ghost use Rattle.records.specs.Answered.{toldUser};
-ghost use Rattle.layout.specs.Value.{fitNumber};
+ghost use Rattle.c_layout.specs.Value.{fitNumber};
 ghost use Rattle.c_walk.specs.Next.{Steps, stepNumbers, Stored};
 
 // In the row of a kind, if it has one.
 fn step_given(frame: &[u8], kind: u8, at: usize, end: usize) -> Step
-    ensures { λ r. ⌜ Steps (placeAt kind) (now (frame .entry)) end at (toldUser (r .item)) (r .at) ⌝ }
+    ensures { λ r. ⌜ Steps (rowOfKind kind) (now (frame .entry)) end at (toldUser (r .item)) (r .at) ⌝ }
 {
-    match place_of(kind) {
-        KindPlace::Of(place) => return step_at(frame, at, end, place),
-        KindPlace::NoBlock => {
+    match row_of(kind) {
+        KindRow::Of(place) => return step_at(frame, at, end, place),
+        KindRow::NoBlock => {
             let item = UserItem::NoItem;
             return Step { item, at };
         }
@@ -57,7 +57,7 @@ pub extern "C" fn ecch_next_user(
     end: usize,
     into: &mut [u64],
 ) -> u32
-    ensures { λ r. ⌜ Stored (placeAt kind) (now (frame .entry)) end at r (now (into .entry)) (now (into .exit)) ⌝ }
+    ensures { λ r. ⌜ Stored (rowOfKind kind) (now (frame .entry)) end at r (now (into .entry)) (now (into .exit)) ⌝ }
 {
     let t = step_given(frame, kind, at, end);
     let item = t.item;

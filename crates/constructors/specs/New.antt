@@ -5,7 +5,7 @@ use mathlib.Core.List.{List}
 use Prim.Native.Nat.{ℕ, _+_}
 use lib.Dec.{eqb}
 use Rattle.writing.specs.Handed.{AckHanded, SubscribeHanded}
-use Rattle.rows.specs.Given.{run}
+use Rattle.write_runs.specs.Given.{run}
 use Rattle.framing.specs.declared.header.FixedHeader.{FixedHeader}
 
 -- v5/mod.rs, `FixedHeader::new`: "fixed_header_len: remaining_len_len + 1"; the largest usize where there is no such number

@@ -3,14 +3,14 @@ use crate::expect;
 use crate::file;
 use crate::row;
 use crate::row::UNSET;
-use capi_put::put_ack::ecch_puback_size;
-use capi_put::put_ack::ecch_puback_write;
-use capi_put::put_ack::ecch_pubcomp_size;
-use capi_put::put_ack::ecch_pubcomp_write;
-use capi_put::put_ack::ecch_pubrec_size;
-use capi_put::put_ack::ecch_pubrec_write;
-use capi_put::put_ack::ecch_pubrel_size;
-use capi_put::put_ack::ecch_pubrel_write;
+use c_write::put_ack::ecch_puback_size;
+use c_write::put_ack::ecch_puback_write;
+use c_write::put_ack::ecch_pubcomp_size;
+use c_write::put_ack::ecch_pubcomp_write;
+use c_write::put_ack::ecch_pubrec_size;
+use c_write::put_ack::ecch_pubrec_write;
+use c_write::put_ack::ecch_pubrel_size;
+use c_write::put_ack::ecch_pubrel_write;
 
 fn size(f: &[u8], v: &[usize], lengths: &[usize], answer: &mut [u64]) -> u32 {
     let pkid = file::medium(v, 2);

@@ -3,9 +3,9 @@ use crate::expect;
 use crate::file;
 use crate::row;
 use crate::row::UNSET;
-use capi_put::put_ping::ecch_ping_size;
-use capi_put::put_ping::ecch_pingreq_write;
-use capi_put::put_ping::ecch_pingresp_write;
+use c_write::put_ping::ecch_ping_size;
+use c_write::put_ping::ecch_pingreq_write;
+use c_write::put_ping::ecch_pingresp_write;
 
 fn write(v: &[usize], out: &mut [u8], answer: &mut [u64]) -> u32 {
     let limited = file::small(v, row::LIMITED);

@@ -3,8 +3,8 @@ use crate::expect;
 use crate::file;
 use crate::row;
 use crate::row::UNSET;
-use capi_put::put_publish::ecch_publish_size;
-use capi_put::put_publish::ecch_publish_write;
+use c_write::put_publish::ecch_publish_size;
+use c_write::put_publish::ecch_publish_write;
 
 fn called(f: &[u8], v: &[usize], lengths: &[usize], ids: &[u32], out: &mut [u8]) -> usize {
     let dup = file::small(v, 2);

@@ -3,10 +3,10 @@ use crate::expect;
 use crate::file;
 use crate::row;
 use crate::row::UNSET;
-use capi_put::put_reply::ecch_suback_size;
-use capi_put::put_reply::ecch_suback_write;
-use capi_put::put_reply::ecch_unsuback_size;
-use capi_put::put_reply::ecch_unsuback_write;
+use c_write::put_reply::ecch_suback_size;
+use c_write::put_reply::ecch_suback_write;
+use c_write::put_reply::ecch_unsuback_size;
+use c_write::put_reply::ecch_unsuback_write;
 
 fn size(f: &[u8], v: &[usize], lengths: &[usize], answer: &mut [u64]) -> u32 {
     let pkid = file::medium(v, 2);

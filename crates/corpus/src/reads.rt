@@ -3,12 +3,12 @@ use crate::expect;
 use crate::file;
 use crate::row;
 use crate::row::UNSET;
-use capi::item::ecch_filter;
-use capi::item::ecch_reason;
-use capi::item::ecch_subscription_identifier;
-use capi::item::ecch_topic;
-use capi::item::ecch_user_property;
-use capi::read::ecch_read;
+use c_read::item::ecch_filter;
+use c_read::item::ecch_reason;
+use c_read::item::ecch_subscription_identifier;
+use c_read::item::ecch_topic;
+use c_read::item::ecch_user_property;
+use c_read::read::ecch_read;
 
 // 2 limited, 3 limit, 4 stream
 pub fn read(f: &[u8], v: &[usize]) -> usize {

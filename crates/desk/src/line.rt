@@ -3,7 +3,8 @@ use crate::field;
 use crate::force;
 use crate::list;
 use crate::output;
-use codes;
+use desk_arguments::Style;
+use qos_numbers;
 use records::ack_record::Ack;
 use records::packet_record::Packet;
 use records::properties_record::MaybeProperties;
@@ -14,9 +15,8 @@ use records::reply_record::Reply;
 use records::span::Span;
 use records::subscribe_record::Subscribe;
 use records::unsubscribe_record::Unsubscribe;
-use tables::property::PropertyPlace;
+use tables::property::PropertyRow;
 use wire::string;
-use words::Style;
 
 // The identifier, which a Publish has at QoS 1 and 2.
 fn identifier(out: &mut [u8], at: usize, q: u8, pkid: u16) -> usize {
@@ -43,7 +43,7 @@ fn publish_head(
     m: Publish,
 ) -> usize {
     let qos = m.qos;
-    let q = codes::qos_number(qos);
+    let q = qos_numbers::qos_number(qos);
     let a = flags(&mut *out, at, m.dup, q, m.retain);
     let b = field::part(&mut *out, a, b" topic=\"", ascii, s, m.topic);
     let c = force::topic(&mut *out, b, ascii, s, table, m);
@@ -79,7 +79,7 @@ fn publish_properties(
     let block = p.block;
     let content = p.content_type;
     let a = publish_singles(&mut *out, at, ascii, s, p);
-    let b = list::users(&mut *out, a, PropertyPlace::Publish, ascii, s, block);
+    let b = list::users(&mut *out, a, PropertyRow::Publish, ascii, s, block);
     let c = list::identifiers(&mut *out, b, ascii, s, block);
     field::part_if(&mut *out, c, b" content-type=\"", ascii, s, content)
 }
@@ -116,7 +116,7 @@ fn publish_of(
 fn block(
     out: &mut [u8],
     at: usize,
-    place: PropertyPlace,
+    place: PropertyRow,
     ascii: bool,
     s: &[u8],
     properties: MaybeProperties,
@@ -139,14 +139,14 @@ fn ack_of(out: &mut [u8], at: usize, ascii: bool, s: &[u8], m: Ack) -> usize {
     let properties = m.properties;
     let a = field::id(&mut *out, at, m.pkid);
     let b = field::reason(&mut *out, a, m.reason);
-    block(&mut *out, b, PropertyPlace::Ack, ascii, s, properties)
+    block(&mut *out, b, PropertyRow::Ack, ascii, s, properties)
 }
 
 fn subscribe_of(out: &mut [u8], at: usize, ascii: bool, s: &[u8], m: Subscribe) -> usize {
     let properties = m.properties;
     let filters = m.filters;
     let a = field::id(&mut *out, at, m.pkid);
-    let b = block(&mut *out, a, PropertyPlace::Subscribe, ascii, s, properties);
+    let b = block(&mut *out, a, PropertyRow::Subscribe, ascii, s, properties);
     list::filters(&mut *out, b, ascii, s, filters)
 }
 
@@ -155,7 +155,7 @@ fn reply_of(out: &mut [u8], at: usize, ascii: bool, s: &[u8], m: Reply) -> usize
     let properties = m.properties;
     let reasons = m.reasons;
     let a = field::id(&mut *out, at, m.pkid);
-    let b = block(&mut *out, a, PropertyPlace::Ack, ascii, s, properties);
+    let b = block(&mut *out, a, PropertyRow::Ack, ascii, s, properties);
     list::reasons(&mut *out, b, ascii, s, reasons)
 }
 
@@ -163,14 +163,7 @@ fn unsubscribe_of(out: &mut [u8], at: usize, ascii: bool, s: &[u8], m: Unsubscri
     let properties = m.properties;
     let topics = m.topics;
     let a = field::id(&mut *out, at, m.pkid);
-    let b = block(
-        &mut *out,
-        a,
-        PropertyPlace::Unsubscribe,
-        ascii,
-        s,
-        properties,
-    );
+    let b = block(&mut *out, a, PropertyRow::Unsubscribe, ascii, s, properties);
     list::topics(&mut *out, b, ascii, s, topics)
 }
 

@@ -2,21 +2,21 @@
 // run.
 use crate::field;
 use crate::output;
-use codes;
-use codes::rule_number;
 use filters::GotFilter;
 use property_value::GotProperty;
 use property_value::Value;
+use qos_numbers;
+use qos_numbers::rule_number;
 use records::span::Span;
 use records::subscribe_record::Filter;
-use tables::property::PropertyPlace;
+use tables::property::PropertyRow;
 use wire::got::GotSpan;
 use wire::string;
 
 // What a list is made of.
 enum Items {
     // user properties, and the place of their block
-    Users(PropertyPlace),
+    Users(PropertyRow),
     // subscription identifiers of a Publish
     Identifiers,
     Filters,
@@ -52,14 +52,7 @@ fn identifier_if(out: &mut [u8], at: usize, v: Value) -> usize {
 }
 
 // The property at i, if it is a user property.
-fn user_at(
-    out: &mut [u8],
-    at: usize,
-    place: PropertyPlace,
-    ascii: bool,
-    s: &[u8],
-    i: usize,
-) -> Step {
+fn user_at(out: &mut [u8], at: usize, place: PropertyRow, ascii: bool, s: &[u8], i: usize) -> Step {
     match property_value::read_property(place, s, i) {
         GotProperty::Refused(_) => Step { put: at, next: i },
         GotProperty::Found(_, v, next) => {
@@ -70,7 +63,7 @@ fn user_at(
 }
 
 fn identifier_at(out: &mut [u8], at: usize, s: &[u8], i: usize) -> Step {
-    match property_value::read_property(PropertyPlace::Publish, s, i) {
+    match property_value::read_property(PropertyRow::Publish, s, i) {
         GotProperty::Refused(_) => Step { put: at, next: i },
         GotProperty::Found(_, v, next) => {
             let put = identifier_if(&mut *out, at, v);
@@ -100,7 +93,7 @@ fn filter_of(out: &mut [u8], at: usize, ascii: bool, s: &[u8], f: Filter) -> usi
     options(
         &mut *out,
         a,
-        codes::qos_number(q),
+        qos_numbers::qos_number(q),
         f.nolocal,
         f.preserve_retain,
         rule_number(rule),
@@ -165,7 +158,7 @@ fn items_in(out: &mut [u8], at: usize, items: Items, ascii: bool, s: &[u8]) -> u
 pub fn users(
     out: &mut [u8],
     at: usize,
-    place: PropertyPlace,
+    place: PropertyRow,
     ascii: bool,
     s: &[u8],
     block: Span,

@@ -1,13 +1,13 @@
 // What is put into the lent output before it is written: words, numbers and quoted bytes, each from index `at` on, and the index after it.
 // A full output is written to standard output. An index past the end of the output says that something could not be written.
-use byte_puts::put_bytes;
 use libc::STDOUT_FILENO;
 use records::error::Error;
 use wire::string;
+use write_bytes::put_bytes;
 ghost use mathlib.Core.Path.{_≡_};
 ghost use Prim.Native.Nat.{_+_, _≤_};
 ghost use lib.ListN.{length};
-ghost use Rattle.render.specs.Shown.{decimalOf, hexOf};
+ghost use Rattle.desk_render.specs.Shown.{decimalOf, hexOf};
 ghost use Rattle.desk.specs.Put.{StandsBefore};
 
 // The index that no output has.
@@ -67,7 +67,7 @@ pub fn decimal(out: &mut [u8], at: usize, n: u64) -> usize
     ensures { λ r. ⌜ StandsBefore (now (out .entry)) (decimalOf n) (now (out .exit)) r ⌝ }
 {
     let from = room(&*out, at, 20);
-    let k = render::put_decimal(&mut *out, from, n);
+    let k = desk_render::put_decimal(&mut *out, from, n);
     after(&*out, from, k)
 }
 
@@ -76,7 +76,7 @@ pub fn hex(out: &mut [u8], at: usize, b: u8) -> usize
     ensures { λ r. ⌜ StandsBefore (now (out .entry)) (hexOf b) (now (out .exit)) r ⌝ }
 {
     let from = room(&*out, at, 2);
-    render::put_hex(&mut *out, from, b);
+    desk_render::put_hex(&mut *out, from, b);
     after(&*out, from, 2)
 }
 
@@ -127,7 +127,7 @@ pub fn refused(out: &mut [u8], at: usize, offset: u64, e: Error, taken: usize) -
     if out.len() < from {
         return from;
     }
-    let n = lines::put_refused(&mut out[from..], offset, e, taken);
+    let n = desk_lines::put_refused(&mut out[from..], offset, e, taken);
     after(&*out, from, n)
 }
 

@@ -2,14 +2,14 @@
 // unfinished. An unfinished frame moves to the front of the buffer, once at most; one that is longer than the buffer is passed over.
 use crate::line;
 use crate::output;
-use byte_puts::put_bytes;
+use desk_arguments::Style;
 use records::answer::Limit;
 use records::answer::Read;
 use records::error::Error;
 use records::packet_record::Packet;
 use records::span::Span;
 use wire::string;
-use words::Style;
+use write_bytes::put_bytes;
 ghost use mathlib.Core.Path.{_≡_};
 ghost use Prim.Native.Nat.{_+_, _≤_};
 ghost use lib.ListN.{length};
@@ -476,15 +476,15 @@ fn tell_over(out: &mut [u8], d: Desk) {
     if d.over == 0 {
         return;
     }
-    let a = lines::put_number(&mut *out, 0, b"desk: the frame at offset ", d.offset);
-    let b = lines::put_number(&mut *out, a as u16, b" has ", d.over as u64);
-    let c = lines::put_number(
+    let a = desk_lines::put_number(&mut *out, 0, b"desk: the frame at offset ", d.offset);
+    let b = desk_lines::put_number(&mut *out, a as u16, b" has ", d.over as u64);
+    let c = desk_lines::put_number(
         &mut *out,
         b as u16,
         b" bytes, and the limit is ",
         d.most as u64,
     );
-    let len = lines::put_word(&mut *out, c as u16, b": stopped there\n");
+    let len = desk_lines::put_word(&mut *out, c as u16, b": stopped there\n");
     output::tell(&*out, len);
 }
 
@@ -493,8 +493,8 @@ fn tell_skipped(out: &mut [u8], d: Desk) {
     if d.skipped == 0 {
         return;
     }
-    let a = lines::put_number(&mut *out, 0, b"desk: skipped=", d.skipped);
-    let len = lines::put_word(&mut *out, a as u16, b" longer than 1048576 bytes\n");
+    let a = desk_lines::put_number(&mut *out, 0, b"desk: skipped=", d.skipped);
+    let len = desk_lines::put_word(&mut *out, a as u16, b" longer than 1048576 bytes\n");
     output::tell(&*out, len);
 }
 

@@ -12,8 +12,8 @@ use lib.ListN.{length, getD}
 use Rattle.grammar.specs.Choice.{lookup}
 use Rattle.records.specs.Ascii.{codesOf}
 use Rattle.kinds.specs.Kinds.{words, wordOf}
-use Rattle.lines.specs.Line.{PutAt}
-use Rattle.lines.proofs.Laws.{put-none, then}
+use Rattle.desk_lines.specs.Line.{PutAt}
+use Rattle.desk_lines.proofs.Laws.{put-none, then}
 use Rattle.desk_summary.specs.Tally.{kindText, kindsTo, refusalText, refusalsTo}
 
 pub to-none : (t l : List ℕ) (at : ℕ) → PutAt l at (refusalsTo t 0) l at

@@ -7,7 +7,7 @@ use lib.ListN.{getD}
 use Rattle.records.specs.Ascii.{codesOf}
 use Rattle.kinds.specs.Kinds.{wordOf}
 use Rattle.desk_summary.specs.Count.{kindAt, allAt}
-use Rattle.render.specs.Shown.{decimalOf}
+use Rattle.desk_render.specs.Shown.{decimalOf}
 
 -- docs/DESK.md: "the frames of each kind": its word, and how many were read
 abbrev pub kindText : List ℕ → ℕ → List ℕ

@@ -1,13 +1,13 @@
 // What was read: a count for each refusal at its number, for each kind behind them, and for all refusals; and the line that tells them.
+use desk_lines::put_number;
+use desk_lines::put_word;
 use kinds::Kind;
 use kinds::number_of;
 use kinds::word_of;
-use lines::put_number;
-use lines::put_word;
 use records::error::Error;
 use records::packet_record::Packet;
 use records::span::Span;
-use refusals::number as refusal_number;
+use refusal_numbers::number as refusal_number;
 use wire::string;
 ghost use mathlib.Core.Path.{_≡_};
 ghost use mathlib.Core.List.{_++_};
@@ -15,8 +15,8 @@ ghost use Prim.Native.Nat.{_+_, _≤_};
 ghost use lib.ListN.{replicate, length, getD};
 ghost use Rattle.records.specs.Ascii.{codesOf};
 ghost use Rattle.kinds.specs.Kinds.{wordOf};
-ghost use Rattle.render.specs.Shown.{decimalOf};
-ghost use Rattle.lines.specs.Line.{PutAt};
+ghost use Rattle.desk_render.specs.Shown.{decimalOf};
+ghost use Rattle.desk_lines.specs.Line.{PutAt};
 ghost use Rattle.desk_summary.specs.Count.{kindAt, kindIn, numberIn, oneMore, kindMore, refusedMore};
 ghost use Rattle.desk_summary.specs.Tally.{kindText, kindsTo, allText, refusalText, refusalsTo, endText, summaryLine};
 

@@ -9,10 +9,10 @@ use lib.Dec.{leb}
 use lib.ListN.{length, getD, length-append}
 use lib.Seq.{sets, length-sets}
 use borrow.Author.Tests.{leb-true, leb-false, le-leb, lt-leb}
-use Rattle.byte_puts.proofs.Laws.{sets-append}
-use Rattle.render.specs.Shown.{shownOf, shownSize, Shows}
-use Rattle.render.specs.Shown as render
-use Rattle.render.proofs.Laws.{size-some, size-length, size-plain, form-plain}
+use Rattle.write_bytes.proofs.Laws.{sets-append}
+use Rattle.desk_render.specs.Shown.{shownOf, shownSize, Shows}
+use Rattle.desk_render.specs.Shown as render
+use Rattle.desk_render.proofs.Laws.{size-some, size-length, size-plain, form-plain}
 use Rattle.desk_text.specs.Text.{stands, pieceOf, pieces, fitting, joined, fitted, ShowsText}
 use Rattle.desk_text.specs.Step.{PiecePut}
 
@@ -29,7 +29,7 @@ shown-one : (b : ℕ) → render.shown (b ∷ []) ≡ shownOf b
 unfolding render.shown
 shown-one b = append-nil (shownOf b)
 
--- a byte as `render` shows it
+-- a byte as `desk_render` shows it
 pub put-byte : {o o′ : List ℕ} {at b taken put : ℕ} → Shows o at (b ∷ []) o′ taken put → PiecePut o at (shownOf b) o′ put
 unfolding render.fitting render.shown
 put-byte {o} {o′} {at} {b} {taken} {put} w =

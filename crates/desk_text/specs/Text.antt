@@ -1,4 +1,4 @@
--- Text between quotes: the characters of UTF-8 stand as they are, but for some, and every other byte as `render` shows it (docs/DESK.md). Assumes nothing.
+-- Text between quotes: the characters of UTF-8 stand as they are, but for some, and every other byte as `desk_render` shows it (docs/DESK.md). Assumes nothing.
 use mathlib.Core.Path.{_≡_}
 use mathlib.Core.Bool.{Bool, true, false, cond, _||_}
 use mathlib.Core.List.{List, [], _∷_, _++_}
@@ -7,7 +7,7 @@ use lib.Dec.{eqb, leb}
 use lib.ListN.{length, getD}
 use lib.Seq.{sets}
 use Rattle.grammar.specs.Text.{inRange}
-use Rattle.render.specs.Shown.{shownOf}
+use Rattle.desk_render.specs.Shown.{shownOf}
 
 -- the controls U+0080 to U+009F: C2 80 to C2 9F
 abbrev pub isControl : ℕ → ℕ → Bool

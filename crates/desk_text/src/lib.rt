@@ -1,7 +1,7 @@
 // Text between quotes, put into a lent output: the bytes of UTF-8 stand as they are, but for controls and what turns the direction of text,
-// and every other byte as `render` shows it. What would lie past the end of the output is not stored.
-use render::Shown;
-use render::put_shown;
+// and every other byte as `desk_render` shows it. What would lie past the end of the output is not stored.
+use desk_render::Shown;
+use desk_render::put_shown;
 ghost use mathlib.Core.Path.{_≡_};
 ghost use mathlib.Core.Bool.{true};
 ghost use mathlib.Core.List.{_∷_, []};
@@ -9,7 +9,7 @@ ghost use Prim.Native.Nat.{_+_, _-_, _≤_, _<_};
 ghost use lib.ListN.{length, getD};
 ghost use Rattle.grammar.specs.Text.{inRange};
 ghost use Rattle.desk_text.specs.Text.{isControl, isTurning, controlAt, turningAt, hidden, seen, stands, pieceOf, ShowsText};
-ghost use Rattle.render.specs.Shown.{shownOf};
+ghost use Rattle.desk_render.specs.Shown.{shownOf};
 ghost use Rattle.desk_text.specs.Step.{PiecePut};
 
 // The byte k behind index i; 0 past the end.

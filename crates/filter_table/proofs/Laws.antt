@@ -10,7 +10,7 @@ use lib.ListN.{length, take, drop, set, length-append, length-map}
 use lib.Seq.{sets, sets-eq, length-take-le}
 use borrow.Author.Tests.{leb-false, le-leb, lt-leb}
 use Rattle.grammar.specs.Record.{Filter, mkFilter, publish, ack, subscribe, reply, unsubscribe, ping}
-use Rattle.grammar.specs.Tables.{subscribePlace}
+use Rattle.grammar.specs.Tables.{subscribeRow}
 use Rattle.grammar.specs.Sentence.{Packet, someOf}
 use Rattle.reading.specs.Refusal.{Refusal, nr, Answer, accepted, refused, refusedAs}
 use Rattle.reading.specs.Reader.{Fit, got, bad, Filler, Reader, _>>=_, _>>_, guard, manyFit, onlyFit}
@@ -280,7 +280,7 @@ module _ (s : List ℕ) where
   read-run (subscribe m) n p e j =
       let (w, k, _) = placed-accepted none s (subscribe m) n e in
       subst (λ (x : Span). (fs : List (Filter Span)) × (again (filtersFit asPlaces) s x ≡ got fs)) (got-inj j)
-      (from-bind {C = λ (_ : Packet). (fs : List (Filter Span)) × (again (filtersFit asPlaces) s (m .filters) ≡ got fs)} (ifSome (sayProps s subscribePlace) (m .props)) _
+      (from-bind {C = λ (_ : Packet). (fs : List (Filter Span)) × (again (filtersFit asPlaces) s (m .filters) ≡ got fs)} (ifSome (sayProps s subscribeRow) (m .props)) _
       (λ qs _. from-bind {C = λ (_ : Packet). (fs : List (Filter Span)) × (again (filtersFit asPlaces) s (m .filters) ≡ got fs)} (again (filtersFit asBytes) s (m .filters)) _
       (λ fs f w′ _. like-there (again (filtersFit asPlaces) s (m .filters)) (again (filtersFit asBytes) s (m .filters)) fs (again-like s (filters-says s) (m .filters)) f)) w k)
   read-run (publish m) n p e j = absurd (bad-got j)

@@ -12,7 +12,7 @@ use borrow.Author.Tests.{leb-false}
 use Rattle.grammar.specs.Choice.{isIn}
 use Rattle.grammar.specs.Record.{Filter, Publish, Ack, Subscribe, Reply, Unsubscribe, PacketOf, publish, ack, subscribe, reply, unsubscribe, ping}
 use Rattle.grammar.specs.Sentence.{Packet}
-use Rattle.grammar.specs.Tables.{subscribePlace, ackPlace, unsubscribePlace, reasonsOf}
+use Rattle.grammar.specs.Tables.{subscribeRow, ackRow, unsubscribeRow, reasonsOf}
 use Rattle.reading.specs.Refusal.{Refusal, nr, Answer, accepted, refused}
 use Rattle.reading.specs.Reader.{Fit, got, bad}
 use Rattle.reading.specs.Read.{asBytes, filtersFit, reasonsFit, topicsFit}
@@ -80,7 +80,7 @@ module _ (s : List ℕ) where
   says-filters : (m : Subscribe Span (λ A. Span)) (fs : List (Filter Span)) → again (filtersFit asPlaces) s (m .filters) ≡ got fs → (w : Packet) → say s (subscribe m) ≡ got w
       → (u : Subscribe (List ℕ) List) × (w ≡ subscribe u) × (length (u .filters) ≡ length fs)
   says-filters m fs f =
-      from-bind {C = λ (w : Packet). (u : Subscribe (List ℕ) List) × (w ≡ subscribe u) × (length (u .filters) ≡ length fs)} (ifSome (sayProps s subscribePlace) (m .props)) _
+      from-bind {C = λ (w : Packet). (u : Subscribe (List ℕ) List) × (w ≡ subscribe u) × (length (u .filters) ≡ length fs)} (ifSome (sayProps s subscribeRow) (m .props)) _
       λ qs _. from-bind {C = λ (w : Packet). (u : Subscribe (List ℕ) List) × (w ≡ subscribe u) × (length (u .filters) ≡ length fs)} (again (filtersFit asBytes) s (m .filters)) _
       λ gs g w e. (record { ident = m .ident; props = qs; filters = gs }, sym (got-inj e), like-count (again (filtersFit asPlaces) s (m .filters)) (again (filtersFit asBytes) s (m .filters)) (again-like s (filters-says s) (m .filters)) f g)
 
@@ -88,9 +88,9 @@ module _ (s : List ℕ) where
   says-other : (v : Placed) (t : ℕ) → runOf (accepted v t) ≡ bad notSubscribe → (w : Packet) → say s v ≡ got w → Else w
   says-other (subscribe m) t j = absurd (bad-got (sym j))
   says-other (publish m) t j = from-bind {C = Else} (ifSome (sayPublishProps s) (m .props)) _ λ qs _ w e u i. no-publish (got-inj e ∙ i)
-  says-other (ack k m) t j = from-bind {C = Else} (ifSome (sayProps s ackPlace) (m .props)) _ λ qs _ w e u i. no-ack (got-inj e ∙ i)
-  says-other (reply k m) t j = from-bind {C = Else} (ifSome (sayProps s ackPlace) (m .props)) _ λ qs _. from-bind {C = Else} (again (reasonsFit (reasonsOf k)) s (m .reasons)) _ λ rs _ w e u i. no-reply (got-inj e ∙ i)
-  says-other (unsubscribe m) t j = from-bind {C = Else} (ifSome (sayProps s unsubscribePlace) (m .props)) _ λ qs _. from-bind {C = Else} (again (topicsFit asBytes) s (m .topics)) _ λ rs _ w e u i. no-unsubscribe (got-inj e ∙ i)
+  says-other (ack k m) t j = from-bind {C = Else} (ifSome (sayProps s ackRow) (m .props)) _ λ qs _ w e u i. no-ack (got-inj e ∙ i)
+  says-other (reply k m) t j = from-bind {C = Else} (ifSome (sayProps s ackRow) (m .props)) _ λ qs _. from-bind {C = Else} (again (reasonsFit (reasonsOf k)) s (m .reasons)) _ λ rs _ w e u i. no-reply (got-inj e ∙ i)
+  says-other (unsubscribe m) t j = from-bind {C = Else} (ifSome (sayProps s unsubscribeRow) (m .props)) _ λ qs _. from-bind {C = Else} (again (topicsFit asBytes) s (m .topics)) _ λ rs _ w e u i. no-unsubscribe (got-inj e ∙ i)
   says-other (ping k) t j = λ w e u i. no-ping (got-inj e ∙ i)
 
   -- ---- the row that holds

@@ -1,10 +1,10 @@
 // A Subscribe's filters in a table that the caller lends. The borrow checker covers no function over a slice of structs, so `put_entries`
 // and `fill_filters` are proved by hand; `entry_at` and `plan_of` do the work.
-use codes::qos_number;
-use codes::rule_number;
 use filters::GotFilter;
 use filters::read_filter;
 use packet;
+use qos_numbers::qos_number;
+use qos_numbers::rule_number;
 use records::answer::Limit;
 use records::answer::Read;
 use records::error::Error;

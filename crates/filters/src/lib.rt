@@ -1,7 +1,7 @@
 // One filter, after `Filter::read` of subscribe.rs. The end of the slice is the end of its room.
-use codes::retain_forward_rule;
 use numbers::fixed;
 use numbers::got::GotU8;
+use qos_numbers::retain_forward_rule;
 use records::error::Error;
 use records::span::Span;
 use records::subscribe_record::Filter;

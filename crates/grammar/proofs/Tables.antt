@@ -5,7 +5,7 @@ use mathlib.Core.Option.{Option, none, some}
 use mathlib.Core.List.{List, [], _∷_}
 use Prim.Native.Nat.{ℕ, zero, suc}
 use Rattle.grammar.specs.Choice.{isIn, lookup}
-use Rattle.grammar.specs.Tables.{u8, u16, u32, number, text, bytes, pair, isList, publishPlace, subscribePlace, ackPlace, unsubscribePlace, reasons, releaseReasons, subAckReasons, unsubAckReasons, Layout, aPublish, anAck, aSubscribe, aReply, anUnsubscribe, aPing, kinds, reserved, isPing, formAt, placeAt, firsts, firstOf}
+use Rattle.grammar.specs.Tables.{u8, u16, u32, number, text, bytes, pair, isList, publishRow, subscribeRow, ackRow, unsubscribeRow, reasons, releaseReasons, subAckReasons, unsubAckReasons, Layout, aPublish, anAck, aSubscribe, aReply, anUnsubscribe, aPing, kinds, reserved, isPing, formAt, rowOfKind, firsts, firstOf}
 
 -- k numbers from n on
 abbrev pub count : ℕ → ℕ → List ℕ
@@ -37,38 +37,38 @@ abbrev isNone : Option Layout → Bool
 isNone none = true
 isNone (some l) = false
 
--- 01, table of properties: of all 256 identifiers, at each place
-publish-row : known (formAt publishPlace) (count 256 0) ≡ (1, u8) ∷ (2, u32) ∷ (3, text) ∷ (8, text) ∷ (9, bytes) ∷ (11, number) ∷ (35, u16) ∷ (38, pair) ∷ []
-unfolding publishPlace
+-- 01, table of properties: of all 256 identifiers, in each row
+publish-row : known (formAt publishRow) (count 256 0) ≡ (1, u8) ∷ (2, u32) ∷ (3, text) ∷ (8, text) ∷ (9, bytes) ∷ (11, number) ∷ (35, u16) ∷ (38, pair) ∷ []
+unfolding publishRow
 publish-row = refl
 
-subscribe-row : known (formAt subscribePlace) (count 256 0) ≡ (11, number) ∷ (38, pair) ∷ []
-unfolding subscribePlace
+subscribe-row : known (formAt subscribeRow) (count 256 0) ≡ (11, number) ∷ (38, pair) ∷ []
+unfolding subscribeRow
 subscribe-row = refl
 
-ack-row : known (formAt ackPlace) (count 256 0) ≡ (31, text) ∷ (38, pair) ∷ []
-unfolding ackPlace
+ack-row : known (formAt ackRow) (count 256 0) ≡ (31, text) ∷ (38, pair) ∷ []
+unfolding ackRow
 ack-row = refl
 
-unsubscribe-row : known (formAt unsubscribePlace) (count 256 0) ≡ (38, pair) ∷ []
-unfolding unsubscribePlace
+unsubscribe-row : known (formAt unsubscribeRow) (count 256 0) ≡ (38, pair) ∷ []
+unfolding unsubscribeRow
 unsubscribe-row = refl
 
--- 01, grammar: "38, and 11 in Publish, are lists": of all 256 identifiers, at each place
-publish-lists : chosen (isList publishPlace) (count 256 0) ≡ 11 ∷ 38 ∷ []
-unfolding publishPlace
+-- 01, grammar: "38, and 11 in Publish, are lists": of all 256 identifiers, in each row
+publish-lists : chosen (isList publishRow) (count 256 0) ≡ 11 ∷ 38 ∷ []
+unfolding publishRow
 publish-lists = refl
 
-subscribe-lists : chosen (isList subscribePlace) (count 256 0) ≡ 38 ∷ []
-unfolding subscribePlace
+subscribe-lists : chosen (isList subscribeRow) (count 256 0) ≡ 38 ∷ []
+unfolding subscribeRow
 subscribe-lists = refl
 
-ack-lists : chosen (isList ackPlace) (count 256 0) ≡ 38 ∷ []
-unfolding ackPlace
+ack-lists : chosen (isList ackRow) (count 256 0) ≡ 38 ∷ []
+unfolding ackRow
 ack-lists = refl
 
-unsubscribe-lists : chosen (isList unsubscribePlace) (count 256 0) ≡ 38 ∷ []
-unfolding unsubscribePlace
+unsubscribe-lists : chosen (isList unsubscribeRow) (count 256 0) ≡ 38 ∷ []
+unfolding unsubscribeRow
 unsubscribe-lists = refl
 
 -- 01, PubAck: of all 256 bytes, the nine reasons
@@ -110,10 +110,10 @@ unfolding kinds
 two-pings = refl
 
 -- 01, table of properties; 02, P1: of all 16 kinds, those that have a block, and its place
-nine-blocks : known placeAt (count 16 0)
-    ≡ (3, publishPlace) ∷ (4, ackPlace) ∷ (5, ackPlace) ∷ (6, ackPlace) ∷ (7, ackPlace) ∷ (8, subscribePlace) ∷ (9, ackPlace) ∷ (10, unsubscribePlace)
-    ∷ (11, ackPlace) ∷ []
-unfolding placeAt kinds
+nine-blocks : known rowOfKind (count 16 0)
+    ≡ (3, publishRow) ∷ (4, ackRow) ∷ (5, ackRow) ∷ (6, ackRow) ∷ (7, ackRow) ∷ (8, subscribeRow) ∷ (9, ackRow) ∷ (10, unsubscribeRow)
+    ∷ (11, ackRow) ∷ []
+unfolding rowOfKind kinds
 nine-blocks = refl
 
 -- 01, grammar, and 02, P1: the first bytes of all 16 kinds; 0 where the table has none

@@ -62,7 +62,7 @@ publishProps S L keep ps = record {
 }
 
 -- 01, table of properties, rows Subscribe and PubAck; 02, P1, row Unsubscribe: one record for the blocks of all three. What is not in the
--- row of a place does not stand in its block, so its field is none there
+-- row does not stand in its block, so its field is none there
 pub record Props (S : Type 0) (L : Type 0 → Type 0) : Type 0 where
   pub reason : Option (Val S)
   pub ident : Option (Val S)

@@ -10,7 +10,7 @@ use Rattle.grammar.specs.Choice.{isIn, lookup, isEmpty}
 use Rattle.grammar.specs.Number.{Byte, Big, Spells}
 use Rattle.grammar.specs.Text.{Utf8}
 use Rattle.grammar.specs.Gram.{Gram, Nothing, Map, Only, Then, Sized, Many, allFrom, Is}
-use Rattle.grammar.specs.Tables.{Form, u8, u16, u32, number, text, bytes, pair, Place, isList, publishPlace, subscribePlace, ackPlace, unsubscribePlace, Layout, aPublish, anAck, aSubscribe, aReply, anUnsubscribe, aPing, kinds, formAt}
+use Rattle.grammar.specs.Tables.{Form, u8, u16, u32, number, text, bytes, pair, Row, isList, publishRow, subscribeRow, ackRow, unsubscribeRow, Layout, aPublish, anAck, aSubscribe, aReply, anUnsubscribe, aPing, kinds, formAt}
 use Rattle.grammar.specs.Record.{Val, num, str, duo, PropOf, unlessEmpty, PublishProps, publishProps, Props, propsOf, Filter, PacketOf, kindOf, flagQos, optionQos, optionRule, mkPublish, mkAck, mkFilter, mkSubscribe, mkReply, mkUnsubscribe, mkPing}
 
 -- ---- strings
@@ -55,29 +55,29 @@ Spelt text = Map str Text
 Spelt bytes = Map str Bytes
 Spelt pair = Map duoOf (Then Text (λ _. Text))
 
--- 01, grammar: "A property is an identifier byte and a value", of the form that the place's row gives it
-pub data Property (place : Place) : Prop → List ℕ → Type 0 where
-  property : {i : ℕ} {f : Form} {v : Value} {b : List ℕ} → formAt place i ≡ some f → Spelt f v b → Property place (i, v) (i ∷ b)
+-- 01, grammar: "A property is an identifier byte and a value", of the form that the row gives it
+pub data Property (row : Row) : Prop → List ℕ → Type 0 where
+  property : {i : ℕ} {f : Form} {v : Value} {b : List ℕ} → formAt row i ≡ some f → Spelt f v b → Property row (i, v) (i ∷ b)
 
 -- 02, P9: the identifiers that were met and are single-valued, so that they may not come again
-abbrev pub met : {S : Type 0} → Place → List ℕ → PropOf S → List ℕ
-met place σ p = cond (isList place (p .0)) σ (p .0 ∷ σ)
+abbrev pub met : {S : Type 0} → Row → List ℕ → PropOf S → List ℕ
+met row σ p = cond (isList row (p .0)) σ (p .0 ∷ σ)
 
 -- 02, P9: not "a single-valued property met a second time"
 abbrev pub fresh : {S : Type 0} → List ℕ → PropOf S → Bool
 fresh σ p = not (isIn (p .0) σ)
 
 -- 02, P9: "No doubled properties"
-abbrev pub noneTwice : {S : Type 0} → Place → List (PropOf S) → Bool
-noneTwice place = allFrom (met place) fresh []
+abbrev pub noneTwice : {S : Type 0} → Row → List (PropOf S) → Bool
+noneTwice row = allFrom (met row) fresh []
 
 -- what fills a block of the place: properties, none of them doubled
-abbrev pub Properties : Place → List Prop → List ℕ → Type 0
-Properties place = Only (noneTwice place) (Many (Property place))
+abbrev pub Properties : Row → List Prop → List ℕ → Type 0
+Properties row = Only (noneTwice row) (Many (Property row))
 
 -- 01, grammar: "a variable length number L and L bytes, filled exactly by properties"; f says what they come to
-abbrev pub Block : {A : Type 0} → Place → (List Prop → A) → A → List ℕ → Type 0
-Block place f = Sized Spells (Map f (Properties place))
+abbrev pub Block : {A : Type 0} → Row → (List Prop → A) → A → List ℕ → Type 0
+Block row f = Sized Spells (Map f (Properties row))
 
 -- in the language a list is the list
 abbrev pub asList : {A : Type 0} → List A → List A
@@ -130,7 +130,7 @@ someOf fs = not (isEmpty fs)
 pub data AckRest (rs : List ℕ) : ℕ × Option (Props (List ℕ) List) → List ℕ → Type 0 where
   plain : AckRest rs (0, none) []
   coded : {c : ℕ} → isIn c rs ≡ true → AckRest rs (c, none) (c ∷ [])
-  full : {c : ℕ} {ps : Option (Props (List ℕ) List)} {b : List ℕ} → isIn c rs ≡ true → Block ackPlace propsIf ps b → AckRest rs (c, ps) (c ∷ b)
+  full : {c : ℕ} {ps : Option (Props (List ℕ) List)} {b : List ℕ} → isIn c rs ≡ true → Block ackRow propsIf ps b → AckRest rs (c, ps) (c ∷ b)
 
 -- ---- replies, by the reasons rs that they may give
 
@@ -147,11 +147,11 @@ Packet = PacketOf (List ℕ) List
 -- 01, grammar: what fills a frame of each layout whose first byte is x
 abbrev pub Fields : Layout → ℕ → Packet → List ℕ → Type 0
 Fields aPublish x =
-    Only (publishGood x) (Map (mkPublish x) (Then Bytes (λ _. Then (Ident (flagQos x)) (λ _. Then (Block publishPlace publishOf) (λ _. Is Any)))))
+    Only (publishGood x) (Map (mkPublish x) (Then Bytes (λ _. Then (Ident (flagQos x)) (λ _. Then (Block publishRow publishOf) (λ _. Is Any)))))
 Fields (anAck rs) x = Map (mkAck x) (Then (Big 2) (λ _. AckRest rs))
-Fields aSubscribe x = Map mkSubscribe (Then (Big 2) (λ _. Then (Block subscribePlace propsIf) (λ _. Only someOf (Many FilterOf))))
-Fields (aReply rs) x = Map (mkReply x) (Then (Big 2) (λ _. Then (Block ackPlace propsIf) (λ _. Only someOf (Many (ReasonOf rs)))))
-Fields anUnsubscribe x = Map mkUnsubscribe (Then (Big 2) (λ _. Then (Block unsubscribePlace propsIf) (λ _. Only someOf (Many Text))))
+Fields aSubscribe x = Map mkSubscribe (Then (Big 2) (λ _. Then (Block subscribeRow propsIf) (λ _. Only someOf (Many FilterOf))))
+Fields (aReply rs) x = Map (mkReply x) (Then (Big 2) (λ _. Then (Block ackRow propsIf) (λ _. Only someOf (Many (ReasonOf rs)))))
+Fields anUnsubscribe x = Map mkUnsubscribe (Then (Big 2) (λ _. Then (Block unsubscribeRow propsIf) (λ _. Only someOf (Many Text))))
 Fields aPing x = Map (mkPing x) (Is Any)
 
 -- 01, grammar: "kind in the high four bits": one that is carried, and its fields

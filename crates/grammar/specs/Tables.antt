@@ -1,4 +1,4 @@
--- The tables of 01: which properties stand at which place, which reasons an acknowledgement may give, which kinds are carried. They stand
+-- The tables of 01: which properties stand in which row, which reasons an acknowledgement may give, which kinds are carried. They stand
 -- once: the grammar, the reader and the writer look them up here. Assumes nothing.
 use mathlib.Core.Bool.{Bool, true, false}
 use mathlib.Core.Option.{Option, none, some}
@@ -14,34 +14,34 @@ pub data Form : Type 0 where
 abbrev pub Forms : Type 0
 Forms = List (ℕ × Form)
 
--- 01, table of properties: a place's row; 01, grammar: "38, and 11 in Publish, are lists": those of its identifiers that are
-pub record Place : Type 0 where
-  pub row : Forms
+-- 01, table of properties: a row; 01, grammar: "38, and 11 in Publish, are lists": those of its identifiers that are
+pub record Row : Type 0 where
+  pub forms : Forms
   pub lists : List ℕ
 
 -- 01, table of properties, row Publish
-unfoldable pub publishPlace : Place
-publishPlace = record { row = (1, u8) ∷ (2, u32) ∷ (35, u16) ∷ (8, text) ∷ (9, bytes) ∷ (38, pair) ∷ (11, number) ∷ (3, text) ∷ []; lists = 38 ∷ 11 ∷ [] }
+unfoldable pub publishRow : Row
+publishRow = record { forms = (1, u8) ∷ (2, u32) ∷ (35, u16) ∷ (8, text) ∷ (9, bytes) ∷ (38, pair) ∷ (11, number) ∷ (3, text) ∷ []; lists = 38 ∷ 11 ∷ [] }
 
 -- 01, table of properties, row Subscribe
-unfoldable pub subscribePlace : Place
-subscribePlace = record { row = (11, number) ∷ (38, pair) ∷ []; lists = 38 ∷ [] }
+unfoldable pub subscribeRow : Row
+subscribeRow = record { forms = (11, number) ∷ (38, pair) ∷ []; lists = 38 ∷ [] }
 
 -- 01, table of properties, row PubAck
-unfoldable pub ackPlace : Place
-ackPlace = record { row = (31, text) ∷ (38, pair) ∷ []; lists = 38 ∷ [] }
+unfoldable pub ackRow : Row
+ackRow = record { forms = (31, text) ∷ (38, pair) ∷ []; lists = 38 ∷ [] }
 
 -- 02, P1, and MQTT 3.10.2.1: row Unsubscribe
-unfoldable pub unsubscribePlace : Place
-unsubscribePlace = record { row = (38, pair) ∷ []; lists = 38 ∷ [] }
+unfoldable pub unsubscribeRow : Row
+unsubscribeRow = record { forms = (38, pair) ∷ []; lists = 38 ∷ [] }
 
 -- 01, grammar: ".. are lists kept in order"; any other is single-valued
-abbrev pub isList : Place → ℕ → Bool
-isList place i = isIn i (place .lists)
+abbrev pub isList : Row → ℕ → Bool
+isList row i = isIn i (row .lists)
 
 -- 01, row 10: "identifier not in its place's row", else its form
-abbrev pub formAt : Place → ℕ → Option Form
-formAt place = lookup (place .row)
+abbrev pub formAt : Row → ℕ → Option Form
+formAt row = lookup (row .forms)
 
 -- 01, grammar, PubAck: "Reasons, in the order of `PubAckReason`"; MQTT 3.5.2.1: PubRec gives the same
 unfoldable pub reasons : List ℕ
@@ -104,18 +104,18 @@ unfoldable pub reasonsOf : ℕ → List ℕ
 reasonsOf k = listed (lookup kinds k)
 
 -- 01, table of properties; 02, P1: the place whose row the block of a layout has; a ping has no block
-abbrev pub placeFor : Option Layout → Option Place
-placeFor none = none
-placeFor (some aPublish) = some publishPlace
-placeFor (some (anAck rs)) = some ackPlace
-placeFor (some aSubscribe) = some subscribePlace
-placeFor (some (aReply rs)) = some ackPlace
-placeFor (some anUnsubscribe) = some unsubscribePlace
-placeFor (some aPing) = none
+abbrev pub rowOfLayout : Option Layout → Option Row
+rowOfLayout none = none
+rowOfLayout (some aPublish) = some publishRow
+rowOfLayout (some (anAck rs)) = some ackRow
+rowOfLayout (some aSubscribe) = some subscribeRow
+rowOfLayout (some (aReply rs)) = some ackRow
+rowOfLayout (some anUnsubscribe) = some unsubscribeRow
+rowOfLayout (some aPing) = none
 
 -- the same of a kind
-unfoldable pub placeAt : ℕ → Option Place
-placeAt k = placeFor (lookup kinds k)
+unfoldable pub rowOfKind : ℕ → Option Row
+rowOfKind k = rowOfLayout (lookup kinds k)
 
 -- 01, grammar: "first byte 0x82 for Subscribe, 0x40 for PubAck, `C0 00` and `D0 00` for pings"; 02, P1, and MQTT 3.5 to 3.7, 3.9 to 3.11: PubRec 50,
 -- PubRel 62, PubComp 70, SubAck 90, Unsubscribe A2, UnsubAck B0

@@ -13,7 +13,7 @@ use denote.Enum.Declared.{tagOf}
 use mir.Val.{hasKey}
 use types.Run.{OneOf, miss}
 use Rattle.grammar.specs.Choice.{isIn}
-use Rattle.grammar.specs.Tables.{Form, u8, u16, u32, number, text, bytes, pair, Place, publishPlace, subscribePlace, ackPlace, unsubscribePlace, isList, formAt}
+use Rattle.grammar.specs.Tables.{Form, u8, u16, u32, number, text, bytes, pair, Row, publishRow, subscribeRow, ackRow, unsubscribeRow, isList, formAt}
 use Rattle.grammar.specs.Record.{PropOf, allOf}
 use Rattle.grammar.specs.Sentence.{met}
 use Rattle.reading.specs.Refusal.{Refusal, nr}
@@ -26,9 +26,9 @@ use Rattle.positions.proofs.Less.{once-less, once-fresh, once-twice}
 use Rattle.positions.proofs.Position.{bad-left}
 use Rattle.records.specs.AsNumbers.{toldError}
 use Rattle.records.specs.declared.error.Error.{Error}
-use Rattle.tables.specs.Property.{placeOf}
-use Rattle.tables.specs.declared.property.PropertyPlace.{PropertyPlace}
-use Rattle.tables.specs.declared.property.PropertyPlace.the-variants.{Publish, Subscribe, Ack, Unsubscribe}
+use Rattle.tables.specs.Property.{tableRow}
+use Rattle.tables.specs.declared.property.PropertyRow.{PropertyRow}
+use Rattle.tables.specs.declared.property.PropertyRow.the-variants.{Publish, Subscribe, Ack, Unsubscribe}
 use Rattle.property_value.specs.OneProperty.{toldValue, formOf, PropertyRead}
 use Rattle.property_value.proofs.Laws.{value-tag, property-left, property-ahead}
 use Rattle.property_value.specs.declared.Value.{Value}
@@ -67,7 +67,7 @@ none-met (suc n) zero = refl
 none-met (suc n) (suc k) = none-met n k
 
 -- of σ it is kept in m which were met; k, which was not, is met now, if it is single-valued (02, P9)
-met-now : (row : Place) (k : ℕ) (σ : List ℕ) (m : List Bool) → k < length m → ((j : ℕ) → isIn j σ ≡ getD m j false) → getD m k false ≡ false
+met-now : (row : Row) (k : ℕ) (σ : List ℕ) (m : List Bool) → k < length m → ((j : ℕ) → isIn j σ ≡ getD m j false) → getD m k false ≡ false
     → (j : ℕ) → isIn j (cond (isList row k) σ (k ∷ σ)) ≡ getD (set m k (not (isList row k))) j false
 met-now row k σ m h t n j = go (isList row k) (eqb j k) refl
   where
@@ -78,29 +78,29 @@ met-now row k σ m h t n j = go (isList row k) (eqb j k) refl
     go false false e = rw e (t j ∙ sym (getD-set-other m k j true false (eqb-false j k e)))
 
 -- 02, P9: "Which are single-valued goes by the place"
-pub single-user : (w : PropertyPlace) (k : ℕ) → k ≡ 38 → false ≡ not (isList (placeOf w) k)
-unfolding publishPlace subscribePlace ackPlace unsubscribePlace
+pub single-user : (w : PropertyRow) (k : ℕ) → k ≡ 38 → false ≡ not (isList (tableRow w) k)
+unfolding publishRow subscribeRow ackRow unsubscribeRow
 single-user Publish k e = rw e
 single-user Subscribe k e = rw e
 single-user Ack k e = rw e
 single-user Unsubscribe k e = rw e
 
 -- 11 is a list in Publish alone
-abbrev pub identSingle : PropertyPlace → Bool
+abbrev pub identSingle : PropertyRow → Bool
 identSingle Publish = false
 identSingle Subscribe = true
 identSingle Ack = true
 identSingle Unsubscribe = true
 
-pub single-ident : (w : PropertyPlace) (k : ℕ) → k ≡ 11 → identSingle w ≡ not (isList (placeOf w) k)
-unfolding publishPlace subscribePlace ackPlace unsubscribePlace
+pub single-ident : (w : PropertyRow) (k : ℕ) → k ≡ 11 → identSingle w ≡ not (isList (tableRow w) k)
+unfolding publishRow subscribeRow ackRow unsubscribeRow
 single-ident Publish k e = rw e
 single-ident Subscribe k e = rw e
 single-ident Ack k e = rw e
 single-ident Unsubscribe k e = rw e
 
-pub single-other : (w : PropertyPlace) (k : ℕ) → (k ≡ 38 → ⊥) → (k ≡ 11 → ⊥) → true ≡ not (isList (placeOf w) k)
-unfolding publishPlace subscribePlace ackPlace unsubscribePlace
+pub single-other : (w : PropertyRow) (k : ℕ) → (k ≡ 38 → ⊥) → (k ≡ 11 → ⊥) → true ≡ not (isList (tableRow w) k)
+unfolding publishRow subscribeRow ackRow unsubscribeRow
 single-other Publish k a b = rw (ne-eqb k 38 a, ne-eqb k 11 b)
 single-other Subscribe k a b = rw (ne-eqb k 38 a)
 single-other Ack k a b = rw (ne-eqb k 38 a)
@@ -108,7 +108,7 @@ single-other Unsubscribe k a b = rw (ne-eqb k 38 a)
 
 -- ---- the properties of a block, one after the other
 
-module _ (row : Place) (i : ℕ) (s : List ℕ) where
+module _ (row : Row) (i : ℕ) (s : List ℕ) where
   -- the readings of a block are a chain of these, where σ were met
   abbrev reads : List ℕ → Reader (PropOf Span)
   reads σ = onceOf asPlaces row (length s) σ
@@ -179,7 +179,7 @@ module _ (row : Place) (i : ℕ) (s : List ℕ) where
 
 -- ---- the block at a place
 
-module _ (row : Place) (i : ℕ) (s : List ℕ) (p : Span) (n : ℕ) where
+module _ (row : Row) (i : ℕ) (s : List ℕ) (p : Span) (n : ℕ) where
   pub nth-outside : length s < p .start + p .len → NthRead row i s p n (Left n)
   unfolding valuesAt again
   nth-outside h = record { says = rw (lt-leb (p .start + p .len) (length s) h); formed = tt }
@@ -222,8 +222,8 @@ not-other f ks t v e o =
     miss ks (tag f) t (rw (tag-form v ∙ ap tag (sym h)) at o)
 
 -- 01, table of properties: 38 is a text pair in every row
-pub user-form : (w : PropertyPlace) → some pair ≡ formAt (placeOf w) 38
-unfolding publishPlace subscribePlace ackPlace unsubscribePlace
+pub user-form : (w : PropertyRow) → some pair ≡ formAt (tableRow w) 38
+unfolding publishRow subscribeRow ackRow unsubscribeRow
 user-form Publish = refl
 user-form Subscribe = refl
 user-form Ack = refl

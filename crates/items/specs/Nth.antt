@@ -38,23 +38,23 @@ pub record SeekOn (q : Seek) (i k : ℕ) (v : Value) (r : Seek) : Type 0 where
 
 -- 01, row 21: what the search q comes to in the properties that fill the bytes b, which end at index `end`; or that none do. Of σ, and of those
 -- single-valued among them, none comes again (02, P9)
-unfoldable pub soughtIn : tables.Place → ℕ → ℕ → Seek → List ℕ → List ℕ → Fit (Val place.Span)
+unfoldable pub soughtIn : tables.Row → ℕ → ℕ → Seek → List ℕ → List ℕ → Fit (Val place.Span)
 soughtIn row i end q σ b = do
   ps ← orNoItem (chainFit (met row) (onceOf asPlaces row end) σ b)
   sought q (allOf i ps)
 
 -- the n-th value of property i in the block that fills s from `start` on
-pub record SeekIn (row : tables.Place) (i : ℕ) (s : List ℕ) (start n : ℕ) (r : Seek) : Type 0 where
+pub record SeekIn (row : tables.Row) (i : ℕ) (s : List ℕ) (start n : ℕ) (r : Seek) : Type 0 where
   pub says : sought r [] ≡ soughtIn row i (length s) (Left n) [] (drop start s)
   pub formed : Formed (tables.formAt row i) r
 
 -- the n-th value of property i in the block at a place of s
-pub record NthRead (row : tables.Place) (i : ℕ) (s : List ℕ) (p : place.Span) (n : ℕ) (r : Seek) : Type 0 where
+pub record NthRead (row : tables.Row) (i : ℕ) (s : List ℕ) (p : place.Span) (n : ℕ) (r : Seek) : Type 0 where
   pub says : sought r [] ≡ (valuesAt asPlaces s p row i >>= nthOf n)
   pub formed : Formed (tables.formAt row i) r
 
--- the contract of `user_property`: r is the n-th user property of the block at p in s, of a place's row, or 21
-abbrev pub NthUser : tables.Place → List ℕ → Span → ℕ → UserItem → Type 0
+-- the contract of `user_property`: r is the n-th user property of the block at p in s, of a row, or 21
+abbrev pub NthUser : tables.Row → List ℕ → Span → ℕ → UserItem → Type 0
 NthUser row s p n r = toldUser r ≡ userAt asPlaces s (toldSpan p) row n
 
 -- the contract of `subscription_identifier`: the same of the identifiers of a Publish block

@@ -5,13 +5,13 @@ use property_value::Value;
 use records::answer::IdentifierItem;
 use records::answer::UserItem;
 use records::span::Span;
-use tables::property::PropertyPlace;
+use tables::property::PropertyRow;
 use wire::string;
 ghost use mathlib.Core.Path.{_≡_};
 ghost use mathlib.Core.Bool.{not};
 ghost use Rattle.grammar.specs.Tables.{isList};
 ghost use Rattle.records.specs.AsNumbers.{toldSpan};
-ghost use Rattle.tables.specs.Property.{placeOf};
+ghost use Rattle.tables.specs.Property.{tableRow};
 ghost use Rattle.items.specs.Nth.{SeekOn, SeekIn, NthRead, NthUser, NthIdentifier};
 
 // The search for a value: how many are to be passed before it, or the value.
@@ -39,18 +39,18 @@ fn seek_on(seek: Seek, id: u8, k: u8, v: Value) -> Seek
 }
 
 // Whether property k is single-valued at a place (02, P9).
-fn is_single(place: PropertyPlace, k: u8) -> bool
-    ensures { λ r. ⌜ r ≡ not (isList (placeOf place) k) ⌝ }
+fn is_single(row: PropertyRow, k: u8) -> bool
+    ensures { λ r. ⌜ r ≡ not (isList (tableRow row) k) ⌝ }
 {
     if k == 38 {
         return false;
     }
     if k == 11 {
-        return match place {
-            PropertyPlace::Publish => false,
-            PropertyPlace::Subscribe => true,
-            PropertyPlace::Ack => true,
-            PropertyPlace::Unsubscribe => true,
+        return match row {
+            PropertyRow::Publish => false,
+            PropertyRow::Subscribe => true,
+            PropertyRow::Ack => true,
+            PropertyRow::Unsubscribe => true,
         };
     }
     true
@@ -58,8 +58,8 @@ fn is_single(place: PropertyPlace, k: u8) -> bool
 
 // The n-th value of property id among the properties that fill s from start on, none of them doubled. What was met is kept by the identifier,
 // so that one pass sees the item, a fault behind it, and a property that comes again.
-fn seek_in(place: PropertyPlace, id: u8, s: &[u8], start: usize, n: usize) -> Seek
-    ensures { λ r. ⌜ SeekIn (placeOf place) id (now (s .entry)) start n r ⌝ }
+fn seek_in(row: PropertyRow, id: u8, s: &[u8], start: usize, n: usize) -> Seek
+    ensures { λ r. ⌜ SeekIn (tableRow row) id (now (s .entry)) start n r ⌝ }
 {
     let mut seek = Seek::Left(n);
     let mut met = [false; 256];
@@ -69,12 +69,12 @@ fn seek_in(place: PropertyPlace, id: u8, s: &[u8], start: usize, n: usize) -> Se
         if met[first] {
             return Seek::Left(n);
         }
-        match property_value::read_property(place, s, at) {
+        match property_value::read_property(row, s, at) {
             GotProperty::Refused(_) => {
                 return Seek::Left(n);
             }
             GotProperty::Found(k, v, next) => {
-                met[first] = is_single(place, k);
+                met[first] = is_single(row, k);
                 seek = seek_on(seek, id, k, v);
                 at = next;
             }
@@ -84,23 +84,23 @@ fn seek_in(place: PropertyPlace, id: u8, s: &[u8], start: usize, n: usize) -> Se
 }
 
 // The n-th value of property id in the block at a place.
-fn nth_value(place: PropertyPlace, id: u8, s: &[u8], p: Span, n: usize) -> Seek
-    ensures { λ r. ⌜ NthRead (placeOf place) id (now (s .entry)) (toldSpan p) n r ⌝ }
+fn nth_value(row: PropertyRow, id: u8, s: &[u8], p: Span, n: usize) -> Seek
+    ensures { λ r. ⌜ NthRead (tableRow row) id (now (s .entry)) (toldSpan p) n r ⌝ }
 {
     if string::within(s, p) {
         let start = p.start;
         let len = p.len;
         let end = start + len;
-        return seek_in(place, id, &s[..end], start, n);
+        return seek_in(row, id, &s[..end], start, n);
     }
     Seek::Left(n)
 }
 
 // The n-th user property of the block at a place, n from 0, or 21.
-pub fn user_property(place: PropertyPlace, s: &[u8], p: Span, n: usize) -> UserItem
-    ensures { λ r. ⌜ NthUser (placeOf place) (now (s .entry)) p n r ⌝ }
+pub fn user_property(row: PropertyRow, s: &[u8], p: Span, n: usize) -> UserItem
+    ensures { λ r. ⌜ NthUser (tableRow row) (now (s .entry)) p n r ⌝ }
 {
-    match nth_value(place, 38, s, p, n) {
+    match nth_value(row, 38, s, p, n) {
         Seek::Left(_) => UserItem::NoItem,
         Seek::At(v) => {
             if let Value::Pair(key, value) = v {
@@ -115,7 +115,7 @@ pub fn user_property(place: PropertyPlace, s: &[u8], p: Span, n: usize) -> UserI
 pub fn subscription_identifier(s: &[u8], p: Span, n: usize) -> IdentifierItem
     ensures { λ r. ⌜ NthIdentifier (now (s .entry)) p n r ⌝ }
 {
-    match nth_value(PropertyPlace::Publish, 11, s, p, n) {
+    match nth_value(PropertyRow::Publish, 11, s, p, n) {
         Seek::Left(_) => IdentifierItem::NoItem,
         Seek::At(v) => {
             if let Value::Number(id) = v {

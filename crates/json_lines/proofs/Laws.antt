@@ -5,8 +5,8 @@ use Prim.Native.Nat.{ℕ}
 use Rattle.records.specs.AsNumbers.{toldError, rowOf, valuesOf}
 use Rattle.records.specs.declared.error.Error.{Error}
 use Rattle.records.specs.Ascii.{codesOf}
-use Rattle.names.specs.Names.{nameOf}
-use Rattle.render.specs.Shown.{decimalOf}
+use Rattle.refusal_names.specs.Names.{nameOf}
+use Rattle.desk_render.specs.Shown.{decimalOf}
 use Rattle.json_text.specs.Text.{escapedOf, each}
 use Rattle.json_text.specs.Put.{PutIn}
 use Rattle.json_text.specs.Value.{joined, array, member}

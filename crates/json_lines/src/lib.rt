@@ -5,11 +5,11 @@ use json_text::put_word;
 use records::error::Error;
 use records::span::Span;
 use records::values::Values;
-use refusals;
+use refusal_numbers;
 use wire::string;
 ghost use mathlib.Core.List.{_++_, _∷_, []};
 ghost use Rattle.records.specs.AsNumbers.{toldValues};
-ghost use Rattle.names.specs.Names.{nameOf};
+ghost use Rattle.refusal_names.specs.Names.{nameOf};
 ghost use Rattle.json_text.specs.Put.{PutIn};
 ghost use Rattle.json_text.specs.Value.{joined};
 ghost use Rattle.json_lines.specs.Line.{headText, numbers, refusalStart, refusalText, refusedLine, skippedLine};
@@ -35,7 +35,7 @@ pub fn put_head(
 fn name(out: &mut [u8], at: usize, e: Error) -> usize
     ensures { λ r. ⌜ PutIn (now (out .entry)) at (nameOf e) (now (out .exit)) r ⌝ }
 {
-    let shown = names::name(e);
+    let shown = refusal_names::name(e);
     let bytes = shown.bytes;
     let text = Span {
         start: 0,
@@ -65,7 +65,12 @@ fn values(out: &mut [u8], at: usize, v: Values) -> usize
 fn refusal_name(out: &mut [u8], at: usize, e: Error) -> usize
     ensures { λ r. ⌜ PutIn (now (out .entry)) at (refusalStart e) (now (out .exit)) r ⌝ }
 {
-    let a = put_number(&mut *out, at, b",\"number\":", refusals::number(e) as u64);
+    let a = put_number(
+        &mut *out,
+        at,
+        b",\"number\":",
+        refusal_numbers::number(e) as u64,
+    );
     let b = put_word(&mut *out, a, b",\"name\":\"");
     name(&mut *out, b, e)
 }
@@ -76,7 +81,7 @@ fn refusal(out: &mut [u8], at: usize, e: Error) -> usize
 {
     let a = refusal_name(&mut *out, at, e);
     let b = put_word(&mut *out, a, b"\",\"values\":[");
-    let c = values(&mut *out, b, refusals::values(e));
+    let c = values(&mut *out, b, refusal_numbers::values(e));
     put_word(&mut *out, c, b"]}\n")
 }
 

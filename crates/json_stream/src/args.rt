@@ -1,6 +1,6 @@
 // The words that the program is started with, those of `desk`: `[--limit N] [--topic FILTER] [FILE]`. With `--status` among them the exit status is written to
 // descriptor 3 as a digit: a program of Rattle has no exit status, and the script `desk` at the top gives it one.
-use words::Asked;
+use desk_arguments::Asked;
 
 // A word that is too long for the buffer is no word of desk's.
 fn with_arg(mut a: Asked, i: usize) -> Asked {
@@ -10,16 +10,16 @@ fn with_arg(mut a: Asked, i: usize) -> Asked {
         a.bad = true;
         return a;
     }
-    words::with_word(a, &text[..n], i)
+    desk_arguments::with_word(a, &text[..n], i)
 }
 
 pub fn read() -> Asked {
-    let mut a = words::none();
+    let mut a = desk_arguments::none();
     let n = os::arg_count();
     let mut i: usize = 1;
     while i < n {
         a = with_arg(a, i);
         i = i + 1;
     }
-    words::ended(a)
+    desk_arguments::ended(a)
 }

@@ -10,7 +10,7 @@ use wire::string;
 // The number and the name, as an object.
 fn refused(out: &mut [u8], at: usize, e: AliasError) -> usize {
     let number = alias::number(e);
-    let name = names::name_at(number as u32);
+    let name = refusal_names::name_at(number as u32);
     let bytes = name.bytes;
     let text = Span {
         start: 0,

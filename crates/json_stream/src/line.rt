@@ -4,7 +4,7 @@ use crate::field;
 use crate::force;
 use crate::list;
 use crate::output;
-use codes;
+use qos_numbers;
 use records::ack_record::Ack;
 use records::packet_record::Packet;
 use records::properties_record::MaybeProperties;
@@ -16,7 +16,7 @@ use records::reply_record::Reply;
 use records::span::Span;
 use records::subscribe_record::Subscribe;
 use records::unsubscribe_record::Unsubscribe;
-use tables::property::PropertyPlace;
+use tables::property::PropertyRow;
 use wire::string;
 
 // The block of a packet that has none.
@@ -38,7 +38,7 @@ fn flags(out: &mut [u8], at: usize, dup: bool, q: u8, retain: bool) -> usize {
 
 fn publish_head(out: &mut [u8], at: usize, s: &[u8], table: &[u8], m: Publish) -> usize {
     let qos = m.qos;
-    let q = codes::qos_number(qos);
+    let q = qos_numbers::qos_number(qos);
     let a = flags(&mut *out, at, m.dup, q, m.retain);
     let b = field::text(&mut *out, a, b",\"topic\":\"", s, m.topic);
     let c = force::topic(&mut *out, b, s, table, m);
@@ -66,7 +66,7 @@ fn publish_singles(out: &mut [u8], at: usize, s: &[u8], p: PublishProperties) ->
 
 // The two lists of a Publish.
 fn publish_lists(out: &mut [u8], at: usize, s: &[u8], block: Span) -> usize {
-    let a = list::users(&mut *out, at, PropertyPlace::Publish, s, block);
+    let a = list::users(&mut *out, at, PropertyRow::Publish, s, block);
     list::identifiers(&mut *out, a, s, block)
 }
 
@@ -93,13 +93,7 @@ fn publish_of(out: &mut [u8], at: usize, s: &[u8], table: &[u8], m: Publish) -> 
 }
 
 // The block of any other kind; what its place does not have is absent.
-fn properties_of(
-    out: &mut [u8],
-    at: usize,
-    place: PropertyPlace,
-    s: &[u8],
-    p: Properties,
-) -> usize {
+fn properties_of(out: &mut [u8], at: usize, place: PropertyRow, s: &[u8], p: Properties) -> usize {
     let text = p.reason_string;
     let id = p.id;
     let a = field::text_if(&mut *out, at, b",\"reason_string\":\"", s, text);
@@ -110,7 +104,7 @@ fn properties_of(
 fn block(
     out: &mut [u8],
     at: usize,
-    place: PropertyPlace,
+    place: PropertyRow,
     s: &[u8],
     properties: MaybeProperties,
 ) -> usize {
@@ -125,14 +119,14 @@ fn ack_of(out: &mut [u8], at: usize, s: &[u8], m: Ack) -> usize {
     let properties = m.properties;
     let a = field::id(&mut *out, at, m.pkid);
     let b = field::number(&mut *out, a, b",\"reason\":", m.reason as u64);
-    block(&mut *out, b, PropertyPlace::Ack, s, properties)
+    block(&mut *out, b, PropertyRow::Ack, s, properties)
 }
 
 fn subscribe_of(out: &mut [u8], at: usize, s: &[u8], m: Subscribe) -> usize {
     let properties = m.properties;
     let filters = m.filters;
     let a = field::id(&mut *out, at, m.pkid);
-    let b = block(&mut *out, a, PropertyPlace::Subscribe, s, properties);
+    let b = block(&mut *out, a, PropertyRow::Subscribe, s, properties);
     list::filters(&mut *out, b, s, filters)
 }
 
@@ -141,7 +135,7 @@ fn reply_of(out: &mut [u8], at: usize, s: &[u8], m: Reply) -> usize {
     let properties = m.properties;
     let reasons = m.reasons;
     let a = field::id(&mut *out, at, m.pkid);
-    let b = block(&mut *out, a, PropertyPlace::Ack, s, properties);
+    let b = block(&mut *out, a, PropertyRow::Ack, s, properties);
     list::reasons(&mut *out, b, s, reasons)
 }
 
@@ -149,7 +143,7 @@ fn unsubscribe_of(out: &mut [u8], at: usize, s: &[u8], m: Unsubscribe) -> usize 
     let properties = m.properties;
     let topics = m.topics;
     let a = field::id(&mut *out, at, m.pkid);
-    let b = block(&mut *out, a, PropertyPlace::Unsubscribe, s, properties);
+    let b = block(&mut *out, a, PropertyRow::Unsubscribe, s, properties);
     list::topics(&mut *out, b, s, topics)
 }
 

@@ -2,15 +2,15 @@
 // of a run.
 use crate::field;
 use crate::output;
-use codes;
-use codes::rule_number;
 use filters::GotFilter;
 use property_value::GotProperty;
 use property_value::Value;
+use qos_numbers;
+use qos_numbers::rule_number;
 use records::answer::UserItem;
 use records::span::Span;
 use records::subscribe_record::Filter;
-use tables::property::PropertyPlace;
+use tables::property::PropertyRow;
 use walker::step_at;
 use wire::got::GotSpan;
 use wire::string;
@@ -43,7 +43,7 @@ fn user(out: &mut [u8], at: usize, before: usize, s: &[u8], key: Span, value: Sp
 }
 
 // The user properties in the block s, step by step of a walk.
-fn users_in(out: &mut [u8], at: usize, place: PropertyPlace, s: &[u8]) -> usize {
+fn users_in(out: &mut [u8], at: usize, place: PropertyRow, s: &[u8]) -> usize {
     let mut next = at;
     let mut i: usize = 0;
     while i < s.len() {
@@ -75,7 +75,7 @@ fn identifiers_in(out: &mut [u8], at: usize, s: &[u8]) -> usize {
     let mut l = Listed { put: at, n: 0 };
     let mut i: usize = 0;
     while i < s.len() {
-        match property_value::read_property(PropertyPlace::Publish, s, i) {
+        match property_value::read_property(PropertyRow::Publish, s, i) {
             GotProperty::Refused(_) => return l.put,
             GotProperty::Found(_, v, end) => {
                 l = identifier_if(&mut *out, l, v);
@@ -102,7 +102,7 @@ fn filter_of(out: &mut [u8], at: usize, before: usize, s: &[u8], f: Filter) -> u
     options(
         &mut *out,
         b,
-        codes::qos_number(q),
+        qos_numbers::qos_number(q),
         f.nolocal,
         f.preserve_retain,
         rule_number(rule),
@@ -163,7 +163,7 @@ fn reasons_in(out: &mut [u8], at: usize, s: &[u8]) -> usize {
 }
 
 // The user properties of the block at a place of s.
-pub fn users(out: &mut [u8], at: usize, place: PropertyPlace, s: &[u8], block: Span) -> usize {
+pub fn users(out: &mut [u8], at: usize, place: PropertyRow, s: &[u8], block: Span) -> usize {
     let a = output::word(&mut *out, at, b",\"user\":[");
     let b = users_in(&mut *out, a, place, string::part(s, block));
     end(&mut *out, b)

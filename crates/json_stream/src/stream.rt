@@ -2,13 +2,13 @@
 // unfinished. An unfinished frame moves to the front of the buffer, once at most. A frame that the buffer does not hold is passed over.
 use crate::line;
 use crate::output;
-use byte_puts::put_bytes;
 use records::answer::Limit;
 use records::answer::Read;
 use records::error::Error;
 use records::packet_record::Packet;
 use records::span::Span;
 use wire::string;
+use write_bytes::put_bytes;
 
 // There is more to read.
 const GOING: u8 = 0;

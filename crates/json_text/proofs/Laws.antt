@@ -9,8 +9,8 @@ use lib.Dec.{leb}
 use lib.ListN.{length, drop, getD, length-append, drop-of-length-le}
 use lib.Seq.{sets, length-sets, drop-cons}
 use borrow.Author.Tests.{le-leb, lt-leb, lt-ltb, le-ltb, eq-eqb, ne-eqb, leb-true, leb-false}
-use Rattle.byte_puts.proofs.Laws.{sets-append, sets-out}
-use Rattle.render.specs.Shown.{hexOf}
+use Rattle.write_bytes.proofs.Laws.{sets-append, sets-out}
+use Rattle.desk_render.specs.Shown.{hexOf}
 use Rattle.json_text.specs.Text.{isMarked, isControl, escapedOf, each}
 use Rattle.json_text.specs.Put.{endIn, PutIn}
 

@@ -7,7 +7,7 @@ use Prim.Native.Nat.{ℕ, suc, _+_, _-_, _*_, _/_, _%_, _≤_, _<_}
 use native.Mathlib.Omega.{arith}
 use lib.Dec.{eqb, ltb}
 use borrow.Author.Tests.{lt-ltb, le-ltb, eq-eqb, ne-eqb, eqb-true, eqb-false, ltb-true, ltb-false}
-use Rattle.render.specs.Shown.{hexDigit, hexOf}
+use Rattle.desk_render.specs.Shown.{hexDigit, hexOf}
 use Rattle.json_text.specs.Text.{escapedOf, each}
 use Rattle.json_text.specs.Back.{Awaits, digitOf, meant, before, textIn}
 use Rattle.json_text.proofs.Laws.{form-mark, form-slash, form-low, form-delete, form-plain}

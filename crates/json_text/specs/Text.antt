@@ -3,7 +3,7 @@ use mathlib.Core.Bool.{Bool, cond, _||_}
 use mathlib.Core.List.{List, [], _∷_, _++_}
 use Prim.Native.Nat.{ℕ}
 use lib.Dec.{eqb, ltb}
-use Rattle.render.specs.Shown.{hexOf}
+use Rattle.desk_render.specs.Shown.{hexOf}
 
 -- RFC 8259, 7: "quotation mark, reverse solidus", which have a reverse solidus before them
 abbrev pub isMarked : ℕ → Bool

@@ -1,12 +1,12 @@
 // What a line of JSON is made of, put into a lent output from an index on: words as they stand, numbers, texts between double quotes (RFC 8259)
 // and bytes in hexadecimal. What would lie past the end of the output is not stored, and then the index behind it is one that no output has.
-use byte_puts::put_bytes;
+use write_bytes::put_bytes;
 ghost use mathlib.Core.Path.{_≡_};
 ghost use mathlib.Core.List.{_++_, _∷_, []};
 ghost use Prim.Native.Nat.{_+_};
 ghost use lib.ListN.{length};
 ghost use lib.Seq.{sets};
-ghost use Rattle.render.specs.Shown.{decimalOf, hexOf};
+ghost use Rattle.desk_render.specs.Shown.{decimalOf, hexOf};
 ghost use Rattle.json_text.specs.Text.{escapedOf, each};
 ghost use Rattle.json_text.specs.Put.{endIn, PutIn};
 
@@ -37,7 +37,7 @@ pub fn put_word(out: &mut [u8], at: usize, w: &[u8]) -> usize
 fn put_decimal(out: &mut [u8], at: usize, n: u64) -> usize
     ensures { λ r. ⌜ PutIn (now (out .entry)) at (decimalOf n) (now (out .exit)) r ⌝ }
 {
-    let k = render::put_decimal(&mut *out, at, n);
+    let k = desk_render::put_decimal(&mut *out, at, n);
     behind(out.len(), at, k)
 }
 
@@ -66,7 +66,7 @@ fn put_code(out: &mut [u8], at: usize, b: u8) -> usize
     ensures stores { λ r. ⌜ now (out .exit) ≡ sets (now (out .entry)) at (escapedOf b) ⌝ }
 {
     let mut text = *b"\\u0000";
-    render::put_hex(&mut text, 4, b);
+    desk_render::put_hex(&mut text, 4, b);
     put_bytes(&mut *out, at, &text);
     6
 }
@@ -136,7 +136,7 @@ pub fn put_bytes_hex(out: &mut [u8], at: usize, s: &[u8]) -> usize
     let mut i: usize = 0;
     while i < s.len() {
         let room = out.len() - next;
-        render::put_hex(&mut *out, next, s[i]);
+        desk_render::put_hex(&mut *out, next, s[i]);
         if room < 2 {
             return LOST;
         }

@@ -6,13 +6,13 @@ use Prim.Native.Nat.{ℕ, _-_}
 use Prim.Native.String.{String}
 use lib.ListN.{length, replicate}
 use Rattle.grammar.specs.Choice.{isIn, lookup}
-use Rattle.grammar.specs.Tables.{Place, Layout, aPublish, anAck, aSubscribe, aReply, anUnsubscribe, aPing, kinds, reserved, reasonsOf}
+use Rattle.grammar.specs.Tables.{Row, Layout, aPublish, anAck, aSubscribe, aReply, anUnsubscribe, aPing, kinds, reserved, reasonsOf}
 use Rattle.records.specs.Ascii.{codesOf}
 use Rattle.records.specs.AsNumbers.{toldAckKind, toldReplyKind}
-use Rattle.tables.specs.Property.{placeOf}
+use Rattle.tables.specs.Property.{tableRow}
 use Rattle.kinds.specs.declared.Kind.{Kind}
 use Rattle.kinds.specs.declared.Kind.the-variants as kind
-use Rattle.kinds.specs.declared.KindPlace.{KindPlace}
+use Rattle.kinds.specs.declared.KindRow.{KindRow}
 use Rattle.kinds.specs.declared.Word.{Word}
 
 -- the number of a kind, whether it is reserved (01, row 4), and the layout of a kind that is carried
@@ -35,10 +35,10 @@ kindRow k = (k, isIn k reserved, lookup kinds k)
 abbrev pub numberOf : Kind → ℕ
 numberOf k = toldKind k .0
 
--- the place of the block, if there is one
-abbrev pub toldPlace : KindPlace → Option Place
-toldPlace (KindPlace.Of place) = some (placeOf place)
-toldPlace KindPlace.NoBlock = none
+-- the row of the block, if there is one
+abbrev pub toldRow : KindRow → Option Row
+toldRow (KindRow.Of row) = some (tableRow row)
+toldRow KindRow.NoBlock = none
 
 -- docs/DESK.md: the word that a line has for a kind
 unfoldable pub words : List (ℕ × String)

@@ -1,12 +1,12 @@
-// The table of kinds, after `PacketType` and `packet_type` of v5/mod.rs: for each number its layout, the place of its block, its first byte and
+// The table of kinds, after `PacketType` and `packet_type` of v5/mod.rs: for each number its layout, the row of its block, its first byte and
 // its word.
 use records::ack_record::AckKind;
 use records::reply_record::ReplyKind;
-use tables::property::PropertyPlace;
+use tables::property::PropertyRow;
 ghost use mathlib.Core.Path.{_≡_};
-ghost use Rattle.grammar.specs.Tables.{placeAt, firstOf};
+ghost use Rattle.grammar.specs.Tables.{rowOfKind, firstOf};
 ghost use Rattle.records.specs.AsNumbers.{toldAckKind, toldReplyKind};
-ghost use Rattle.kinds.specs.Kinds.{toldKind, kindRow, numberOf, toldPlace, made, wordOf, padded};
+ghost use Rattle.kinds.specs.Kinds.{toldKind, kindRow, numberOf, toldRow, made, wordOf, padded};
 
 // The layouts, and which of the kinds that share one.
 pub enum Kind {
@@ -24,8 +24,8 @@ pub enum Kind {
 }
 
 // The place of a kind's block.
-pub enum KindPlace {
-    Of(PropertyPlace),
+pub enum KindRow {
+    Of(PropertyRow),
     NoBlock,
 }
 
@@ -94,22 +94,22 @@ pub fn number_of(kind: Kind) -> u8
 }
 
 // The place whose row the block of a number's kind has; none for a ping and for a kind that is not carried.
-pub fn place_of(num: u8) -> KindPlace
-    ensures { λ r. ⌜ toldPlace r ≡ placeAt num ⌝ }
+pub fn row_of(num: u8) -> KindRow
+    ensures { λ r. ⌜ toldRow r ≡ rowOfKind num ⌝ }
 {
     match num {
-        3 => KindPlace::Of(PropertyPlace::Publish),
-        4 => KindPlace::Of(PropertyPlace::Ack),
-        5 => KindPlace::Of(PropertyPlace::Ack),
-        6 => KindPlace::Of(PropertyPlace::Ack),
-        7 => KindPlace::Of(PropertyPlace::Ack),
-        8 => KindPlace::Of(PropertyPlace::Subscribe),
-        9 => KindPlace::Of(PropertyPlace::Ack),
-        10 => KindPlace::Of(PropertyPlace::Unsubscribe),
-        11 => KindPlace::Of(PropertyPlace::Ack),
-        12 => KindPlace::NoBlock,
-        13 => KindPlace::NoBlock,
-        0..=2 | 14..=255 => KindPlace::NoBlock,
+        3 => KindRow::Of(PropertyRow::Publish),
+        4 => KindRow::Of(PropertyRow::Ack),
+        5 => KindRow::Of(PropertyRow::Ack),
+        6 => KindRow::Of(PropertyRow::Ack),
+        7 => KindRow::Of(PropertyRow::Ack),
+        8 => KindRow::Of(PropertyRow::Subscribe),
+        9 => KindRow::Of(PropertyRow::Ack),
+        10 => KindRow::Of(PropertyRow::Unsubscribe),
+        11 => KindRow::Of(PropertyRow::Ack),
+        12 => KindRow::NoBlock,
+        13 => KindRow::NoBlock,
+        0..=2 | 14..=255 => KindRow::NoBlock,
     }
 }
 

@@ -7,7 +7,7 @@ use lib.Dec.{eqb}
 use lib.ListN.{length}
 use Rattle.grammar.specs.Choice.{isEmpty, all}
 use Rattle.writing.proofs.Tests.{eq-when, eq-not}
-use Rattle.row_belongs.proofs.Laws.{empty-length}
+use Rattle.write_belongs.proofs.Laws.{empty-length}
 
 module _ {A : Type 0} (l : List A) where
   pub some-lent : (length l ≡ 0 → ⊥) → isEmpty l ≡ false

@@ -1,7 +1,7 @@
 // The lent parts of a packet of any kind: whether nothing is lent that does not belong to the record (01, row 20), one function for the
 // parts of each kind.
 use crate::head::PacketHead;
-use row_belongs::both;
+use write_belongs::both;
 ghost use mathlib.Core.Path.{_≡_};
 ghost use mathlib.Core.List.{[], _∷_};
 ghost use Rattle.grammar.specs.Choice.{isEmpty, all};

@@ -18,7 +18,7 @@ use Rattle.positions.proofs.Position.{bad-left}
 use Rattle.records.specs.AsNumbers.{rowOf}
 use Rattle.framing.specs.HeaderRead.{headerOf, limitedTo}
 use Rattle.framing.proofs.Laws.{behindFirst, header-within, header-left, frame-count}
-use Rattle.byte_puts.proofs.Laws.{sets-out}
+use Rattle.write_bytes.proofs.Laws.{sets-out}
 use Rattle.pieces_rules.specs.Whole.{frameTooLong, headerUnder, frameBytes, lacks, frame}
 use Rattle.pieces_rules.specs.Step.{badBuffer, State, waiting, fresh, more, inPiece, inBuffer, Step, serves, refuses, stepFrom, stepBy, called, foundOf}
 use Rattle.pieces_rules.specs.Judge.{Judge, unknown, forbids, spans, judged, judgeOf}

@@ -1,12 +1,12 @@
 // A stream that arrives in pieces (02, P10): an unfinished frame is kept at the front of a lent buffer of 5 to 65,536 bytes.
 // A frame that lies in one piece stays there, and no byte of it is copied.
-use byte_puts;
 use framing::check;
 use framing::check::Checked;
 use records::answer::Limit;
 use records::error::Error;
 use records::values::Values;
-use refusals;
+use refusal_numbers;
+use write_bytes;
 ghost use mathlib.Core.Path.{_≡_};
 ghost use mathlib.Core.List.{_++_};
 ghost use Prim.Native.Nat.{_+_, _-_, _≤_, _<_, min};
@@ -69,7 +69,7 @@ pub fn number(why: Stop) -> u8
     ensures { λ r. ⌜ r ≡ rowOf (toldStop why) ⌝ }
 {
     match why {
-        Stop::Header(e) => refusals::number(e),
+        Stop::Header(e) => refusal_numbers::number(e),
         Stop::BadBuffer => 35,
         Stop::FrameTooLong => 36,
     }
@@ -80,7 +80,7 @@ pub fn values(why: Stop) -> Values
     ensures { λ r. ⌜ toldValues r ≡ valuesOf (toldStop why) ⌝ }
 {
     match why {
-        Stop::Header(e) => refusals::values(e),
+        Stop::Header(e) => refusal_numbers::values(e),
         Stop::BadBuffer => Values::None,
         Stop::FrameTooLong => Values::None,
     }
@@ -100,7 +100,7 @@ fn judge(s: &[u8], limit: Limit, cap: usize) -> Judged
 {
     match check::parse_fixed_header(s) {
         Checked::Refused(e) => {
-            if refusals::number(e) == 1 {
+            if refusal_numbers::number(e) == 1 {
                 return Judged::Unknown;
             }
             return Judged::Stopped(Stop::Header(e));
@@ -126,8 +126,8 @@ fn judge_joined(held: usize, limit: Limit, buffer: &[u8], piece: &[u8]) -> Judge
     ensures { λ r. ⌜ toldJudged r ≡ judgeOf (limitOf limit) (length (now (buffer .entry))) (take held (now (buffer .entry)) ++ now (piece .entry)) ⌝ }
 {
     let mut head: [u8; 5] = [0; 5];
-    byte_puts::put_bytes(&mut head, 0, &buffer[..held]);
-    byte_puts::put_bytes(&mut head, held, piece);
+    write_bytes::put_bytes(&mut head, 0, &buffer[..held]);
+    write_bytes::put_bytes(&mut head, held, piece);
     let n = head_length(held, piece.len());
     judge(&head[..n], limit, buffer.len())
 }
@@ -162,7 +162,7 @@ fn keep(held: usize, buffer: &mut [u8], piece: &[u8]) -> Step
     requires { ⌜ (length (now buffer) ≤ 65536) × (held + length (now piece) ≤ length (now buffer)) ⌝ }
     ensures { λ r. ⌜ toldStep r (now (buffer .exit)) ≡ stepFrom (waiting held) (now (buffer .entry)) (now (piece .entry)) lacks ⌝ }
 {
-    byte_puts::put_bytes(&mut *buffer, held, piece);
+    write_bytes::put_bytes(&mut *buffer, held, piece);
     let state = State {
         held: held + piece.len(),
         end: End::Open,
@@ -179,7 +179,7 @@ fn complete(held: usize, f: usize, n: usize, buffer: &mut [u8], piece: &[u8]) ->
     requires { ⌜ (0 < held) × (n ≡ f - held) × (n ≤ length (now piece)) ⌝ }
     ensures { λ r. ⌜ toldStep r (now (buffer .exit)) ≡ stepFrom (waiting held) (now (buffer .entry)) (now (piece .entry)) (frame f f) ⌝ }
 {
-    byte_puts::put_bytes(&mut *buffer, held, &piece[..n]);
+    write_bytes::put_bytes(&mut *buffer, held, &piece[..n]);
     Step {
         given: Given::InBuffer(f),
         used: n,

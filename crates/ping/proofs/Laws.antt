@@ -11,7 +11,7 @@ use Rattle.writing.specs.Order.{judge, fieldsOf}
 use Rattle.grammar.specs.Tables.{firstOf}
 use Rattle.writing.specs.Write.{firstByte, frameBytes}
 use Rattle.writing.proofs.ForCode.{ping-frame}
-use Rattle.settle.specs.Found.{Found}
+use Rattle.write_order.specs.Found.{Found}
 
 module _ (k : ℕ) where
   pub ping-belongs : true ≡ belongs (ping k)

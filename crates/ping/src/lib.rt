@@ -3,7 +3,7 @@ use kinds;
 use records::answer::Limit;
 use records::answer::Sized;
 use records::answer::Written;
-use row_tests::Tested;
+use write_tests::Tested;
 ghost use mathlib.Core.Path.{_≡_};
 ghost use Prim.Native.Nat.{ℕ};
 ghost use Rattle.writing.specs.Handed.{ping};
@@ -16,16 +16,16 @@ ghost use Rattle.records.specs.Answered.{toldSized, toldWritten};
 pub fn ping_size() -> Sized
     ensures { λ r. ⌜ ((k : ℕ) → toldSized r ≡ sizeOf (ping k)) ⌝ }
 {
-    settle::size(true, 0)
+    write_order::size(true, 0)
 }
 
 fn write_ping(first: u8, limit: Limit, out: &mut [u8]) -> Written
     ensures { λ r. ⌜ ((k : ℕ) → first ≡ firstOf k → WrittenOf (limitOf limit) (ping k) (now (out .entry)) (now (out .exit)) (toldWritten r)) ⌝ }
 {
-    match settle::settle(Tested::Fine, 0, limit, Tested::Fine, out.len()) {
+    match write_order::settle(Tested::Fine, 0, limit, Tested::Fine, out.len()) {
         Written::Refused(e) => Written::Refused(e),
         Written::Size(n) => {
-            row_puts::put_header(&mut *out, first, 0);
+            write_properties::put_header(&mut *out, first, 0);
             Written::Size(n)
         }
     }

@@ -10,7 +10,7 @@ use Rattle.grammar.specs.Choice.{isIn, lookup, isEmpty}
 use Rattle.grammar.specs.Number.{Byte, byte, Spells}
 use Rattle.grammar.specs.Text.{Utf8}
 use Rattle.grammar.specs.Gram.{Gram, Map, mapped, Only, OnlyBy, onlyBy, Then, both, Sized, sized, Is, is}
-use Rattle.grammar.specs.Tables.{Form, u8, u16, u32, number, text, bytes, pair, Place, publishPlace, subscribePlace, ackPlace, unsubscribePlace, Layout, aPublish, anAck, aSubscribe, aReply, anUnsubscribe, aPing, kinds, reserved, isPing, formAt}
+use Rattle.grammar.specs.Tables.{Form, u8, u16, u32, number, text, bytes, pair, Row, publishRow, subscribeRow, ackRow, unsubscribeRow, Layout, aPublish, anAck, aSubscribe, aReply, anUnsubscribe, aPing, kinds, reserved, isPing, formAt}
 use Rattle.grammar.specs.Record.{Val, num, str, PropOf, Props, Filter, kindOf, flagQos, mkPublish, mkAck, mkFilter, mkSubscribe, mkReply, mkUnsubscribe, mkPing}
 use Rattle.grammar.specs.Sentence.{Any, duoOf, notZero, notThree, qosFine, ruleFine, someOf, Frame}
 use Rattle.reading.specs.Refusal.{Refusal, nr, accepted, cut, crossed, passes}
@@ -47,7 +47,7 @@ value-at bytes = splits-map str bytes-at
 value-at pair = splits-map duoOf (splits-then text-at text-at)
 
 -- a value behind its identifier
-behind-one : (place : Place) (end i : ℕ) (s : List ℕ) → length (i ∷ s) ≤ end → (o : Option Form) → formAt place i ≡ o → (z : PropOf Span × List ℕ) → valueAt asPlaces o i end s ≡ got z
+behind-one : (place : Row) (end i : ℕ) (s : List ℕ) → length (i ∷ s) ≤ end → (o : Option Form) → formAt place i ≡ o → (z : PropOf Span × List ℕ) → valueAt asPlaces o i end s ≡ got z
     → Cut (PropertyAt place (end - length (i ∷ s))) (i ∷ s) z
 unfolding valueAt
 behind-one place end i s h none e = λ z f. absurd (bad-got f)
@@ -57,23 +57,23 @@ behind-one place end i s h (some k) e = from-bind (valueOf asPlaces k end s) (λ
     from-got (Cut (PropertyAt place (end - length (i ∷ s))) (i ∷ s)) ((i, y .0), y .1)
     (i ∷ b, ap (λ (l : List ℕ). i ∷ l) e₁, property e (subst (λ (m : ℕ). SpeltAt k m (y .0) b) n g))
 
-property-split : (place : Place) (end : ℕ) (s : List ℕ) → length s ≤ end → (z : PropOf Span × List ℕ) → propertyOf asPlaces place end s ≡ got z → Cut (PropertyAt place (end - length s)) s z
+property-split : (place : Row) (end : ℕ) (s : List ℕ) → length s ≤ end → (z : PropOf Span × List ℕ) → propertyOf asPlaces place end s ≡ got z → Cut (PropertyAt place (end - length s)) s z
 unfolding propertyOf
 property-split place end [] h = λ z e. absurd (bad-got e)
 property-split place end (i ∷ s) h = behind-one place end i s h (formAt place i) refl
 
-property-at : (place : Place) → SplitsAt (propertyOf asPlaces place) (PropertyAt place)
+property-at : (place : Row) → SplitsAt (propertyOf asPlaces place) (PropertyAt place)
 property-at place = record { split = property-split place }
 
-properties-at : (place : Place) → FillsAt (propertiesFit asPlaces place) (ManyAt (PropertyAt place))
+properties-at : (place : Row) → FillsAt (propertiesFit asPlaces place) (ManyAt (PropertyAt place))
 unfolding propertiesFit
 properties-at place = record { back = λ end s h vs e. fills-many (property-at place) .back end s h vs (once-many asPlaces place end [] s vs e) }
 
-publish-block-at : SplitsAt (blockOf asPlaces publishPlace (publishAs asPlaces)) (BlockAt publishPlace publishFrom)
+publish-block-at : SplitsAt (blockOf asPlaces publishRow (publishAs asPlaces)) (BlockAt publishRow publishFrom)
 unfolding blockOf
-publish-block-at = splits-sized crossed (reads-num cut 4) (fills-hand publishFrom (properties-at publishPlace))
+publish-block-at = splits-sized crossed (reads-num cut 4) (fills-hand publishFrom (properties-at publishRow))
 
-block-at : (place : Place) → SplitsAt (blockOf asPlaces place (propsAs asPlaces)) (BlockAt place propsFrom)
+block-at : (place : Row) → SplitsAt (blockOf asPlaces place (propsAs asPlaces)) (BlockAt place propsFrom)
 unfolding blockOf
 block-at place = splits-sized crossed (reads-num cut 4) (fills-hand propsFrom (properties-at place))
 
@@ -102,7 +102,7 @@ unfolding ackBlockFit
 ack-block end c [] h = from-got (λ ps. AckRestAt (end - length (c ∷ [])) (c, ps) (c ∷ [])) none coded
 ack-block end c (x ∷ r) h = λ ps e.
     let n : end - length (x ∷ r) ≡ end - length (c ∷ x ∷ r) + 1 = omega arith in
-    full (subst (λ (m : ℕ). BlockAt ackPlace propsFrom m ps (x ∷ r)) n (fills-exact cut (block-at ackPlace) .back end (x ∷ r) (omega arith) ps e))
+    full (subst (λ (m : ℕ). BlockAt ackRow propsFrom m ps (x ∷ r)) n (fills-exact cut (block-at ackRow) .back end (x ∷ r) (omega arith) ps e))
 
 ack-rest : (rs : List ℕ) (end : ℕ) (s : List ℕ) → length s ≤ end → (z : ℕ × Option (Props Span (λ A. Span))) → ackRestFit asPlaces rs end s ≡ got z → AckRestAt (end - length s) z s
 unfolding ackRestFit
@@ -120,9 +120,9 @@ fields-back : (l : Layout) (x end : ℕ) (b : List ℕ) → length b ≤ end →
 unfolding fieldsFit
 fields-back aPublish x end b h = from-guard (notThree (flagQos x)) (nr 11 (3 ∷ [])) (messageFit asPlaces x end b) λ _. message-at x .back end b h
 fields-back (anAck rs) x end b h = fills-map (mkAck x) (fills-then (splits-plain (reads-big cut 2)) (record { back = ack-rest rs })) .back end b h
-fields-back aSubscribe x end b h = fills-map mkSubscribe (fills-then (splits-plain (reads-big cut 2)) (fills-then (block-at subscribePlace) (fills-hand (λ vs p. p) filters-at))) .back end b h
-fields-back (aReply rs) x end b h = fills-map (mkReply x) (fills-then (splits-plain (reads-big cut 2)) (fills-then (block-at ackPlace) (fills-hand (λ vs p. p) (reasons-at rs)))) .back end b h
-fields-back anUnsubscribe x end b h = fills-map mkUnsubscribe (fills-then (splits-plain (reads-big cut 2)) (fills-then (block-at unsubscribePlace) (fills-hand (λ vs p. p) topics-at))) .back end b h
+fields-back aSubscribe x end b h = fills-map mkSubscribe (fills-then (splits-plain (reads-big cut 2)) (fills-then (block-at subscribeRow) (fills-hand (λ vs p. p) filters-at))) .back end b h
+fields-back (aReply rs) x end b h = fills-map (mkReply x) (fills-then (splits-plain (reads-big cut 2)) (fills-then (block-at ackRow) (fills-hand (λ vs p. p) (reasons-at rs)))) .back end b h
+fields-back anUnsubscribe x end b h = fills-map mkUnsubscribe (fills-then (splits-plain (reads-big cut 2)) (fills-then (block-at unsubscribeRow) (fills-hand (λ vs p. p) topics-at))) .back end b h
 fields-back aPing x end b h = fills-map (mkPing x) (fills-plain (fills-is anyBytes Any cut any-fine)) .back end b h
 
 layout-back : (x end : ℕ) (b : List ℕ) → length b ≤ end → (o : Option Layout) → lookup kinds (kindOf x) ≡ o → (v : Placed) → layoutFit asPlaces o x end b ≡ got v

@@ -7,7 +7,7 @@ use native.Mathlib.Omega.{arith}
 use lib.ListN.{length, length-append}
 use Rattle.grammar.specs.Number.{Big, big, byte, Spells}
 use Rattle.grammar.specs.Gram.{mapped}
-use Rattle.grammar.specs.Tables.{Place, Layout, aPublish, anAck, aSubscribe, aReply, anUnsubscribe, aPing, publishPlace, subscribePlace, ackPlace, unsubscribePlace}
+use Rattle.grammar.specs.Tables.{Row, Layout, aPublish, anAck, aSubscribe, aReply, anUnsubscribe, aPing, publishRow, subscribeRow, ackRow, unsubscribeRow}
 use Rattle.grammar.specs.Record.{PropOf, PublishProps, publishProps, Props, propsOf, unlessEmpty}
 use Rattle.reading.specs.Refusal.{accepted}
 use Rattle.reading.specs.Reader.{got}
@@ -21,11 +21,11 @@ use Rattle.placing.proofs.Placed.{read-placed}
 -- ---- the block
 
 -- properties that come to none fill no bytes
-none-empty : {place : Place} {at : ℕ} {b : List ℕ} → ManyAt (PropertyAt place) at [] b → b ≡ []
+none-empty : {place : Row} {at : ℕ} {b : List ℕ} → ManyAt (PropertyAt place) at [] b → b ≡ []
 none-empty done = refl
 
 -- a block of a row, whose record says where it stands, behind the fields h and before the bytes t
-module _ {X : Type 0} (place : Place) (g : Span → List (PropOf Span) → X) (user : X → Span) (u : (p : Span) (ps : List (PropOf Span)) → user (g p ps) ≡ p) {x at : ℕ} {l : Layout} {h : List ℕ} (H : HeadAt x at l h) (t : List ℕ) where
+module _ {X : Type 0} (place : Row) (g : Span → List (PropOf Span) → X) (user : X → Span) (u : (p : Span) (ps : List (PropOf Span)) → user (g p ps) ≡ p) {x at : ℕ} {l : Layout} {h : List ℕ} (H : HeadAt x at l h) (t : List ℕ) where
   block-stands : {o : Option X} {b : List ℕ} → BlockAt place (λ ps p. unlessEmpty (g p) ps) (at + length h) o b → StandsAt x at l (h ++ (b ++ t)) (onSome user o) (endingAt user (at + length h + length b) o)
   block-stands (sized {b = b} {c = c} n (handed {a = []} m)) =
       let z : length b ≡ 0 = ap length (none-empty m) in
@@ -43,11 +43,11 @@ module _ {X : Type 0} (place : Place) (g : Span → List (PropOf Span) → X) (u
 
 -- the blocks of the two shapes of records
 module _ {x at : ℕ} {l : Layout} {h : List ℕ} (H : HeadAt x at l h) (t : List ℕ) where
-  publish-block : {o : Option (PublishProps Span (λ A. Span))} {b : List ℕ} → BlockAt publishPlace publishFrom (at + length h) o b → StandsAt x at l (h ++ (b ++ t)) (onSome (λ ps. ps .user) o) (endingAt (λ ps. ps .user) (at + length h + length b) o)
+  publish-block : {o : Option (PublishProps Span (λ A. Span))} {b : List ℕ} → BlockAt publishRow publishFrom (at + length h) o b → StandsAt x at l (h ++ (b ++ t)) (onSome (λ ps. ps .user) o) (endingAt (λ ps. ps .user) (at + length h + length b) o)
   unfolding publishProps
-  publish-block = block-stands publishPlace (λ p. publishProps Span (λ A. Span) (λ vs. p)) (λ ps. ps .user) (λ p ps. refl) H t
+  publish-block = block-stands publishRow (λ p. publishProps Span (λ A. Span) (λ vs. p)) (λ ps. ps .user) (λ p ps. refl) H t
 
-  plain-block : (place : Place) {o : Option (Props Span (λ A. Span))} {b : List ℕ} → BlockAt place propsFrom (at + length h) o b → StandsAt x at l (h ++ (b ++ t)) (onSome (λ ps. ps .user) o) (endingAt (λ ps. ps .user) (at + length h + length b) o)
+  plain-block : (place : Row) {o : Option (Props Span (λ A. Span))} {b : List ℕ} → BlockAt place propsFrom (at + length h) o b → StandsAt x at l (h ++ (b ++ t)) (onSome (λ ps. ps .user) o) (endingAt (λ ps. ps .user) (at + length h + length b) o)
   unfolding propsOf
   plain-block place = block-stands place (λ p. propsOf Span (λ A. Span) (λ vs. p)) (λ ps. ps .user) (λ p ps. refl) H t
 
@@ -67,25 +67,25 @@ ack-stands rs x at a i (full {c = c} {ps = o} {b = b} k) =
     let f : h ++ (b ++ []) ≡ a ++ (c ∷ b) = append-assoc a (c ∷ []) (b ++ []) ∙ ap (λ (r : List ℕ). a ++ (c ∷ r)) (append-nil b) in
     let e : at + length h + length b ≡ at + length (a ++ (c ∷ b)) = omega (arith, length-append a (c ∷ []), length-append a (c ∷ b)) in
     let s : StandsAt x at (anAck rs) (h ++ (b ++ [])) (onSome (λ ps. ps .user) o) (endingAt (λ ps. ps .user) (at + length h + length b) o) =
-    plain-block (of-ack (both i byte)) [] ackPlace (subst (λ (m : ℕ). BlockAt ackPlace propsFrom m o b) n k) in
+    plain-block (of-ack (both i byte)) [] ackRow (subst (λ (m : ℕ). BlockAt ackRow propsFrom m o b) n k) in
     subst (λ (r : List ℕ). StandsAt x at (anAck rs) r (onSome (λ ps. ps .user) o) (endingAt (λ ps. ps .user) (at + length (a ++ (c ∷ b))) o)) f
     (subst (λ (m : ℕ). StandsAt x at (anAck rs) (h ++ (b ++ [])) (onSome (λ ps. ps .user) o) (endingAt (λ ps. ps .user) m o)) e s)
 
 -- a topic a and an identifier i, then the block b and the payload d
-message-stands : (x at : ℕ) (a i b d : List ℕ) → HeadAt x at aPublish (a ++ i) → {o : Option (PublishProps Span (λ A. Span))} → BlockAt publishPlace publishFrom (at + length a + length i) o b
+message-stands : (x at : ℕ) (a i b d : List ℕ) → HeadAt x at aPublish (a ++ i) → {o : Option (PublishProps Span (λ A. Span))} → BlockAt publishRow publishFrom (at + length a + length i) o b
     → StandsAt x at aPublish (a ++ (i ++ (b ++ d))) (onSome (λ ps. ps .user) o) (endingAt (λ ps. ps .user) (at + length a + length i + length b) o)
 message-stands x at a i b d H {o = o} k =
     let n : at + length a + length i ≡ at + length (a ++ i) = omega (arith, length-append a i) in
     subst (λ (r : List ℕ). StandsAt x at aPublish r (onSome (λ ps. ps .user) o) (endingAt (λ ps. ps .user) (at + length a + length i + length b) o)) (append-assoc a i (b ++ d))
     (subst (λ (m : ℕ). StandsAt x at aPublish ((a ++ i) ++ (b ++ d)) (onSome (λ ps. ps .user) o) (endingAt (λ ps. ps .user) (m + length b) o)) (sym n)
-    (publish-block H d (subst (λ (m : ℕ). BlockAt publishPlace publishFrom m o b) n k)))
+    (publish-block H d (subst (λ (m : ℕ). BlockAt publishRow publishFrom m o b) n k)))
 
 fields-stand : (l : Layout) (x at : ℕ) (v : Placed) (f : List ℕ) → FieldsAt l x at v f → StandsAt x at l f (blockPlace v) (boundsIn v (at + length f))
 fields-stand aPublish x at _ _ (mapped (both {b = a} t (both {b = i} n (both {b = b} k (handed {b = d} p))))) = message-stands x at a i b d (of-publish (both t n)) k
 fields-stand (anAck rs) x at _ _ (mapped (both {b = a} i r)) = ack-stands rs x at a i r
-fields-stand aSubscribe x at _ _ (mapped (both i (both k (handed {b = d} r)))) = plain-block (of-subscribe i) d subscribePlace k
-fields-stand (aReply rs) x at _ _ (mapped (both i (both k (handed {b = d} r)))) = plain-block (of-reply i) d ackPlace k
-fields-stand anUnsubscribe x at _ _ (mapped (both i (both k (handed {b = d} r)))) = plain-block (of-unsubscribe i) d unsubscribePlace k
+fields-stand aSubscribe x at _ _ (mapped (both i (both k (handed {b = d} r)))) = plain-block (of-subscribe i) d subscribeRow k
+fields-stand (aReply rs) x at _ _ (mapped (both i (both k (handed {b = d} r)))) = plain-block (of-reply i) d ackRow k
+fields-stand anUnsubscribe x at _ _ (mapped (both i (both k (handed {b = d} r)))) = plain-block (of-unsubscribe i) d unsubscribeRow k
 fields-stand aPing x at _ _ (mapped i) = unsent pinged
 
 -- ---- the sentence, and the record that is read

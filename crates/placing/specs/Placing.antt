@@ -10,7 +10,7 @@ use Rattle.grammar.specs.Choice.{lookup}
 use Rattle.grammar.specs.Number.{Byte, Big, Spells}
 use Rattle.grammar.specs.Text.{Utf8}
 use Rattle.grammar.specs.Gram.{Gram, Map, Only, Is}
-use Rattle.grammar.specs.Tables.{Form, u8, u16, u32, number, text, bytes, pair, Place, publishPlace, subscribePlace, ackPlace, unsubscribePlace, Layout, aPublish, anAck, aSubscribe, aReply, anUnsubscribe, aPing, kinds, formAt}
+use Rattle.grammar.specs.Tables.{Form, u8, u16, u32, number, text, bytes, pair, Row, publishRow, subscribeRow, ackRow, unsubscribeRow, Layout, aPublish, anAck, aSubscribe, aReply, anUnsubscribe, aPing, kinds, formAt}
 use Rattle.grammar.specs.Record.{Val, num, str, PropOf, unlessEmpty, PublishProps, publishProps, Props, propsOf, Filter, kindOf, flagQos, mkPublish, mkAck, mkFilter, mkSubscribe, mkReply, mkUnsubscribe, mkPing}
 use Rattle.grammar.specs.Sentence.{Any, duoOf, notZero, Ident, qosFine, ruleFine, ReasonOf}
 use Rattle.reading.specs.Place.{Span, Placed}
@@ -65,11 +65,11 @@ SpeltAt bytes at = Map str (BytesAt at)
 SpeltAt pair at = Map duoOf (ThenAt TextAt TextAt at)
 
 -- 01, grammar: "A property is an identifier byte and a value"
-pub data PropertyAt (place : Place) (at : ℕ) : PropOf Span → List ℕ → Type 0 where
+pub data PropertyAt (place : Row) (at : ℕ) : PropOf Span → List ℕ → Type 0 where
   property : {i : ℕ} {f : Form} {v : Val Span} {b : List ℕ} → formAt place i ≡ some f → SpeltAt f (at + 1) v b → PropertyAt place at (i, v) (i ∷ b)
 
 -- 01, grammar: "a variable length number L and L bytes, filled exactly by properties"; f makes the record of them and of their place
-abbrev pub BlockAt : {A : Type 0} → Place → (List (PropOf Span) → Span → A) → GramAt A
+abbrev pub BlockAt : {A : Type 0} → Row → (List (PropOf Span) → Span → A) → GramAt A
 BlockAt place f = SizedAt Spells (HandedAt f (ManyAt (PropertyAt place)))
 
 -- 01, "What must change shape": "the place of the block"; "L = 0 means absent"
@@ -94,15 +94,15 @@ RunAt G = HandedAt (λ vs p. p) (ManyAt G)
 pub data AckRestAt (at : ℕ) : ℕ × Option (Props Span (λ A. Span)) → List ℕ → Type 0 where
   plain : AckRestAt at (0, none) []
   coded : {c : ℕ} → AckRestAt at (c, none) (c ∷ [])
-  full : {c : ℕ} {ps : Option (Props Span (λ A. Span))} {b : List ℕ} → BlockAt ackPlace propsFrom (at + 1) ps b → AckRestAt at (c, ps) (c ∷ b)
+  full : {c : ℕ} {ps : Option (Props Span (λ A. Span))} {b : List ℕ} → BlockAt ackRow propsFrom (at + 1) ps b → AckRestAt at (c, ps) (c ∷ b)
 
 -- 01, grammar: what fills a frame of each layout whose first byte is x
 abbrev pub FieldsAt : Layout → ℕ → GramAt Placed
-FieldsAt aPublish x at = Map (mkPublish x) (ThenAt BytesAt (ThenAt (λ _. Ident (flagQos x)) (ThenAt (BlockAt publishPlace publishFrom) (StringAt Any))) at)
+FieldsAt aPublish x at = Map (mkPublish x) (ThenAt BytesAt (ThenAt (λ _. Ident (flagQos x)) (ThenAt (BlockAt publishRow publishFrom) (StringAt Any))) at)
 FieldsAt (anAck rs) x at = Map (mkAck x) (ThenAt (λ _. Big 2) AckRestAt at)
-FieldsAt aSubscribe x at = Map mkSubscribe (ThenAt (λ _. Big 2) (ThenAt (BlockAt subscribePlace propsFrom) (RunAt FilterAt)) at)
-FieldsAt (aReply rs) x at = Map (mkReply x) (ThenAt (λ _. Big 2) (ThenAt (BlockAt ackPlace propsFrom) (RunAt (λ _. ReasonOf rs))) at)
-FieldsAt anUnsubscribe x at = Map mkUnsubscribe (ThenAt (λ _. Big 2) (ThenAt (BlockAt unsubscribePlace propsFrom) (RunAt TextAt)) at)
+FieldsAt aSubscribe x at = Map mkSubscribe (ThenAt (λ _. Big 2) (ThenAt (BlockAt subscribeRow propsFrom) (RunAt FilterAt)) at)
+FieldsAt (aReply rs) x at = Map (mkReply x) (ThenAt (λ _. Big 2) (ThenAt (BlockAt ackRow propsFrom) (RunAt (λ _. ReasonOf rs))) at)
+FieldsAt anUnsubscribe x at = Map mkUnsubscribe (ThenAt (λ _. Big 2) (ThenAt (BlockAt unsubscribeRow propsFrom) (RunAt TextAt)) at)
 FieldsAt aPing x at = Map (mkPing x) (Is Any)
 
 -- 01, grammar: "A frame is one byte .., a variable length number R, then R bytes": the fields stand behind the first byte and the number

@@ -7,7 +7,7 @@ use lib.ListN.{length}
 use Rattle.grammar.specs.Choice.{lookup}
 use Rattle.grammar.specs.Number.{Byte, Big, Spells}
 use Rattle.grammar.specs.Sentence.{Ident}
-use Rattle.grammar.specs.Tables.{Place, Layout, aPublish, anAck, aSubscribe, aReply, anUnsubscribe, aPing, kinds}
+use Rattle.grammar.specs.Tables.{Row, Layout, aPublish, anAck, aSubscribe, aReply, anUnsubscribe, aPing, kinds}
 use Rattle.grammar.specs.Record.{PropOf, publish, ack, subscribe, reply, unsubscribe, ping, kindOf, flagQos}
 use Rattle.reading.specs.Place.{Span, Placed, onSome}
 use Rattle.placing.specs.Placing.{placeOf, ThenAt, BytesAt, ManyAt, PropertyAt}
@@ -37,7 +37,7 @@ pub data NoLength : Layout → List ℕ → Type 0 where
 -- the two numbers of the body b of a layout, which stands behind `at` bytes, and the place that the record has for the block
 pub data StandsAt (x at : ℕ) (l : Layout) (f : List ℕ) : Option Span → ℕ × ℕ → Type 0 where
   -- 02, P7: "where its properties start, after the block's length, and end": c spells L, and the L bytes behind it are properties
-  present : (h c b t : List ℕ) → f ≡ h ++ (c ++ (b ++ t)) → HeadAt x at l h → Spells (length b) c → (place : Place) (ps : List (PropOf Span)) → ManyAt (PropertyAt place) (at + length h + length c) ps b
+  present : (h c b t : List ℕ) → f ≡ h ++ (c ++ (b ++ t)) → HeadAt x at l h → Spells (length b) c → (place : Row) (ps : List (PropOf Span)) → ManyAt (PropertyAt place) (at + length h + length c) ps b
       → StandsAt x at l f (some (placeOf (at + length h + length c) b)) (at + length h + length c, at + length h + length c + length b)
   -- 02, P7: "When absent they are equal: the place after the block's length"
   absent : (h c t : List ℕ) → f ≡ h ++ (c ++ t) → HeadAt x at l h → Spells 0 c → StandsAt x at l f none (at + length h + length c, at + length h + length c)

@@ -9,7 +9,7 @@ use Rattle.grammar.specs.Choice.{isIn}
 use Rattle.grammar.specs.Gram.{Gram, forget, Solid}
 use Rattle.grammar.specs.Record.{PropOf}
 use Rattle.grammar.specs.Sentence.{met}
-use Rattle.grammar.specs.Tables.{Place}
+use Rattle.grammar.specs.Tables.{Row}
 use Rattle.reading.specs.Refusal.{nr}
 use Rattle.reading.specs.Reader.{got, bad, Reader, _>>_, guard, headOf, runFit, chainFit, manyFit}
 use Rattle.reading.specs.Read.{Shape, asBytes, textOf, propertyOf, onceOf, filterOf, reasonOf}
@@ -35,38 +35,38 @@ placed-less end p p′ F T L l z h e =
     let (y, j, r) = like-got (p l) (p′ l) z (F (replicate (end - length l) 0 ++ l) .like l (stands-somewhere end l h)) e in
     rw (r .1) (less T L l y j)
 
-pub property-less : (place : Place) (end : ℕ) → Less end (propertyOf asPlaces place end)
-property-less place end = placed-less end (propertyOf asPlaces place end) (propertyOf asBytes place end) (λ s. property-says s place end) (reads-property place end) (property-solid place)
+pub property-less : (row : Row) (end : ℕ) → Less end (propertyOf asPlaces row end)
+property-less row end = placed-less end (propertyOf asPlaces row end) (propertyOf asBytes row end) (λ s. property-says s row end) (reads-property row end) (property-solid row)
 
 -- 02, P9: one that is not met a second time
-pub once-less : (place : Place) (end : ℕ) (σ : List ℕ) → Less end (onceOf asPlaces place end σ)
-once-less place end σ = placed-less end (onceOf asPlaces place end σ) (onceOf asBytes place end σ) (λ s. once-says s place end σ) (reads-once place end σ) (once-solid place σ)
+pub once-less : (row : Row) (end : ℕ) (σ : List ℕ) → Less end (onceOf asPlaces row end σ)
+once-less row end σ = placed-less end (onceOf asPlaces row end σ) (onceOf asBytes row end σ) (λ s. once-says s row end σ) (reads-once row end σ) (once-solid row σ)
 
-module _ (h : Shape) (place : Place) (end : ℕ) (σ : List ℕ) (i : ℕ) (s : List ℕ) where
-  pub once-fresh : isIn i σ ≡ false → onceOf h place end σ (i ∷ s) ≡ propertyOf h place end (i ∷ s)
+module _ (h : Shape) (row : Row) (end : ℕ) (σ : List ℕ) (i : ℕ) (s : List ℕ) where
+  pub once-fresh : isIn i σ ≡ false → onceOf h row end σ (i ∷ s) ≡ propertyOf h row end (i ∷ s)
   unfolding onceOf headOf
   once-fresh e = rw e
 
-  pub once-twice : isIn i σ ≡ true → onceOf h place end σ (i ∷ s) ≡ bad (nr 22 (i ∷ []))
+  pub once-twice : isIn i σ ≡ true → onceOf h row end σ (i ∷ s) ≡ bad (nr 22 (i ∷ []))
   unfolding onceOf headOf
   once-twice e = rw e
 
 -- a block of which no property is doubled is a run of properties
-once-run : (h : Shape) (place : Place) (end : ℕ) (σ f s : List ℕ) (vs : List (PropOf (h .Str))) → runFit (met place) (onceOf h place end) σ f s ≡ got vs → runFit forget (λ _. propertyOf h place end) tt f s ≡ got vs
+once-run : (h : Shape) (row : Row) (end : ℕ) (σ f s : List ℕ) (vs : List (PropOf (h .Str))) → runFit (met row) (onceOf h row end) σ f s ≡ got vs → runFit forget (λ _. propertyOf h row end) tt f s ≡ got vs
 unfolding runFit onceOf headOf
-once-run h place end σ [] [] = λ vs e. e
-once-run h place end σ [] (x ∷ s) = λ vs e. absurd (bad-got e)
-once-run h place end σ (y ∷ f) [] = λ vs e. e
-once-run h place end σ (y ∷ f) (x ∷ s) =
-    from-bind (guard (not (isIn x σ)) (nr 22 (x ∷ [])) >> propertyOf h place end (x ∷ s)) _ λ z e.
-    from-bind (runFit (met place) (onceOf h place end) (met place σ (z .0)) f (z .1)) _ λ ws e′.
-    let i : propertyOf h place end (x ∷ s) ≡ got z = from-guard {C = λ w. propertyOf h place end (x ∷ s) ≡ got w} (not (isIn x σ)) (nr 22 (x ∷ [])) (propertyOf h place end (x ∷ s)) (λ _ w j. j) z e in
-    from-got (λ (us : List (PropOf (h .Str))). runFit forget (λ _. propertyOf h place end) tt (y ∷ f) (x ∷ s) ≡ got us) (z .0 ∷ ws)
-    (rw (i, once-run h place end (met place σ (z .0)) f (z .1) ws e′))
+once-run h row end σ [] [] = λ vs e. e
+once-run h row end σ [] (x ∷ s) = λ vs e. absurd (bad-got e)
+once-run h row end σ (y ∷ f) [] = λ vs e. e
+once-run h row end σ (y ∷ f) (x ∷ s) =
+    from-bind (guard (not (isIn x σ)) (nr 22 (x ∷ [])) >> propertyOf h row end (x ∷ s)) _ λ z e.
+    from-bind (runFit (met row) (onceOf h row end) (met row σ (z .0)) f (z .1)) _ λ ws e′.
+    let i : propertyOf h row end (x ∷ s) ≡ got z = from-guard {C = λ w. propertyOf h row end (x ∷ s) ≡ got w} (not (isIn x σ)) (nr 22 (x ∷ [])) (propertyOf h row end (x ∷ s)) (λ _ w j. j) z e in
+    from-got (λ (us : List (PropOf (h .Str))). runFit forget (λ _. propertyOf h row end) tt (y ∷ f) (x ∷ s) ≡ got us) (z .0 ∷ ws)
+    (rw (i, once-run h row end (met row σ (z .0)) f (z .1) ws e′))
 
-pub once-many : (h : Shape) (place : Place) (end : ℕ) (σ s : List ℕ) (vs : List (PropOf (h .Str))) → chainFit (met place) (onceOf h place end) σ s ≡ got vs → manyFit (propertyOf h place end) s ≡ got vs
+pub once-many : (h : Shape) (row : Row) (end : ℕ) (σ s : List ℕ) (vs : List (PropOf (h .Str))) → chainFit (met row) (onceOf h row end) σ s ≡ got vs → manyFit (propertyOf h row end) s ≡ got vs
 unfolding chainFit
-once-many h place end σ s vs e = once-run h place end σ s s vs e
+once-many h row end σ s vs e = once-run h row end σ s s vs e
 
 pub filter-less : (end : ℕ) → Less end (filterOf asPlaces end)
 filter-less end = placed-less end (filterOf asPlaces end) (filterOf asBytes end) (λ s. filter-says s end) (reads-filter end) filter-solid

@@ -5,7 +5,7 @@ use mathlib.Core.Option.{Option}
 use mathlib.Core.List.{List}
 use Prim.Native.Nat.{ℕ}
 use lib.ListN.{length, drop}
-use Rattle.grammar.specs.Tables.{Place}
+use Rattle.grammar.specs.Tables.{Row}
 use Rattle.grammar.specs.Record.{Props}
 use Rattle.reading.specs.Refusal.{Refusal, cut}
 use Rattle.reading.specs.Reader.{Fit, got, bad, Reader, Filler, _>>=_, mapFit, thenFit}
@@ -19,9 +19,9 @@ use Rattle.positions.proofs.Fill.{fill-bad, fill-got}
 abbrev Block : Type 0
 Block = Option (Props Span (λ A. Span))
 
-module _ (place : Place) (E : Filler Span) (mk : ℕ × (Block × Span) → Placed) (s : List ℕ) (at : ℕ) where
+module _ (row : Row) (E : Filler Span) (mk : ℕ × (Block × Span) → Placed) (s : List ℕ) (at : ℕ) where
   abbrev block : Reader Block
-  block = blockOf asPlaces place (propsAs asPlaces) (length s)
+  block = blockOf asPlaces row (propsAs asPlaces) (length s)
 
   -- what follows the identifier
   abbrev rest : ℕ → Filler (Block × Span)
@@ -46,7 +46,7 @@ module _ (place : Place) (E : Filler Span) (mk : ℕ × (Block × Span) → Plac
       listed-then =
           rw (
             fill-got (bigOf cut 2) s at (trails-big cut 2) i m (sym e) rest,
-            fill-got block s m (trails-block asPlaces (length s) place (propsAs asPlaces)) ps n (sym j) (λ _. E),
+            fill-got block s m (trails-block asPlaces (length s) row (propsAs asPlaces)) ps n (sym j) (λ _. E),
           )
           (go (E (drop n s)))
         where

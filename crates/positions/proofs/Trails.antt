@@ -8,7 +8,7 @@ use Prim.Native.Nat.{ℕ, _-_}
 use lib.Dec.{leb}
 use lib.ListN.{length, take, drop, take-append-drop}
 use Rattle.grammar.specs.Gram.{Gram}
-use Rattle.grammar.specs.Tables.{Form, u8, u16, u32, number, text, bytes, pair, Place, formAt}
+use Rattle.grammar.specs.Tables.{Form, u8, u16, u32, number, text, bytes, pair, Row, formAt}
 use Rattle.grammar.specs.Record.{num, str, PropOf, mkFilter}
 use Rattle.grammar.specs.Sentence.{duoOf, notZero}
 use Rattle.reading.specs.Refusal.{Refusal, cut}
@@ -91,14 +91,14 @@ module _ (h : Shape) (end : ℕ) where
   trails-at (some f) i s = from-bind (valueOf h f end s) _ λ y e.
       from-got (λ (z : PropOf (h .Str) × List ℕ). Ends (i ∷ s) (z .1)) _ (ends-then (i ∷ s) s (y .1) (i ∷ [], refl) (trails-value f s y e))
 
-  pub trails-property : (place : Place) → Trails (propertyOf h place end)
+  pub trails-property : (row : Row) → Trails (propertyOf h row end)
   unfolding propertyOf
-  trails-property place [] = λ z e. absurd (bad-got e)
-  trails-property place (i ∷ s) = trails-at (formAt place i) i s
+  trails-property row [] = λ z e. absurd (bad-got e)
+  trails-property row (i ∷ s) = trails-at (formAt row i) i s
 
-  pub trails-block : {A : Type 0} (place : Place) (f : List (PropOf (h .Str)) → List ℕ → ℕ → A) → Trails (blockOf h place f end)
+  pub trails-block : {A : Type 0} (row : Row) (f : List (PropOf (h .Str)) → List ℕ → ℕ → A) → Trails (blockOf h row f end)
   unfolding blockOf
-  trails-block place f = trails-sized (trails-num cut 4) _ _ end
+  trails-block row f = trails-sized (trails-num cut 4) _ _ end
 
   pub trails-filter : Trails (filterOf h end)
   unfolding filterOf

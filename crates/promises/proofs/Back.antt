@@ -8,7 +8,7 @@ use native.Mathlib.Omega.{arith}
 use lib.Dec.{eqb}
 use lib.ListN.{drop}
 use Rattle.grammar.specs.Choice.{lookup, isEmpty, all}
-use Rattle.grammar.specs.Tables.{publishPlace, subscribePlace, ackPlace, unsubscribePlace, reasonsOf, anAck, aReply, kinds}
+use Rattle.grammar.specs.Tables.{publishRow, subscribeRow, ackRow, unsubscribeRow, reasonsOf, anAck, aReply, kinds}
 use Rattle.grammar.specs.Record.{num, mkFilter, PublishProps, Props}
 use Rattle.grammar.specs.Record as record-of
 use Rattle.grammar.specs.Sentence.{Packet, Sentence}
@@ -192,58 +192,58 @@ module _ (limit : Limit) (alone : Bool) (h : Handed) (before after : List ℕ) (
 module _ (limit : Limit) (alone : Bool) (before after : List ℕ) (w : Written) (n : ℕ) (i : w ≡ Written.Size n) (rest : List ℕ) (r : Read) (o : Bounds) where
   pub publish-items-back : (h : PublishHanded) → Obeys limit alone (publish h) before after w → Typed (publish h) → reading.Meets Limit.Unlimited (frameBytes (publish h) ++ rest) r
       → (x : Publish) (p : PublishProperties) → r ≡ Read.Packet (code.Packet.Publish x) o n → x .properties ≡ MaybePublishProperties.Present p
-      → UserItems (frameBytes (publish h) ++ rest) publishPlace (p .block) (duos (strings (h .user))) × IdentifierItems (frameBytes (publish h) ++ rest) (p .block) (map num (h .subscriptions))
+      → UserItems (frameBytes (publish h) ++ rest) publishRow (p .block) (duos (strings (h .user))) × IdentifierItems (frameBytes (publish h) ++ rest) (p .block) (map num (h .subscriptions))
   unfolding said
   publish-items-back h m t j x p e f =
       let s = frameBytes (publish h) ++ rest in
       let (v, qs, a, b, us, ns) = publish-items Limit.Unlimited s r j o n x p e f in
       let c : _≡_ {A = Packet} (said (publish h)) (record-of.publish v) = says-said limit alone (publish h) before after w m n i t rest r j (record-of.publish v) a in
       let d : publishSet h ≡ qs = the-set (nonePublish h) (publishSet h) qs (publish-props c ∙ b) in
-      (subst (λ (q : PublishProps (List ℕ) List). UserItems s publishPlace (p .block) (q .user)) (sym d) us, subst (λ (q : PublishProps (List ℕ) List). IdentifierItems s (p .block) (q .subscriptions)) (sym d) ns)
+      (subst (λ (q : PublishProps (List ℕ) List). UserItems s publishRow (p .block) (q .user)) (sym d) us, subst (λ (q : PublishProps (List ℕ) List). IdentifierItems s (p .block) (q .subscriptions)) (sym d) ns)
 
   pub ack-items-back : (k : AckKind) (h : AckHanded) → Obeys limit alone (ack (toldAckKind k) h) before after w → Typed (ack (toldAckKind k) h) → reading.Meets Limit.Unlimited (frameBytes (ack (toldAckKind k) h) ++ rest) r
       → (x : Ack) (p : Properties) → r ≡ Read.Packet (code.Packet.Ack k x) o n → x .properties ≡ MaybeProperties.Present p
-      → UserItems (frameBytes (ack (toldAckKind k) h) ++ rest) ackPlace (p .block) (duos (strings (h .user)))
+      → UserItems (frameBytes (ack (toldAckKind k) h) ++ rest) ackRow (p .block) (duos (strings (h .user)))
   unfolding said
   ack-items-back k h m t j x p e f =
       let s = frameBytes (ack (toldAckKind k) h) ++ rest in
       let (v, qs, a, b, us) = ack-items Limit.Unlimited s r j o n k x p e f in
       let c : _≡_ {A = Packet} (said (ack (toldAckKind k) h)) (record-of.ack (toldAckKind k) v) = says-said limit alone (ack (toldAckKind k) h) before after w m n i t rest r j (record-of.ack (toldAckKind k) v) a in
       let d : ackSet (h .text) (h .user) ≡ qs = the-set (noneAck (h .text) (h .user)) (ackSet (h .text) (h .user)) qs (ack-props (toldAckKind k) c ∙ b) in
-      subst (λ (q : Props (List ℕ) List). UserItems s ackPlace (p .block) (q .user)) (sym d) us
+      subst (λ (q : Props (List ℕ) List). UserItems s ackRow (p .block) (q .user)) (sym d) us
 
   pub subscribe-items-back : (h : SubscribeHanded) → Obeys limit alone (subscribe h) before after w → Typed (subscribe h) → reading.Meets Limit.Unlimited (frameBytes (subscribe h) ++ rest) r
       → (x : Subscribe) (p : Properties) → r ≡ Read.Packet (code.Packet.Subscribe x) o n → x .properties ≡ MaybeProperties.Present p
-      → UserItems (frameBytes (subscribe h) ++ rest) subscribePlace (p .block) (duos (strings (h .user)))
+      → UserItems (frameBytes (subscribe h) ++ rest) subscribeRow (p .block) (duos (strings (h .user)))
   unfolding said
   subscribe-items-back h m t j x p e f =
       let s = frameBytes (subscribe h) ++ rest in
       let (v, qs, a, b, us) = subscribe-items Limit.Unlimited s r j o n x p e f in
       let c : _≡_ {A = Packet} (said (subscribe h)) (record-of.subscribe v) = says-said limit alone (subscribe h) before after w m n i t rest r j (record-of.subscribe v) a in
       let d : subscribeSet h ≡ qs = the-set (noneSubscribe h) (subscribeSet h) qs (subscribe-props c ∙ b) in
-      subst (λ (q : Props (List ℕ) List). UserItems s subscribePlace (p .block) (q .user)) (sym d) us
+      subst (λ (q : Props (List ℕ) List). UserItems s subscribeRow (p .block) (q .user)) (sym d) us
 
   pub reply-items-back : (k : ReplyKind) (h : ReplyHanded) → Obeys limit alone (reply (toldReplyKind k) h) before after w → Typed (reply (toldReplyKind k) h) → reading.Meets Limit.Unlimited (frameBytes (reply (toldReplyKind k) h) ++ rest) r
       → (x : Reply) (p : Properties) → r ≡ Read.Packet (code.Packet.Reply k x) o n → x .properties ≡ MaybeProperties.Present p
-      → UserItems (frameBytes (reply (toldReplyKind k) h) ++ rest) ackPlace (p .block) (duos (strings (h .user)))
+      → UserItems (frameBytes (reply (toldReplyKind k) h) ++ rest) ackRow (p .block) (duos (strings (h .user)))
   unfolding said
   reply-items-back k h m t j x p e f =
       let s = frameBytes (reply (toldReplyKind k) h) ++ rest in
       let (v, qs, a, b, us) = reply-items Limit.Unlimited s r j o n k x p e f in
       let c : _≡_ {A = Packet} (said (reply (toldReplyKind k) h)) (record-of.reply (toldReplyKind k) v) = says-said limit alone (reply (toldReplyKind k) h) before after w m n i t rest r j (record-of.reply (toldReplyKind k) v) a in
       let d : ackSet (h .text) (h .user) ≡ qs = the-set (noneAck (h .text) (h .user)) (ackSet (h .text) (h .user)) qs (reply-props (toldReplyKind k) c ∙ b) in
-      subst (λ (q : Props (List ℕ) List). UserItems s ackPlace (p .block) (q .user)) (sym d) us
+      subst (λ (q : Props (List ℕ) List). UserItems s ackRow (p .block) (q .user)) (sym d) us
 
   pub unsubscribe-items-back : (h : UnsubscribeHanded) → Obeys limit alone (unsubscribe h) before after w → Typed (unsubscribe h) → reading.Meets Limit.Unlimited (frameBytes (unsubscribe h) ++ rest) r
       → (x : Unsubscribe) (p : Properties) → r ≡ Read.Packet (code.Packet.Unsubscribe x) o n → x .properties ≡ MaybeProperties.Present p
-      → UserItems (frameBytes (unsubscribe h) ++ rest) unsubscribePlace (p .block) (duos (strings (h .user)))
+      → UserItems (frameBytes (unsubscribe h) ++ rest) unsubscribeRow (p .block) (duos (strings (h .user)))
   unfolding said
   unsubscribe-items-back h m t j x p e f =
       let s = frameBytes (unsubscribe h) ++ rest in
       let (v, qs, a, b, us) = unsubscribe-items Limit.Unlimited s r j o n x p e f in
       let c : _≡_ {A = Packet} (said (unsubscribe h)) (record-of.unsubscribe v) = says-said limit alone (unsubscribe h) before after w m n i t rest r j (record-of.unsubscribe v) a in
       let d : unsubscribeSet (h .user) ≡ qs = the-set (noneUnsubscribe (h .user)) (unsubscribeSet (h .user)) qs (unsubscribe-props c ∙ b) in
-      subst (λ (q : Props (List ℕ) List). UserItems s unsubscribePlace (p .block) (q .user)) (sym d) us
+      subst (λ (q : Props (List ℕ) List). UserItems s unsubscribeRow (p .block) (q .user)) (sym d) us
 
   pub filter-items-back : (h : SubscribeHanded) → Obeys limit alone (subscribe h) before after w → Typed (subscribe h) → reading.Meets Limit.Unlimited (frameBytes (subscribe h) ++ rest) r
       → (x : Subscribe) → r ≡ Read.Packet (code.Packet.Subscribe x) o n → FilterItems (frameBytes (subscribe h) ++ rest) (x .filters) (map mkFilter (filters h))

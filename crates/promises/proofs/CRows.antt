@@ -8,20 +8,20 @@ use native.Mathlib.Omega.{arith}
 use lib.ListN.{length}
 use Rattle.grammar.specs.Choice.{isIn}
 use Rattle.grammar.specs.Octets.{Each, nil, _&_}
-use Rattle.grammar.specs.Tables.{Form, u8, u16, u32, number, text, bytes, pair, Place, publishPlace, subscribePlace, ackPlace, unsubscribePlace, reasonsOf}
+use Rattle.grammar.specs.Tables.{Form, u8, u16, u32, number, text, bytes, pair, Row, publishRow, subscribeRow, ackRow, unsubscribeRow, reasonsOf}
 use Rattle.reading.specs.Refusal.{Refusal, nr}
 use Rattle.reading.specs.Reader.{Fit, bad}
 use Rattle.writing.specs.Lists.{flat}
 use Rattle.writing.specs.Handed.{Handed, publish, ack, subscribe, reply, unsubscribe, ping, Given, one, lent, pairs, several, Givens, publishGiven, subscribeGiven, ackGiven, unsubscribeGiven, strings, filters}
 use Rattle.writing.specs.Order.{Field, raw, word, filter, code, stringField, givenFields, propsFields, filterField, fieldsOf, numbersOf}
-use Rattle.writing.specs.Refuse.{Faulty, long-raw, long-word, long-filter, bad-word, bad-filter, bad-rule, bad-qos, unlisted, FirstFault, Unfit, large, nought, FirstUnfit, Unnamed, Unasked, Refuses, Unsized}
+use Rattle.writing.specs.Refuse.{Faulty, long-raw, long-word, long-filter, bad-word, bad-filter, bad-rule, bad-qos, unlisted, FirstFault, Unfit, large, nought, FirstUnfit, LacksIdent, LacksEntries, Refuses, Unsized}
 use Rattle.writing.specs.Refuse as r
 use Rattle.writing.specs.Write.{sizedBehind, answeredBehind}
 use Rattle.records.specs.AsNumbers.{rowOf}
-use Rattle.given_heads.specs.By.{By, handedBy}
-use Rattle.given_heads.specs.Refuse.{InOrder, RefusesBy, UnsizedBy}
-use Rattle.given_heads.specs.Refuse as c
-use Rattle.given_heads.proofs.Order.{write-refused-when, size-refused-when}
+use Rattle.c_heads.specs.By.{By, handedBy}
+use Rattle.c_heads.specs.Refuse.{InOrder, RefusesBy, UnsizedBy}
+use Rattle.c_heads.specs.Refuse as c
+use Rattle.c_heads.proofs.Order.{write-refused-when, size-refused-when}
 use Rattle.promises.specs.CRows.{writeRows, sizeRows, Quality}
 
 -- ---- fields
@@ -79,20 +79,20 @@ module _ (rs : List ℕ) (a : isIn 18 rs ≡ true) (b : isIn 9 rs ≡ true) wher
   given-of f (pairs q) = each-map word word-of (strings q)
   given-of f (several ns) = nil
 
-  props-of : (place : Place) (g : Givens) → Each (Of rs) (propsFields place g)
+  props-of : (row : Row) (g : Givens) → Each (Of rs) (propsFields row g)
   unfolding propsFields
-  props-of place g = each-flat (λ x. givenFields (x .1) (g (x .0))) (λ x. given-of (x .1) (g (x .0))) (place .row)
+  props-of row g = each-flat (λ x. givenFields (x .1) (g (x .0))) (λ x. given-of (x .1) (g (x .0))) (row .forms)
 
 code-of : (rs : List ℕ) → isIn 15 rs ≡ true → (ls : List ℕ) (x : ℕ) → Of rs (code ls x)
 code-of rs e ls x _ (unlisted p) = e
 
 fields-of : (h : Handed) → Each (Of (writeRows h)) (fieldsOf h)
 unfolding fieldsOf
-fields-of (publish h) = raw-of (writeRows (publish h)) refl refl (h .topic) & props-of (writeRows (publish h)) refl refl publishPlace (publishGiven h)
-fields-of (ack k h) = code-of (writeRows (ack k h)) refl (reasonsOf k) (h .reason) & props-of (writeRows (ack k h)) refl refl ackPlace (ackGiven (h .text) (h .user))
-fields-of (subscribe h) = each-append _ _ (props-of (writeRows (subscribe h)) refl refl subscribePlace (subscribeGiven h)) (each-map filterField (λ f. filter-of (writeRows (subscribe h)) refl refl refl refl (f .0) (f .1)) (filters h))
-fields-of (reply k h) = each-append _ _ (props-of (writeRows (reply k h)) refl refl ackPlace (ackGiven (h .text) (h .user))) (each-map (code (reasonsOf k)) (code-of (writeRows (reply k h)) refl (reasonsOf k)) (h .reasons))
-fields-of (unsubscribe h) = each-append _ _ (props-of (writeRows (unsubscribe h)) refl refl unsubscribePlace (unsubscribeGiven (h .user))) (each-map word (word-of (writeRows (unsubscribe h)) refl refl) (strings (h .topics)))
+fields-of (publish h) = raw-of (writeRows (publish h)) refl refl (h .topic) & props-of (writeRows (publish h)) refl refl publishRow (publishGiven h)
+fields-of (ack k h) = code-of (writeRows (ack k h)) refl (reasonsOf k) (h .reason) & props-of (writeRows (ack k h)) refl refl ackRow (ackGiven (h .text) (h .user))
+fields-of (subscribe h) = each-append _ _ (props-of (writeRows (subscribe h)) refl refl subscribeRow (subscribeGiven h)) (each-map filterField (λ f. filter-of (writeRows (subscribe h)) refl refl refl refl (f .0) (f .1)) (filters h))
+fields-of (reply k h) = each-append _ _ (props-of (writeRows (reply k h)) refl refl ackRow (ackGiven (h .text) (h .user))) (each-map (code (reasonsOf k)) (code-of (writeRows (reply k h)) refl (reasonsOf k)) (h .reasons))
+fields-of (unsubscribe h) = each-append _ _ (props-of (writeRows (unsubscribe h)) refl refl unsubscribeRow (unsubscribeGiven (h .user))) (each-map word (word-of (writeRows (unsubscribe h)) refl refl) (strings (h .topics)))
 fields-of (ping k) = nil
 
 -- ---- numbers
@@ -123,7 +123,7 @@ every (reply k h) = (refl, refl, refl, refl)
 every (unsubscribe h) = (refl, refl, refl, refl)
 every (ping k) = (refl, refl, refl, refl)
 
-unnamed-row : (h : Handed) → Unnamed h → isIn 12 (writeRows h) ≡ true
+unnamed-row : (h : Handed) → LacksIdent h → isIn 12 (writeRows h) ≡ true
 unnamed-row (publish h) u = refl
 unnamed-row (ack k h) u = absurd u
 unnamed-row (subscribe h) u = absurd u
@@ -131,7 +131,7 @@ unnamed-row (reply k h) u = absurd u
 unnamed-row (unsubscribe h) u = absurd u
 unnamed-row (ping k) u = absurd u
 
-unasked-row : (h : Handed) → Unasked h → isIn 13 (writeRows h) ≡ true
+unasked-row : (h : Handed) → LacksEntries h → isIn 13 (writeRows h) ≡ true
 unasked-row (publish h) u = absurd u
 unasked-row (ack k h) u = absurd u
 unasked-row (subscribe h) u = refl

@@ -5,7 +5,7 @@ use mathlib.Core.Logic.{_↔_}
 use mathlib.Core.List.{List, [], _∷_, _++_}
 use Prim.Native.Nat.{ℕ, zero, suc}
 use lib.ListN.{length}
-use Rattle.grammar.specs.Tables.{Place, reasonsOf}
+use Rattle.grammar.specs.Tables.{Row, reasonsOf}
 use Rattle.grammar.specs.Record as record-of
 use Rattle.grammar.specs.Sentence.{Value}
 use Rattle.reading.specs.Refusal.{Refusal}
@@ -63,7 +63,7 @@ itself (bad k) = refl
 module _ (s : List ℕ) (p : Span) (n : ℕ) where
   -- ---- `items::user_property`, of the block of a row
 
-  module _ (row : Place) (r : UserItem) (m : NthUser row s p n r) where
+  module _ (row : Row) (r : UserItem) (m : NthUser row s p n r) where
     -- what stands at the answer's places is v exactly when v is the n-th
     pub user-given : (v : Value) → (onGot (sayVal s) (toldUser r) ≡ got v) ↔ HasUser row s p n v
     user-given v = rw (m, nth-user s (toldSpan p) row n) (has-when (user-iff s (toldSpan p) n row v))

@@ -5,7 +5,7 @@ use mathlib.Core.Option.{Option, some}
 use mathlib.Core.List.{List}
 use Prim.Native.Nat.{ℕ}
 use native.Mathlib.Omega.{arith}
-use Rattle.grammar.specs.Tables.{Place, publishPlace, subscribePlace, ackPlace, unsubscribePlace, reasonsOf}
+use Rattle.grammar.specs.Tables.{Row, publishRow, subscribeRow, ackRow, unsubscribeRow, reasonsOf}
 use Rattle.grammar.specs.Record.{PublishProps, Props, publish, ack, subscribe, reply, unsubscribe}
 use Rattle.grammar.specs.Record as record-of
 use Rattle.grammar.specs.Sentence.{Packet}
@@ -61,13 +61,13 @@ module _ (s : List ℕ) where
   of-publish ofPing m e = never (cc)
 
   of-ack : {x : Placed} {v : Packet} → Items s x v → (k : ℕ) (m : record-of.Ack place.Span (λ A. place.Span)) → x ≡ ack k m
-      → (w : record-of.Ack (List ℕ) List) × (v ≡ ack k w) × OnBoth (PropsItems s ackPlace) (m .props) (w .props)
+      → (w : record-of.Ack (List ℕ) List) × (v ≡ ack k w) × OnBoth (PropsItems s ackRow) (m .props) (w .props)
   of-ack (ofAck {k = k′} {m = m′} {w = w} b) k m e =
       let i : m′ ≡ m = cc in
       let j : k′ ≡ k = cc in (
         w,
         ap (λ (n : ℕ). ack n w) j,
-        subst (λ (n : record-of.Ack place.Span (λ A. place.Span)). OnBoth (PropsItems s ackPlace) (n .props) (w .props)) i b,
+        subst (λ (n : record-of.Ack place.Span (λ A. place.Span)). OnBoth (PropsItems s ackRow) (n .props) (w .props)) i b,
       )
   of-ack (ofPublish b) k m e = never (cc)
   of-ack (ofSubscribe b l) k m e = never (cc)
@@ -76,12 +76,12 @@ module _ (s : List ℕ) where
   of-ack ofPing k m e = never (cc)
 
   of-subscribe : {x : Placed} {v : Packet} → Items s x v → (m : record-of.Subscribe place.Span (λ A. place.Span)) → x ≡ subscribe m
-      → (w : record-of.Subscribe (List ℕ) List) × (v ≡ subscribe w) × OnBoth (PropsItems s subscribePlace) (m .props) (w .props) × Lists (filterAt asPlaces s (m .filters)) (sayFilter s) (w .filters)
+      → (w : record-of.Subscribe (List ℕ) List) × (v ≡ subscribe w) × OnBoth (PropsItems s subscribeRow) (m .props) (w .props) × Lists (filterAt asPlaces s (m .filters)) (sayFilter s) (w .filters)
   of-subscribe (ofSubscribe {m = m′} {w = w} b l) m e =
       let i : m′ ≡ m = cc in (
         w,
         refl,
-        subst (λ (n : record-of.Subscribe place.Span (λ A. place.Span)). OnBoth (PropsItems s subscribePlace) (n .props) (w .props)) i b,
+        subst (λ (n : record-of.Subscribe place.Span (λ A. place.Span)). OnBoth (PropsItems s subscribeRow) (n .props) (w .props)) i b,
         subst (λ (n : record-of.Subscribe place.Span (λ A. place.Span)). Lists (filterAt asPlaces s (n .filters)) (sayFilter s) (w .filters)) i l,
       )
   of-subscribe (ofPublish b) m e = never (cc)
@@ -91,13 +91,13 @@ module _ (s : List ℕ) where
   of-subscribe ofPing m e = never (cc)
 
   of-reply : {x : Placed} {v : Packet} → Items s x v → (k : ℕ) (m : record-of.Reply place.Span (λ A. place.Span)) → x ≡ reply k m
-      → (w : record-of.Reply (List ℕ) List) × (v ≡ reply k w) × OnBoth (PropsItems s ackPlace) (m .props) (w .props) × Lists (reasonAt s (m .reasons) (reasonsOf k)) (λ c. c) (w .reasons)
+      → (w : record-of.Reply (List ℕ) List) × (v ≡ reply k w) × OnBoth (PropsItems s ackRow) (m .props) (w .props) × Lists (reasonAt s (m .reasons) (reasonsOf k)) (λ c. c) (w .reasons)
   of-reply (ofReply {k = k′} {m = m′} {w = w} b l) k m e =
       let i : m′ ≡ m = cc in
       let j : k′ ≡ k = cc in (
         w,
         ap (λ (n : ℕ). reply n w) j,
-        subst (λ (n : record-of.Reply place.Span (λ A. place.Span)). OnBoth (PropsItems s ackPlace) (n .props) (w .props)) i b,
+        subst (λ (n : record-of.Reply place.Span (λ A. place.Span)). OnBoth (PropsItems s ackRow) (n .props) (w .props)) i b,
         subst (λ (n : ℕ). Lists (reasonAt s (m .reasons) (reasonsOf n)) (λ c. c) (w .reasons)) j (subst (λ (n : record-of.Reply place.Span (λ A. place.Span)). Lists (reasonAt s (n .reasons) (reasonsOf k′)) (λ c. c) (w .reasons)) i l),
       )
   of-reply (ofPublish b) k m e = never (cc)
@@ -107,12 +107,12 @@ module _ (s : List ℕ) where
   of-reply ofPing k m e = never (cc)
 
   of-unsubscribe : {x : Placed} {v : Packet} → Items s x v → (m : record-of.Unsubscribe place.Span (λ A. place.Span)) → x ≡ unsubscribe m
-      → (w : record-of.Unsubscribe (List ℕ) List) × (v ≡ unsubscribe w) × OnBoth (PropsItems s unsubscribePlace) (m .props) (w .props) × Lists (topicAt asPlaces s (m .topics)) (heldOf s) (w .topics)
+      → (w : record-of.Unsubscribe (List ℕ) List) × (v ≡ unsubscribe w) × OnBoth (PropsItems s unsubscribeRow) (m .props) (w .props) × Lists (topicAt asPlaces s (m .topics)) (heldOf s) (w .topics)
   of-unsubscribe (ofUnsubscribe {m = m′} {w = w} b l) m e =
       let i : m′ ≡ m = cc in (
         w,
         refl,
-        subst (λ (n : record-of.Unsubscribe place.Span (λ A. place.Span)). OnBoth (PropsItems s unsubscribePlace) (n .props) (w .props)) i b,
+        subst (λ (n : record-of.Unsubscribe place.Span (λ A. place.Span)). OnBoth (PropsItems s unsubscribeRow) (n .props) (w .props)) i b,
         subst (λ (n : record-of.Unsubscribe place.Span (λ A. place.Span)). Lists (topicAt asPlaces s (n .topics)) (heldOf s) (w .topics)) i l,
       )
   of-unsubscribe (ofPublish b) m e = never (cc)
@@ -122,7 +122,7 @@ module _ (s : List ℕ) where
   of-unsubscribe ofPing m e = never (cc)
 
   -- user properties of a block in a row
-  block-items : (row : Place) {w : Option (Props (List ℕ) List)} (b : MaybeProperties) (p : Properties) → OnBoth (PropsItems s row) (toldBlock b) w → b ≡ MaybeProperties.Present p
+  block-items : (row : Row) {w : Option (Props (List ℕ) List)} (b : MaybeProperties) (p : Properties) → OnBoth (PropsItems s row) (toldBlock b) w → b ≡ MaybeProperties.Present p
       → (qs : Props (List ℕ) List) × (w ≡ some qs) × UserItems s row (p .block) (qs .user)
   block-items row b p o f =
       let (qs, j, l) = present o (toldProperties p) (ap toldBlock f) in
@@ -139,7 +139,7 @@ module _ (limit : Limit) (s : List ℕ) (r : Read) (h : Meets limit s r) (o : Bo
   -- user properties and subscription identifiers of a Publish that has a block
   pub publish-items : (m : Publish) (p : PublishProperties) → r ≡ Read.Packet (code.Packet.Publish m) o n → m .properties ≡ MaybePublishProperties.Present p
       → (w : record-of.Publish (List ℕ) List) × (qs : PublishProps (List ℕ) List)
-      × Says s r (accepted (publish w) n) × (w .props ≡ some qs) × UserItems s publishPlace (p .block) (qs .user) × IdentifierItems s (p .block) (qs .subscriptions)
+      × Says s r (accepted (publish w) n) × (w .props ≡ some qs) × UserItems s publishRow (p .block) (qs .user) × IdentifierItems s (p .block) (qs .subscriptions)
   publish-items m p e f =
       let (v, a, t) = items limit s r h (code.Packet.Publish m) o n e in
       let (w, i, b) = of-publish s t (toldPublish m) refl in
@@ -148,38 +148,38 @@ module _ (limit : Limit) (s : List ℕ) (r : Read) (h : Meets limit s r) (o : Bo
 
   -- user properties of a publish acknowledgement that has a block
   pub ack-items : (k : AckKind) (m : Ack) (p : Properties) → r ≡ Read.Packet (code.Packet.Ack k m) o n → m .properties ≡ MaybeProperties.Present p
-      → (w : record-of.Ack (List ℕ) List) × (qs : Props (List ℕ) List) × Says s r (accepted (ack (toldAckKind k) w) n) × (w .props ≡ some qs) × UserItems s ackPlace (p .block) (qs .user)
+      → (w : record-of.Ack (List ℕ) List) × (qs : Props (List ℕ) List) × Says s r (accepted (ack (toldAckKind k) w) n) × (w .props ≡ some qs) × UserItems s ackRow (p .block) (qs .user)
   ack-items k m p e f =
       let (v, a, t) = items limit s r h (code.Packet.Ack k m) o n e in
       let (w, i, b) = of-ack s t (toldAckKind k) (toldAck m) refl in
-      let (qs, j, l) = block-items s ackPlace (m .properties) p b f in
+      let (qs, j, l) = block-items s ackRow (m .properties) p b f in
       (w, qs, subst (λ (x : Packet). Says s r (accepted x n)) i a, j, l)
 
   -- user properties of a Subscribe that has a block
   pub subscribe-items : (m : Subscribe) (p : Properties) → r ≡ Read.Packet (code.Packet.Subscribe m) o n → m .properties ≡ MaybeProperties.Present p
-      → (w : record-of.Subscribe (List ℕ) List) × (qs : Props (List ℕ) List) × Says s r (accepted (subscribe w) n) × (w .props ≡ some qs) × UserItems s subscribePlace (p .block) (qs .user)
+      → (w : record-of.Subscribe (List ℕ) List) × (qs : Props (List ℕ) List) × Says s r (accepted (subscribe w) n) × (w .props ≡ some qs) × UserItems s subscribeRow (p .block) (qs .user)
   subscribe-items m p e f =
       let (v, a, t) = items limit s r h (code.Packet.Subscribe m) o n e in
       let (w, i, b, g) = of-subscribe s t (toldSubscribe m) refl in
-      let (qs, j, l) = block-items s subscribePlace (m .properties) p b f in
+      let (qs, j, l) = block-items s subscribeRow (m .properties) p b f in
       (w, qs, subst (λ (x : Packet). Says s r (accepted x n)) i a, j, l)
 
   -- user properties of a SubAck or UnsubAck that has a block
   pub reply-items : (k : ReplyKind) (m : Reply) (p : Properties) → r ≡ Read.Packet (code.Packet.Reply k m) o n → m .properties ≡ MaybeProperties.Present p
-      → (w : record-of.Reply (List ℕ) List) × (qs : Props (List ℕ) List) × Says s r (accepted (reply (toldReplyKind k) w) n) × (w .props ≡ some qs) × UserItems s ackPlace (p .block) (qs .user)
+      → (w : record-of.Reply (List ℕ) List) × (qs : Props (List ℕ) List) × Says s r (accepted (reply (toldReplyKind k) w) n) × (w .props ≡ some qs) × UserItems s ackRow (p .block) (qs .user)
   reply-items k m p e f =
       let (v, a, t) = items limit s r h (code.Packet.Reply k m) o n e in
       let (w, i, b, g) = of-reply s t (toldReplyKind k) (toldReply m) refl in
-      let (qs, j, l) = block-items s ackPlace (m .properties) p b f in
+      let (qs, j, l) = block-items s ackRow (m .properties) p b f in
       (w, qs, subst (λ (x : Packet). Says s r (accepted x n)) i a, j, l)
 
   -- user properties of an Unsubscribe that has a block
   pub unsubscribe-items : (m : Unsubscribe) (p : Properties) → r ≡ Read.Packet (code.Packet.Unsubscribe m) o n → m .properties ≡ MaybeProperties.Present p
-      → (w : record-of.Unsubscribe (List ℕ) List) × (qs : Props (List ℕ) List) × Says s r (accepted (unsubscribe w) n) × (w .props ≡ some qs) × UserItems s unsubscribePlace (p .block) (qs .user)
+      → (w : record-of.Unsubscribe (List ℕ) List) × (qs : Props (List ℕ) List) × Says s r (accepted (unsubscribe w) n) × (w .props ≡ some qs) × UserItems s unsubscribeRow (p .block) (qs .user)
   unsubscribe-items m p e f =
       let (v, a, t) = items limit s r h (code.Packet.Unsubscribe m) o n e in
       let (w, i, b, g) = of-unsubscribe s t (toldUnsubscribe m) refl in
-      let (qs, j, l) = block-items s unsubscribePlace (m .properties) p b f in
+      let (qs, j, l) = block-items s unsubscribeRow (m .properties) p b f in
       (w, qs, subst (λ (x : Packet). Says s r (accepted x n)) i a, j, l)
 
   -- filters of a Subscribe

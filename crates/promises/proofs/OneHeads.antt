@@ -1,4 +1,4 @@
--- The heads of a packet to write, as `given_heads` makes them: what one hands over with empty lists leaves no choice of it. Assumes nothing.
+-- The heads of a packet to write, as `c_heads` makes them: what one hands over with empty lists leaves no choice of it. Assumes nothing.
 use mathlib.Core.Path.{_≡_, refl, ap}
 use mathlib.Core.Bool.{Bool, false}
 use mathlib.Core.Option.{none}
@@ -23,11 +23,11 @@ use Rattle.records.specs.declared.ack_record.AckKind.{AckKind}
 use Rattle.records.specs.declared.reply_record.ReplyKind.{ReplyKind}
 use Rattle.subscribe_write.specs.declared.SubscribeHead.{SubscribeHead}
 use Rattle.subscribe_write.specs.Handed as subscribing
-use Rattle.row_tests.specs.Tested.{toldTested}
-use Rattle.row_tests.specs.declared.Tested.{Tested}
-use Rattle.given_heads.specs.declared.publish_by.PublishBy.{PublishBy}
-use Rattle.given_heads.specs.declared.subscribe_by.SubscribeBy.{SubscribeBy}
-use Rattle.given_heads.specs.Head.{publishHanded, subscribeHanded}
+use Rattle.write_tests.specs.Tested.{toldTested}
+use Rattle.write_tests.specs.declared.Tested.{Tested}
+use Rattle.c_heads.specs.declared.publish_by.PublishBy.{PublishBy}
+use Rattle.c_heads.specs.declared.subscribe_by.SubscribeBy.{SubscribeBy}
+use Rattle.c_heads.specs.Head.{publishHanded, subscribeHanded}
 use Rattle.promises.specs.OneResult.{OneResult}
 use Rattle.promises.proofs.OneLaws.{one-by}
 use Rattle.promises.proofs.OneWriters.{backNumber, back-number-u8, back-number-u16, back-number-u32}

@@ -6,7 +6,7 @@ use mathlib.Core.List.{List, [], _∷_}
 use Prim.Native.Nat.{ℕ, _-_}
 use native.Mathlib.Omega.{arith}
 use lib.Dec.{eqb}
-use Rattle.grammar.specs.Tables.{Form, u8, u16, u32, number, text, bytes, pair, Forms, Place, publishPlace, subscribePlace, ackPlace, unsubscribePlace, formAt, Layout, aPublish, anAck, aSubscribe, aReply, anUnsubscribe, aPing, placeAt}
+use Rattle.grammar.specs.Tables.{Form, u8, u16, u32, number, text, bytes, pair, Forms, Row, publishRow, subscribeRow, ackRow, unsubscribeRow, formAt, Layout, aPublish, anAck, aSubscribe, aReply, anUnsubscribe, aPing, rowOfKind}
 use Rattle.grammar.specs.Record.{Val, num, str, duo, PropOf}
 use Rattle.reading.specs.Refusal.{nr, cut}
 use Rattle.reading.specs.Reader.{Fit, got, bad}
@@ -23,21 +23,21 @@ use Rattle.numbers.specs.declared.got.GotU32.{GotU32}
 use Rattle.var_length.specs.declared.GotLength.{GotLength}
 use Rattle.wire.specs.StringRead.{toldPart}
 use Rattle.tables.specs.Qos.{toldGotQos}
-use Rattle.tables.specs.Property.{placeOf, toldForm}
+use Rattle.tables.specs.Property.{tableRow, toldForm}
 use Rattle.wire.specs.declared.got.GotSpan.{GotSpan}
 use Rattle.tables.specs.declared.qos.GotQos.{GotQos}
 use Rattle.tables.specs.declared.property.PropertyForm.{PropertyForm}
-use Rattle.tables.specs.declared.property.PropertyPlace.{PropertyPlace}
-use Rattle.kinds.specs.Kinds.{toldKind, toldPlace}
+use Rattle.tables.specs.declared.property.PropertyRow.{PropertyRow}
+use Rattle.kinds.specs.Kinds.{toldKind, toldRow}
 use Rattle.framing.specs.HeaderRead.{toldHeader, toldChecked, frameAt}
 use Rattle.framing.proofs.Laws as frame
 use Rattle.framing.specs.declared.check.Checked.{Checked}
 use Rattle.kinds.specs.declared.Kind.{Kind}
-use Rattle.kinds.specs.declared.KindPlace.{KindPlace}
+use Rattle.kinds.specs.declared.KindRow.{KindRow}
 use Rattle.property_value.specs.OneProperty.{toldValue, formOf, toldProperty, OfForm, PropertyRead}
 use Rattle.property_value.specs.declared.Value.{Value}
 use Rattle.property_value.specs.declared.GotProperty.{GotProperty}
-use Rattle.given.specs.Kind.{propertyAt, formIn, PropertyGiven}
+use Rattle.c_arguments.specs.Kind.{propertyAt, formIn, PropertyGiven}
 use Rattle.promises.specs.OneResult.{OneResult}
 use Rattle.promises.proofs.OneLaws.{one-by}
 
@@ -164,35 +164,35 @@ pub kind-same : OneResult toldKind
 kind-same = one-by toldKind backKind back-kind
 
 -- 01, table of properties; 02, P1: no two rows begin with the same property
-backRow : Forms → PropertyPlace
-backRow [] = PropertyPlace.Unsubscribe
-backRow (f ∷ fs) = cond (eqb (f .0) 1) PropertyPlace.Publish (cond (eqb (f .0) 11) PropertyPlace.Subscribe (cond (eqb (f .0) 31) PropertyPlace.Ack PropertyPlace.Unsubscribe))
+backRow : Forms → PropertyRow
+backRow [] = PropertyRow.Unsubscribe
+backRow (f ∷ fs) = cond (eqb (f .0) 1) PropertyRow.Publish (cond (eqb (f .0) 11) PropertyRow.Subscribe (cond (eqb (f .0) 31) PropertyRow.Ack PropertyRow.Unsubscribe))
 
-backPlace : Option Place → KindPlace
-backPlace none = KindPlace.NoBlock
-backPlace (some p) = KindPlace.Of (backRow (p .row))
+backPlace : Option Row → KindRow
+backPlace none = KindRow.NoBlock
+backPlace (some p) = KindRow.Of (backRow (p .forms))
 
-back-place : (p : KindPlace) → backPlace (toldPlace p) ≡ p
-unfolding backPlace backRow publishPlace subscribePlace ackPlace unsubscribePlace
-back-place (KindPlace.Of PropertyPlace.Publish) = refl
-back-place (KindPlace.Of PropertyPlace.Subscribe) = refl
-back-place (KindPlace.Of PropertyPlace.Ack) = refl
-back-place (KindPlace.Of PropertyPlace.Unsubscribe) = refl
-back-place KindPlace.NoBlock = refl
+back-place : (p : KindRow) → backPlace (toldRow p) ≡ p
+unfolding backPlace backRow publishRow subscribeRow ackRow unsubscribeRow
+back-place (KindRow.Of PropertyRow.Publish) = refl
+back-place (KindRow.Of PropertyRow.Subscribe) = refl
+back-place (KindRow.Of PropertyRow.Ack) = refl
+back-place (KindRow.Of PropertyRow.Unsubscribe) = refl
+back-place KindRow.NoBlock = refl
 
-pub place-same : OneResult toldPlace
-place-same = one-by toldPlace backPlace back-place
+pub place-same : OneResult toldRow
+place-same = one-by toldRow backPlace back-place
 
-back-row : (p : PropertyPlace) → backRow (placeOf p .row) ≡ p
-unfolding backRow publishPlace subscribePlace ackPlace unsubscribePlace
-back-row PropertyPlace.Publish = refl
-back-row PropertyPlace.Subscribe = refl
-back-row PropertyPlace.Ack = refl
-back-row PropertyPlace.Unsubscribe = refl
+back-row : (p : PropertyRow) → backRow (tableRow p .forms) ≡ p
+unfolding backRow publishRow subscribeRow ackRow unsubscribeRow
+back-row PropertyRow.Publish = refl
+back-row PropertyRow.Subscribe = refl
+back-row PropertyRow.Ack = refl
+back-row PropertyRow.Unsubscribe = refl
 
 -- the place in a walker, which its contracts tell by its row
-pub row-same : OneResult placeOf
-row-same = one-by placeOf (λ (p : Place). backRow (p .row)) back-row
+pub row-same : OneResult tableRow
+row-same = one-by tableRow (λ (p : Row). backRow (p .forms)) back-row
 
 -- ---- headers
 
@@ -266,9 +266,9 @@ typed-same f d (GotProperty.Refused e) (GotProperty.Refused e′) r r′ o o′ 
     let i : bad (toldError e) ≡ bad (toldError e′) = r ∙ sym r′ in
     ap GotProperty.Refused (error-injective (let k : toldError e ≡ toldError e′ = cc in k))
 
-pub property-same : (row : Place) (s : List ℕ) (at : ℕ) (a b : GotProperty) → PropertyRead row s at a → PropertyRead row s at b → a ≡ b
+pub property-same : (row : Row) (s : List ℕ) (at : ℕ) (a b : GotProperty) → PropertyRead row s at a → PropertyRead row s at b → a ≡ b
 property-same row s at a b r r′ = typed-same (formAt row) (toldProperty b) a b (r .says ∙ sym (r′ .says)) refl (r .typed) (r′ .typed)
 
 -- the same by the number of a kind
 pub property-at-same : (kind : ℕ) (s : List ℕ) (at : ℕ) (a b : GotProperty) → PropertyGiven kind s at a → PropertyGiven kind s at b → a ≡ b
-property-at-same kind s at a b r r′ = typed-same (formIn (placeAt kind)) (propertyAt kind s at) a b (r .says) (r′ .says) (r .typed) (r′ .typed)
+property-at-same kind s at a b r r′ = typed-same (formIn (rowOfKind kind)) (propertyAt kind s at) a b (r .says) (r′ .says) (r .typed) (r′ .typed)

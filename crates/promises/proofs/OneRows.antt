@@ -5,7 +5,7 @@ use mathlib.Core.Option.{Option, none, some}
 use mathlib.Core.List.{List, [], _∷_}
 use Prim.Native.Nat.{ℕ}
 use lib.Dec.{eqb}
-use Rattle.grammar.specs.Tables.{Form, Place, formAt, Layout}
+use Rattle.grammar.specs.Tables.{Form, Row, formAt, Layout}
 use Rattle.reading.specs.Refusal.{Refusal, nr}
 use Rattle.reading.specs.Reader.{Fit, got, bad, _>>=_, _>>_, guard}
 use Rattle.tables.specs.Property.{toldForm}
@@ -74,8 +74,8 @@ form-row i PropertyForm.Pair = refl
 form-row i PropertyForm.NotHere = refl
 
 -- of every answer that meets the contract of `property`: 01's row 10, or the form
-pub form-answered : (r : PropertyForm) (place : Place) (i : ℕ) → toldForm r ≡ formAt place i → formTold i r ≡ formAnswer place i
-form-answered r place i e = form-row i r ∙ ap (orRow (nr 10 (i ∷ []))) e
+pub form-answered : (r : PropertyForm) (row : Row) (i : ℕ) → toldForm r ≡ formAt row i → formTold i r ≡ formAnswer row i
+form-answered r row i e = form-row i r ∙ ap (orRow (nr 10 (i ∷ []))) e
 
 abbrev ifGot : Fit Form → Option Form
 ifGot (got f) = some f

@@ -8,8 +8,8 @@ use Rattle.records.specs.declared.span.MaybeU8.{MaybeU8}
 use Rattle.records.specs.declared.span.MaybeU16.{MaybeU16}
 use Rattle.records.specs.declared.span.MaybeU32.{MaybeU32}
 use Rattle.records.specs.AsNumbers.{numberU8, numberU16, numberU32}
-use Rattle.row_tests.specs.Tested.{toldTested}
-use Rattle.row_tests.specs.declared.Tested.{Tested}
+use Rattle.write_tests.specs.Tested.{toldTested}
+use Rattle.write_tests.specs.declared.Tested.{Tested}
 use Rattle.promises.specs.OneResult.{OneResult}
 use Rattle.promises.proofs.OneLaws.{one-by}
 

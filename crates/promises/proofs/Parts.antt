@@ -3,7 +3,7 @@ use mathlib.Core.Path.{_≡_, refl, sym, ap, _∙_}
 use mathlib.Core.Option.{Option, none, some}
 use mathlib.Core.List.{List}
 use Prim.Native.Nat.{ℕ}
-use Rattle.grammar.specs.Tables.{publishPlace, ackPlace, reasonsOf}
+use Rattle.grammar.specs.Tables.{publishRow, ackRow, reasonsOf}
 use Rattle.grammar.specs.Record.{Val, num, str, duo, PublishProps, Props, publish, ack, reply}
 use Rattle.grammar.specs.Record as record-of
 use Rattle.grammar.specs.Sentence.{Value, Packet}
@@ -68,7 +68,7 @@ module _ (s : List ℕ) where
     content : Said (p .content) (q .content)
 
   publish-said : (p : PublishProps Span (λ A. Span)) (q : PublishProps (List ℕ) List) → sayPublishProps s p ≡ got q → PublishSaid p q
-  publish-said p = from-bind (valuesAt asBytes s (p .user) publishPlace 38) _ λ us e. from-bind (valuesAt asBytes s (p .subscriptions) publishPlace 11) _ λ ts i.
+  publish-said p = from-bind (valuesAt asBytes s (p .user) publishRow 38) _ λ us e. from-bind (valuesAt asBytes s (p .subscriptions) publishRow 11) _ λ ts i.
       from-got (PublishSaid p) _ (record { response = refl; correlation = refl; content = refl })
 
   pub publish-parts : (m : Publish) (v : Packet) → say s (toldPacket (code.Packet.Publish m)) ≡ got v → (w : record-of.Publish (List ℕ) List) × (v ≡ publish w) × PublishParts s m w
@@ -88,15 +88,15 @@ module _ (s : List ℕ) where
 
   -- ---- the acknowledgements and replies
 
-  reason-said : (p : Props Span (λ A. Span)) (q : Props (List ℕ) List) → sayProps s ackPlace p ≡ got q → Said (p .reason) (q .reason)
-  reason-said p = from-bind (valuesAt asBytes s (p .user) ackPlace 38) _ λ us e. from-got (λ q. Said (p .reason) (q .reason)) _ refl
+  reason-said : (p : Props Span (λ A. Span)) (q : Props (List ℕ) List) → sayProps s ackRow p ≡ got q → Said (p .reason) (q .reason)
+  reason-said p = from-bind (valuesAt asBytes s (p .user) ackRow 38) _ λ us e. from-got (λ q. Said (p .reason) (q .reason)) _ refl
 
   pub ack-parts : (k : AckKind) (m : Ack) (v : Packet) → say s (toldPacket (code.Packet.Ack k m)) ≡ got v → (w : record-of.Ack (List ℕ) List) × (v ≡ ack (toldAckKind k) w) × ReasonPart s (m .properties) (w .props)
-  ack-parts k m = from-bind (ifSome (sayProps s ackPlace) (toldBlock (m .properties))) _ λ ps e.
+  ack-parts k m = from-bind (ifSome (sayProps s ackRow) (toldBlock (m .properties))) _ λ ps e.
       from-got (λ (v : Packet). (w : record-of.Ack (List ℕ) List) × (v ≡ ack (toldAckKind k) w) × ReasonPart s (m .properties) (w .props)) _
-      (_, refl, record { reason-part = string-says (reason (m .properties)) _ (part-said (λ p. p .reason) (λ q. q .reason) (sayProps s ackPlace) reason-said (toldBlock (m .properties)) ps e) })
+      (_, refl, record { reason-part = string-says (reason (m .properties)) _ (part-said (λ p. p .reason) (λ q. q .reason) (sayProps s ackRow) reason-said (toldBlock (m .properties)) ps e) })
 
   pub reply-parts : (k : ReplyKind) (m : Reply) (v : Packet) → say s (toldPacket (code.Packet.Reply k m)) ≡ got v → (w : record-of.Reply (List ℕ) List) × (v ≡ reply (toldReplyKind k) w) × ReasonPart s (m .properties) (w .props)
-  reply-parts k m = from-bind (ifSome (sayProps s ackPlace) (toldBlock (m .properties))) _ λ ps e. from-bind (again (reasonsFit (reasonsOf (toldReplyKind k))) s (toldSpan (m .reasons))) _ λ cs i.
+  reply-parts k m = from-bind (ifSome (sayProps s ackRow) (toldBlock (m .properties))) _ λ ps e. from-bind (again (reasonsFit (reasonsOf (toldReplyKind k))) s (toldSpan (m .reasons))) _ λ cs i.
       from-got (λ (v : Packet). (w : record-of.Reply (List ℕ) List) × (v ≡ reply (toldReplyKind k) w) × ReasonPart s (m .properties) (w .props)) _
-      (_, refl, record { reason-part = string-says (reason (m .properties)) _ (part-said (λ p. p .reason) (λ q. q .reason) (sayProps s ackPlace) reason-said (toldBlock (m .properties)) ps e) })
+      (_, refl, record { reason-part = string-says (reason (m .properties)) _ (part-said (λ p. p .reason) (λ q. q .reason) (sayProps s ackRow) reason-said (toldBlock (m .properties)) ps e) })

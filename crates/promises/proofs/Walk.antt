@@ -10,7 +10,7 @@ use lib.Dec.{leb, leb→le}
 use lib.ListN.{length, take, drop}
 use lib.Seq.{length-take-le}
 use borrow.Author.Tests.{leb-false}
-use Rattle.grammar.specs.Tables.{Place, publishPlace, subscribePlace, ackPlace, unsubscribePlace, reasonsOf, kinds, placeAt}
+use Rattle.grammar.specs.Tables.{Row, publishRow, subscribeRow, ackRow, unsubscribeRow, reasonsOf, kinds, rowOfKind}
 use Rattle.grammar.specs.Record.{PropOf, allOf, PublishProps, Props, publish, ack, subscribe, reply, unsubscribe}
 use Rattle.grammar.specs.Record as record-of
 use Rattle.grammar.specs.Sentence.{Value, Prop, someOf, Packet}
@@ -23,8 +23,8 @@ use Rattle.reading.proofs.Reading.{bad-got, got-inj, from-got, from-bind, from-
 use Rattle.reading.proofs.Forget.{Like, gots, bads, Reading}
 use Rattle.reading.proofs.Places.{properties-says, filters-says, topics-says}
 use Rattle.reading.proofs.Items.{again-like, all-says, if-some}
-use Rattle.given.specs.UpTo.{upTo}
-use Rattle.given.proofs.UpTo.{up-within}
+use Rattle.c_arguments.specs.UpTo.{upTo}
+use Rattle.c_arguments.proofs.UpTo.{up-within}
 use Rattle.positions.specs.Position.{fromAt}
 use Rattle.positions.proofs.At.{part-slice}
 use Rattle.positions.proofs.Less.{text-less, property-less, once-many, filter-less}
@@ -123,7 +123,7 @@ module _ {A : Type 0} (p : ℕ → Reader A) (L : (end : ℕ) → Less end (p en
 
 module _ (s : List ℕ) (p : Span) where
   -- header, `ecch_property`: the properties of the block at a place
-  pub properties-walk : (row : Place) (ps : List (PropOf Span)) → again (propertiesFit asPlaces row) s p ≡ got ps → Walks (λ t. fromAt (propertyOf asPlaces row (length t)) t) s p ps
+  pub properties-walk : (row : Row) (ps : List (PropOf Span)) → again (propertiesFit asPlaces row) s p ≡ got ps → Walks (λ t. fromAt (propertyOf asPlaces row (length t)) t) s p ps
   unfolding propertiesFit
   properties-walk row ps e =
       let (h, i) = again-got (propertiesFit asPlaces row) s p ps e in
@@ -159,7 +159,7 @@ like-there _ _ b bads i = absurd (bad-got i)
 module _ (s : List ℕ) where
   -- ---- what is read in bytes at a place is walked there, and said
 
-  block-walk : (row : Place) (p : Span) (qs : List Prop) → again (propertiesFit asBytes row) s p ≡ got qs
+  block-walk : (row : Row) (p : Span) (qs : List Prop) → again (propertiesFit asBytes row) s p ≡ got qs
       → (ps : List (PropOf Span)) × Walks (λ t. fromAt (propertyOf asPlaces row (length t)) t) s p ps × ((i : ℕ) → map (sayVal s) (allOf i ps) ≡ allOf i qs)
   block-walk row p qs e =
       let (ps, j, r) = like-there (again (propertiesFit asPlaces row) s p) (again (propertiesFit asBytes row) s p) qs (again-like s (properties-says s row) p) e in
@@ -175,28 +175,28 @@ module _ (s : List ℕ) where
       let (gs, j, r) = like-there (again (topicsFit asPlaces) s p) (again (topicsFit asBytes) s p) ts (again-like s (topics-says s) p) e in
       (gs, topics-walk s p gs j, r)
 
-  user-walk : (kind : ℕ) (row : Place) → placeAt kind ≡ some row → (p : Span) (us : List Value) → valuesAt asBytes s p row 38 ≡ got us → UserWalk kind s p us
+  user-walk : (kind : ℕ) (row : Row) → rowOfKind kind ≡ some row → (p : Span) (us : List Value) → valuesAt asBytes s p row 38 ≡ got us → UserWalk kind s p us
   unfolding valuesAt
   user-walk kind row h p = from-bind (again (propertiesFit asBytes row) s p) _ λ qs e.
       let (ps, w, l) = block-walk row p qs e in
       from-got (UserWalk kind s p) (allOf 38 qs) (ps, rw h w, l 38)
 
   publish-block-walk : (p : PublishProperties) (qs : PublishProps (List ℕ) List) → sayPublishProps s (toldPublishProperties p) ≡ got qs → PublishWalk s (toldSpan (p .block)) (qs .user) (qs .subscriptions)
-  unfolding valuesAt placeAt kinds
-  publish-block-walk p = go (again (propertiesFit asBytes publishPlace) s (toldSpan (p .block))) refl
+  unfolding valuesAt rowOfKind kinds
+  publish-block-walk p = go (again (propertiesFit asBytes publishRow) s (toldSpan (p .block))) refl
     where
-      go : (m : Fit (List Prop)) → again (propertiesFit asBytes publishPlace) s (toldSpan (p .block)) ≡ m → (qs : PublishProps (List ℕ) List) → sayPublishProps s (toldPublishProperties p) ≡ got qs
+      go : (m : Fit (List Prop)) → again (propertiesFit asBytes publishRow) s (toldSpan (p .block)) ≡ m → (qs : PublishProps (List ℕ) List) → sayPublishProps s (toldPublishProperties p) ≡ got qs
           → PublishWalk s (toldSpan (p .block)) (qs .user) (qs .subscriptions)
       go (got vs) e qs f =
-          let (ps, w, l) = block-walk publishPlace (toldSpan (p .block)) vs e in
+          let (ps, w, l) = block-walk publishRow (toldSpan (p .block)) vs e in
           from-got (λ (z : PublishProps (List ℕ) List). PublishWalk s (toldSpan (p .block)) (z .user) (z .subscriptions)) _ (ps, w, l 38, l 11) qs (rw e at f)
       go (bad k) e qs f = absurd (bad-got (rw e at f))
 
-  props-walk : (kind : ℕ) (row : Place) → placeAt kind ≡ some row → (p : Properties) (qs : Props (List ℕ) List) → sayProps s row (toldProperties p) ≡ got qs → UserWalk kind s (toldSpan (p .block)) (qs .user)
+  props-walk : (kind : ℕ) (row : Row) → rowOfKind kind ≡ some row → (p : Properties) (qs : Props (List ℕ) List) → sayProps s row (toldProperties p) ≡ got qs → UserWalk kind s (toldSpan (p .block)) (qs .user)
   props-walk kind row h p = from-bind (valuesAt asBytes s (toldSpan (p .block)) row 38) _ λ us e.
       from-got (λ (qs : Props (List ℕ) List). UserWalk kind s (toldSpan (p .block)) (qs .user)) _ (user-walk kind row h (toldSpan (p .block)) us e)
 
-  block-walks : (kind : ℕ) (row : Place) → placeAt kind ≡ some row → {w : Option (Props (List ℕ) List)} (b : MaybeProperties) (p : Properties) → OnBoth (Reading (sayProps s row)) (toldBlock b) w → b ≡ MaybeProperties.Present p
+  block-walks : (kind : ℕ) (row : Row) → rowOfKind kind ≡ some row → {w : Option (Props (List ℕ) List)} (b : MaybeProperties) (p : Properties) → OnBoth (Reading (sayProps s row)) (toldBlock b) w → b ≡ MaybeProperties.Present p
       → (qs : Props (List ℕ) List) × (w ≡ some qs) × UserWalk kind s (toldSpan (p .block)) (qs .user)
   block-walks kind row h b p o f =
       let (qs, k, l) = present o (toldProperties p) (ap toldBlock f) in
@@ -211,39 +211,39 @@ module _ (s : List ℕ) where
       (_, refl, if-some (sayPublishProps s) (λ a b h. h) (m .props) ps e)
 
   says-ack : (k : ℕ) (m : record-of.Ack Span (λ A. Span)) (v : Packet) → say s (ack k m) ≡ got v
-      → (w : record-of.Ack (List ℕ) List) × (v ≡ ack k w) × OnBoth (Reading (sayProps s ackPlace)) (m .props) (w .props)
-  says-ack k m = from-bind (ifSome (sayProps s ackPlace) (m .props)) _ λ ps e.
-      from-got (λ (v : Packet). (w : record-of.Ack (List ℕ) List) × (v ≡ ack k w) × OnBoth (Reading (sayProps s ackPlace)) (m .props) (w .props)) _
-      (_, refl, if-some (sayProps s ackPlace) (λ a b h. h) (m .props) ps e)
+      → (w : record-of.Ack (List ℕ) List) × (v ≡ ack k w) × OnBoth (Reading (sayProps s ackRow)) (m .props) (w .props)
+  says-ack k m = from-bind (ifSome (sayProps s ackRow) (m .props)) _ λ ps e.
+      from-got (λ (v : Packet). (w : record-of.Ack (List ℕ) List) × (v ≡ ack k w) × OnBoth (Reading (sayProps s ackRow)) (m .props) (w .props)) _
+      (_, refl, if-some (sayProps s ackRow) (λ a b h. h) (m .props) ps e)
 
   says-subscribe : (m : record-of.Subscribe Span (λ A. Span)) (v : Packet) → say s (subscribe m) ≡ got v
-      → (w : record-of.Subscribe (List ℕ) List) × (v ≡ subscribe w) × OnBoth (Reading (sayProps s subscribePlace)) (m .props) (w .props) × FilterWalk s (m .filters) (w .filters)
-  says-subscribe m = from-bind (ifSome (sayProps s subscribePlace) (m .props)) _ λ ps e. from-bind (again (filtersFit asBytes) s (m .filters)) _ λ fs e′.
-      from-got (λ (v : Packet). (w : record-of.Subscribe (List ℕ) List) × (v ≡ subscribe w) × OnBoth (Reading (sayProps s subscribePlace)) (m .props) (w .props) × FilterWalk s (m .filters) (w .filters)) _
-      (_, refl, if-some (sayProps s subscribePlace) (λ a b h. h) (m .props) ps e, run-walk (m .filters) fs e′)
+      → (w : record-of.Subscribe (List ℕ) List) × (v ≡ subscribe w) × OnBoth (Reading (sayProps s subscribeRow)) (m .props) (w .props) × FilterWalk s (m .filters) (w .filters)
+  says-subscribe m = from-bind (ifSome (sayProps s subscribeRow) (m .props)) _ λ ps e. from-bind (again (filtersFit asBytes) s (m .filters)) _ λ fs e′.
+      from-got (λ (v : Packet). (w : record-of.Subscribe (List ℕ) List) × (v ≡ subscribe w) × OnBoth (Reading (sayProps s subscribeRow)) (m .props) (w .props) × FilterWalk s (m .filters) (w .filters)) _
+      (_, refl, if-some (sayProps s subscribeRow) (λ a b h. h) (m .props) ps e, run-walk (m .filters) fs e′)
 
   says-reply : (k : ℕ) (m : record-of.Reply Span (λ A. Span)) (v : Packet) → say s (reply k m) ≡ got v
-      → (w : record-of.Reply (List ℕ) List) × (v ≡ reply k w) × OnBoth (Reading (sayProps s ackPlace)) (m .props) (w .props)
-  says-reply k m = from-bind (ifSome (sayProps s ackPlace) (m .props)) _ λ ps e. from-bind (again (reasonsFit (reasonsOf k)) s (m .reasons)) _ λ fs e′.
-      from-got (λ (v : Packet). (w : record-of.Reply (List ℕ) List) × (v ≡ reply k w) × OnBoth (Reading (sayProps s ackPlace)) (m .props) (w .props)) _
-      (_, refl, if-some (sayProps s ackPlace) (λ a b h. h) (m .props) ps e)
+      → (w : record-of.Reply (List ℕ) List) × (v ≡ reply k w) × OnBoth (Reading (sayProps s ackRow)) (m .props) (w .props)
+  says-reply k m = from-bind (ifSome (sayProps s ackRow) (m .props)) _ λ ps e. from-bind (again (reasonsFit (reasonsOf k)) s (m .reasons)) _ λ fs e′.
+      from-got (λ (v : Packet). (w : record-of.Reply (List ℕ) List) × (v ≡ reply k w) × OnBoth (Reading (sayProps s ackRow)) (m .props) (w .props)) _
+      (_, refl, if-some (sayProps s ackRow) (λ a b h. h) (m .props) ps e)
 
   says-unsubscribe : (m : record-of.Unsubscribe Span (λ A. Span)) (v : Packet) → say s (unsubscribe m) ≡ got v
-      → (w : record-of.Unsubscribe (List ℕ) List) × (v ≡ unsubscribe w) × OnBoth (Reading (sayProps s unsubscribePlace)) (m .props) (w .props) × TopicWalk s (m .topics) (w .topics)
-  says-unsubscribe m = from-bind (ifSome (sayProps s unsubscribePlace) (m .props)) _ λ ps e. from-bind (again (topicsFit asBytes) s (m .topics)) _ λ fs e′.
-      from-got (λ (v : Packet). (w : record-of.Unsubscribe (List ℕ) List) × (v ≡ unsubscribe w) × OnBoth (Reading (sayProps s unsubscribePlace)) (m .props) (w .props) × TopicWalk s (m .topics) (w .topics)) _
-      (_, refl, if-some (sayProps s unsubscribePlace) (λ a b h. h) (m .props) ps e, topic-run-walk (m .topics) fs e′)
+      → (w : record-of.Unsubscribe (List ℕ) List) × (v ≡ unsubscribe w) × OnBoth (Reading (sayProps s unsubscribeRow)) (m .props) (w .props) × TopicWalk s (m .topics) (w .topics)
+  says-unsubscribe m = from-bind (ifSome (sayProps s unsubscribeRow) (m .props)) _ λ ps e. from-bind (again (topicsFit asBytes) s (m .topics)) _ λ fs e′.
+      from-got (λ (v : Packet). (w : record-of.Unsubscribe (List ℕ) List) × (v ≡ unsubscribe w) × OnBoth (Reading (sayProps s unsubscribeRow)) (m .props) (w .props) × TopicWalk s (m .topics) (w .topics)) _
+      (_, refl, if-some (sayProps s unsubscribeRow) (λ a b h. h) (m .props) ps e, topic-run-walk (m .topics) fs e′)
 
 -- the rows of the kinds that share a layout
-ack-row : (k : AckKind) → placeAt (toldAckKind k) ≡ some ackPlace
-unfolding placeAt kinds
+ack-row : (k : AckKind) → rowOfKind (toldAckKind k) ≡ some ackRow
+unfolding rowOfKind kinds
 ack-row AckKind.PubAck = refl
 ack-row AckKind.PubRec = refl
 ack-row AckKind.PubRel = refl
 ack-row AckKind.PubComp = refl
 
-reply-row : (k : ReplyKind) → placeAt (toldReplyKind k) ≡ some ackPlace
-unfolding placeAt kinds
+reply-row : (k : ReplyKind) → rowOfKind (toldReplyKind k) ≡ some ackRow
+unfolding rowOfKind kinds
 reply-row ReplyKind.SubAck = refl
 reply-row ReplyKind.UnsubAck = refl
 
@@ -266,17 +266,17 @@ module _ (limit : Limit) (s : List ℕ) (r : Read) (h : Meets limit s r) (o : Bo
   ack-walk k m p e f =
       let (v, i, a) = record-says limit s r h (code.Packet.Ack k m) o n e in
       let (w, j, b) = says-ack s (toldAckKind k) (toldAck m) v i in
-      let (qs, k′, l) = block-walks s (toldAckKind k) ackPlace (ack-row k) (m .properties) p b f in
+      let (qs, k′, l) = block-walks s (toldAckKind k) ackRow (ack-row k) (m .properties) p b f in
       (w, qs, subst (λ (x : Packet). Says s r (accepted x n)) j a, k′, l)
 
   -- user properties of a Subscribe that has a block
   pub subscribe-walk : (m : Subscribe) (p : Properties) → r ≡ Read.Packet (code.Packet.Subscribe m) o n → m .properties ≡ MaybeProperties.Present p
       → (w : record-of.Subscribe (List ℕ) List) × (qs : Props (List ℕ) List) × Says s r (accepted (subscribe w) n) × (w .props ≡ some qs) × UserWalk 8 s (toldSpan (p .block)) (qs .user)
-  unfolding placeAt kinds
+  unfolding rowOfKind kinds
   subscribe-walk m p e f =
       let (v, i, a) = record-says limit s r h (code.Packet.Subscribe m) o n e in
       let (w, j, b, g) = says-subscribe s (toldSubscribe m) v i in
-      let (qs, k′, l) = block-walks s 8 subscribePlace refl (m .properties) p b f in
+      let (qs, k′, l) = block-walks s 8 subscribeRow refl (m .properties) p b f in
       (w, qs, subst (λ (x : Packet). Says s r (accepted x n)) j a, k′, l)
 
   -- user properties of a SubAck or UnsubAck that has a block
@@ -285,17 +285,17 @@ module _ (limit : Limit) (s : List ℕ) (r : Read) (h : Meets limit s r) (o : Bo
   reply-walk k m p e f =
       let (v, i, a) = record-says limit s r h (code.Packet.Reply k m) o n e in
       let (w, j, b) = says-reply s (toldReplyKind k) (toldReply m) v i in
-      let (qs, k′, l) = block-walks s (toldReplyKind k) ackPlace (reply-row k) (m .properties) p b f in
+      let (qs, k′, l) = block-walks s (toldReplyKind k) ackRow (reply-row k) (m .properties) p b f in
       (w, qs, subst (λ (x : Packet). Says s r (accepted x n)) j a, k′, l)
 
   -- user properties of an Unsubscribe that has a block
   pub unsubscribe-walk : (m : Unsubscribe) (p : Properties) → r ≡ Read.Packet (code.Packet.Unsubscribe m) o n → m .properties ≡ MaybeProperties.Present p
       → (w : record-of.Unsubscribe (List ℕ) List) × (qs : Props (List ℕ) List) × Says s r (accepted (unsubscribe w) n) × (w .props ≡ some qs) × UserWalk 10 s (toldSpan (p .block)) (qs .user)
-  unfolding placeAt kinds
+  unfolding rowOfKind kinds
   unsubscribe-walk m p e f =
       let (v, i, a) = record-says limit s r h (code.Packet.Unsubscribe m) o n e in
       let (w, j, b, g) = says-unsubscribe s (toldUnsubscribe m) v i in
-      let (qs, k′, l) = block-walks s 10 unsubscribePlace refl (m .properties) p b f in
+      let (qs, k′, l) = block-walks s 10 unsubscribeRow refl (m .properties) p b f in
       (w, qs, subst (λ (x : Packet). Says s r (accepted x n)) j a, k′, l)
 
   -- filters of a Subscribe

@@ -4,7 +4,7 @@ use mathlib.Core.List.{List, _∷_, _++_}
 use Prim.Native.Nat.{ℕ, _+_, _≤_}
 use lib.ListN.{length}
 use Rattle.grammar.specs.Gram.{Gram, Only, Many}
-use Rattle.grammar.specs.Tables.{Place, publishPlace}
+use Rattle.grammar.specs.Tables.{Row, publishRow}
 use Rattle.grammar.specs.Record.{allOf}
 use Rattle.grammar.specs.Record as record-of
 use Rattle.grammar.specs.Sentence.{Value, Properties, Text, FilterOf, ReasonOf, someOf}
@@ -21,12 +21,12 @@ abbrev pub HasItem : {A B : Type 0} → Gram (List A) → (List A → List B) �
 HasItem {A = A} G kept s p n v = (l : List A) × (p .start + p .len ≤ length s) × G l (partOf s (toldSpan p)) × IsNth n (kept l) v
 
 -- 01, row 21: "a well-formed block of the kind asked", by its row of the table, whose n-th user property is v
-abbrev pub HasUser : Place → List ℕ → Span → ℕ → Value → Type 0
+abbrev pub HasUser : Row → List ℕ → Span → ℕ → Value → Type 0
 HasUser row = HasItem (Properties row) (allOf 38)
 
 -- the same of the subscription identifiers of a Publish block
 abbrev pub HasIdentifier : List ℕ → Span → ℕ → Value → Type 0
-HasIdentifier = HasItem (Properties publishPlace) (allOf 11)
+HasIdentifier = HasItem (Properties publishRow) (allOf 11)
 
 -- 01, row 21: "or filter run", whose n-th filter is f
 abbrev pub HasFilter : List ℕ → Span → ℕ → record-of.Filter (List ℕ) → Type 0

@@ -5,7 +5,7 @@ use mathlib.Core.Option.{Option, none, some}
 use mathlib.Core.List.{[], _∷_}
 use Prim.Native.Nat.{ℕ}
 use Rattle.grammar.specs.Choice.{isIn, lookup}
-use Rattle.grammar.specs.Tables.{Form, u8, u16, u32, number, text, bytes, pair, Place, formAt, Layout, aPublish, anAck, aSubscribe, aReply, anUnsubscribe, aPing, kinds, reserved, reasonsOf}
+use Rattle.grammar.specs.Tables.{Form, u8, u16, u32, number, text, bytes, pair, Row, formAt, Layout, aPublish, anAck, aSubscribe, aReply, anUnsubscribe, aPing, kinds, reserved, reasonsOf}
 use Rattle.reading.specs.Refusal.{Refusal, nr}
 use Rattle.reading.specs.Reader.{Fit, got, bad, _>>=_, _>>_, guard}
 use Rattle.records.specs.AsNumbers.{toldAckKind, toldReplyKind}
@@ -52,5 +52,5 @@ formTold i PropertyForm.Pair = got pair
 formTold i PropertyForm.NotHere = bad (nr 10 (i ∷ []))
 
 -- 01, row 10: "identifier not in its place's row"
-abbrev pub formAnswer : Place → ℕ → Fit Form
-formAnswer place i = orRow (nr 10 (i ∷ [])) (formAt place i)
+abbrev pub formAnswer : Row → ℕ → Fit Form
+formAnswer row i = orRow (nr 10 (i ∷ [])) (formAt row i)

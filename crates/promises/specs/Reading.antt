@@ -4,7 +4,7 @@ use mathlib.Core.Option.{Option}
 use mathlib.Core.List.{List}
 use Prim.Native.Nat.{ℕ}
 use denote.Ref.{RefT, now}
-use Rattle.grammar.specs.Tables.{Place}
+use Rattle.grammar.specs.Tables.{Row}
 use Rattle.grammar.specs.Record as record-of
 use Rattle.grammar.specs.Sentence.{Value}
 use Rattle.reading.specs.Place.{nthOf, onGot, heldOf, sayVal, sayFilter}
@@ -55,7 +55,7 @@ pub record ReasonPart (s : List ℕ) (properties : MaybeProperties) (w : Option 
 
 -- 01: "a way to get the n-th pair, identifier or filter, n from 0": every answer that meets the contract of `items::user_property`, of the
 -- block b in a row of 01's table, says the k-th of vs, and 21 past the last
-abbrev pub UserItems : List ℕ → Place → Span → List Value → Type 0
+abbrev pub UserItems : List ℕ → Row → Span → List Value → Type 0
 UserItems s place b vs = (k : ℕ) (u : UserItem) → NthUser place s b k u → onGot (sayVal s) (toldUser u) ≡ nthOf k vs
 
 -- the same of `items::subscription_identifier`

@@ -9,8 +9,8 @@ use Rattle.reading.specs.Reader.{Fit, got}
 use Rattle.reading.specs.Read.{textOf, filterOf}
 use Rattle.reading.specs.Place.{Span, asPlaces, heldOf, sayVal, sayFilter}
 use Rattle.positions.specs.Position.{fromAt}
-use Rattle.given.specs.Kind.{propertyAt}
-use Rattle.given.specs.UpTo.{upTo}
+use Rattle.c_arguments.specs.Kind.{propertyAt}
+use Rattle.c_arguments.specs.UpTo.{upTo}
 
 -- header: "the item begins where the last one ended, and the last one ends at that end"; no item begins there or behind it
 pub data Walked {A : Type 0} (item : ℕ → Fit (A × ℕ)) (end : ℕ) : ℕ → List A → Type 0 where

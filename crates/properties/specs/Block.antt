@@ -5,7 +5,7 @@ use mathlib.Core.List.{List, [], _∷_}
 use Prim.Native.Nat.{ℕ}
 use lib.ListN.{length, drop}
 use Rattle.grammar.specs.Choice.{lookup, isSome}
-use Rattle.grammar.specs.Tables.{Place, publishPlace}
+use Rattle.grammar.specs.Tables.{Row, publishRow}
 use Rattle.grammar.specs.Record.{PropOf, lastFrom, PublishProps, publishProps, Props, propsOf}
 use Rattle.grammar.specs.Sentence.{met}
 use Rattle.reading.specs.Refusal.{cut, crossed}
@@ -32,8 +32,8 @@ orFalse (some b) = b
 -- a row of 01's table, and its record: `made p ps` of the properties ps whose block is at p, `more o ps` of ps behind those of o, `has o i`
 -- whether o has the single-valued property i (02, P9).
 -- That `more` is `made` property by property is proved (proofs/Laws/Fold, Lawful)
-pub record Row : Type 1 where
-  pub place : Place
+pub record RowRecord : Type 1 where
+  pub row : Row
   pub Props : Type 0
   pub made : Span → List (PropOf Span) → Props
   pub more : Props → List (PropOf Span) → Props
@@ -48,9 +48,9 @@ abbrev pub publishSaid : PublishProps Span (λ A. Span) → List (ℕ × Bool)
 publishSaid o = (1, isSome (o .format)) ∷ (2, isSome (o .expiry)) ∷ (35, isSome (o .alias)) ∷ (8, isSome (o .response)) ∷ (9, isSome (o .correlation)) ∷ (3, isSome (o .content)) ∷ []
 
 -- 01, table of properties, row Publish; the lists stay where they are
-abbrev pub publishRow : Row
-publishRow = record {
-  place = publishPlace;
+abbrev pub publishRecord : RowRecord
+publishRecord = record {
+  row = publishRow;
   Props = PublishProps Span (λ A. Span);
   made = λ p. publishProps Span (λ A. Span) (λ vs. p);
   more = λ o ps. record {
@@ -71,23 +71,23 @@ abbrev pub propsSaid : Props Span (λ A. Span) → List (ℕ × Bool)
 propsSaid o = (31, isSome (o .reason)) ∷ (11, isSome (o .ident)) ∷ []
 
 -- 01, table of properties: any other place
-abbrev pub propsRow : Place → Row
-propsRow place = record {
-  place = place;
+abbrev pub propsRow : Row → RowRecord
+propsRow row = record {
+  row = row;
   Props = Props Span (λ A. Span);
   made = λ p. propsOf Span (λ A. Span) (λ vs. p);
   more = λ o ps. record { reason = lastFrom (o .reason) 31 ps; ident = lastFrom (o .ident) 11 ps; user = o .user };
   has = λ o. saidOf (propsSaid o);
 }
 
-module _ (w : Row) where
+module _ (w : RowRecord) where
   -- one property more
   abbrev pub applied : w .Props → PropOf Span → w .Props
   applied o a = w .more o (a ∷ [])
 
   -- a loop over the properties of s from index `at` to its end, o before them, of which σ may not come again
   unfoldable pub loopFrom : w .Props → List ℕ → List ℕ → ℕ → Fit (w .Props)
-  loopFrom o σ s at = foldFit (met (w .place)) (onceOf asPlaces (w .place) (length s)) applied o σ (drop at s)
+  loopFrom o σ s at = foldFit (met (w .row)) (onceOf asPlaces (w .row) (length s)) applied o σ (drop at s)
 
   -- the block at p, which ends where s does: the record, and the index after the block
   unfoldable pub filledAt : List ℕ → Span → Fit (Option (w .Props) × ℕ)
@@ -95,7 +95,7 @@ module _ (w : Row) where
 
 -- ---- answers: the properties, if there are any, and the index after the block; or the refusal
 
--- 01, table of properties: any place but Publish's
+-- 01, table of properties: any row but Publish's
 abbrev pub toldBlockAt : GotBlock → Fit (Option (Props Span (λ A. Span)) × ℕ)
 toldBlockAt (GotBlock.Value p n) = got (toldBlock p, n)
 toldBlockAt (GotBlock.Refused e) = bad (toldError e)

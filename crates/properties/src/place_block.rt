@@ -21,7 +21,7 @@ ghost use Rattle.reading.specs.Place.{asPlaces};
 ghost use Rattle.positions.specs.Position.{fromAt};
 ghost use Rattle.records.specs.AsNumbers.{toldSpan};
 ghost use Rattle.records.specs.Said.{toldProperties};
-ghost use Rattle.tables.specs.Property.{placeOf, otherOf};
+ghost use Rattle.tables.specs.Property.{tableRow, otherOf};
 ghost use Rattle.property_value.specs.OneProperty.{toldValue, formOf};
 ghost use Rattle.properties.specs.Block.{saidOf, propsSaid, propsRow, applied, filledAt, toldBlockAt};
 
@@ -32,9 +32,9 @@ pub enum GotBlock {
 }
 
 // One property more: 31 is a text and 11 a number wherever they stand, and the record keeps no other.
-fn apply(place: OtherPlace, p: Properties, k: u8, v: Value) -> Properties
-    requires { ⌜ formAt (placeOf (otherOf place)) k ≡ some (formOf v) ⌝ }
-    ensures { λ r. ⌜ toldProperties r ≡ applied (propsRow (placeOf (otherOf place))) (toldProperties p) (k, toldValue v) ⌝ }
+fn apply(row: OtherPlace, p: Properties, k: u8, v: Value) -> Properties
+    requires { ⌜ formAt (tableRow (otherOf row)) k ≡ some (formOf v) ⌝ }
+    ensures { λ r. ⌜ toldProperties r ≡ applied (propsRow (tableRow (otherOf row))) (toldProperties p) (k, toldValue v) ⌝ }
 {
     match v {
         Value::Text(x) => {
@@ -86,8 +86,8 @@ fn has(p: Properties, k: u8) -> bool
 
 // The block that stands at `block`, which ends where the slice does: no read goes past it (D2). The single values, and the place of the lists;
 // 22 where a single one is met again, or the first refusal.
-pub fn fill(place: OtherPlace, s: &[u8], block: Span) -> GotBlock
-    ensures { λ r. ⌜ toldBlockAt r ≡ filledAt (propsRow (placeOf (otherOf place))) (now (s .entry)) (toldSpan block) ⌝ }
+pub fn fill(row: OtherPlace, s: &[u8], block: Span) -> GotBlock
+    ensures { λ r. ⌜ toldBlockAt r ≡ filledAt (propsRow (tableRow (otherOf row))) (now (s .entry)) (toldSpan block) ⌝ }
 {
     let mut p = Properties {
         reason_string: MaybeSpan::Absent,
@@ -100,9 +100,9 @@ pub fn fill(place: OtherPlace, s: &[u8], block: Span) -> GotBlock
         if has(p, first) {
             return GotBlock::Refused(Error::DuplicateProperty(first));
         }
-        match property_value::read_property(property::as_place(place), s, at) {
+        match property_value::read_property(property::as_place(row), s, at) {
             GotProperty::Found(k, v, next) => {
-                p = apply(place, p, k, v);
+                p = apply(row, p, k, v);
                 at = next;
             }
             GotProperty::Refused(e) => {
@@ -114,8 +114,8 @@ pub fn fill(place: OtherPlace, s: &[u8], block: Span) -> GotBlock
 }
 
 // The block of a place at index `at`: its L, and its properties; absent where L is 0.
-pub fn read_block(place: OtherPlace, s: &[u8], at: usize) -> GotBlock
-    ensures { λ r. ⌜ toldBlockAt r ≡ fromAt (blockOf asPlaces (placeOf (otherOf place)) (propsAs asPlaces) (length (now (s .entry)))) (now (s .entry)) at ⌝ }
+pub fn read_block(row: OtherPlace, s: &[u8], at: usize) -> GotBlock
+    ensures { λ r. ⌜ toldBlockAt r ≡ fromAt (blockOf asPlaces (tableRow (otherOf row)) (propsAs asPlaces) (length (now (s .entry)))) (now (s .entry)) at ⌝ }
 {
     match block::read_room(s, at) {
         GotSpan::Refused(e) => GotBlock::Refused(e),
@@ -123,7 +123,7 @@ pub fn read_block(place: OtherPlace, s: &[u8], at: usize) -> GotBlock
             if block.len == 0 {
                 return GotBlock::Value(MaybeProperties::Absent, end);
             }
-            fill(place, &s[..end], block)
+            fill(row, &s[..end], block)
         }
     }
 }

@@ -5,7 +5,7 @@ use mathlib.Core.List.{List, [], _∷_}
 use Prim.Native.Nat.{ℕ, _-_, _<_}
 use native.Mathlib.Omega.{arith}
 use lib.ListN.{length, drop, length-drop}
-use Rattle.grammar.specs.Tables.{Form, u8, u16, u32, number, text, bytes, pair, Place, formAt}
+use Rattle.grammar.specs.Tables.{Form, u8, u16, u32, number, text, bytes, pair, Row, formAt}
 use Rattle.grammar.specs.Record.{Val, num, str, PropOf}
 use Rattle.grammar.specs.Sentence.{duoOf, notZero}
 use Rattle.reading.specs.Refusal.{Refusal, nr, cut}
@@ -177,7 +177,7 @@ unfolding byteOf
 byte-cons [] k r e = absurd (bad-got e)
 byte-cons (x ∷ l) k r e = from-got (λ (z : ℕ × List ℕ). x ∷ l ≡ z .0 ∷ z .1) (x, l) refl (k, r) e
 
-module _ (row : Place) (s : List ℕ) (at : ℕ) where
+module _ (row : Row) (s : List ℕ) (at : ℕ) where
   no-byte : (l : List ℕ) (k : Refusal) → byteOf cut l ≡ bad k → propertyOf asPlaces row (length s) l ≡ bad k
   unfolding byteOf propertyOf
   no-byte [] k e = let h : cut ≡ k = cc in ap bad h
@@ -215,7 +215,7 @@ module _ (row : Place) (s : List ℕ) (at : ℕ) where
 
 -- ---- a property takes a byte at least
 
-module _ (row : Place) (s : List ℕ) (at : ℕ) (a : PropOf Span) (n : ℕ) (e : got (a, n) ≡ fromAt (propertyOf asPlaces row (length s)) s at) where
+module _ (row : Row) (s : List ℕ) (at : ℕ) (a : PropOf Span) (n : ℕ) (e : got (a, n) ≡ fromAt (propertyOf asPlaces row (length s)) s at) where
   pub property-left : propertyOf asPlaces row (length s) (drop at s) ≡ got (a, drop n s)
   property-left = got-left (propertyOf asPlaces row (length s)) s at (trails-property asPlaces (length s) row) a n (sym e)
 

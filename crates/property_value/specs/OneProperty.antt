@@ -59,18 +59,18 @@ pub record ValueRead (o : Option tables.Form) (k : ℕ) (s : List ℕ) (at : ℕ
   pub typed : OfForm (λ _. o) r
 
 -- the property at index `at` of s, in the row of a kind of packet
-pub record PropertyRead (row : tables.Place) (s : List ℕ) (at : ℕ) (r : GotProperty) : Type 0 where
+pub record PropertyRead (row : tables.Row) (s : List ℕ) (at : ℕ) (r : GotProperty) : Type 0 where
   pub says : toldProperty r ≡ fromAt (propertyOf asPlaces row (length s)) s at
   pub typed : OfForm (tables.formAt row) r
 
 -- 01, grammar: "38, and 11 in Publish, are lists kept in order": their entries in row Publish
-abbrev pub publishLists : tables.Place
-publishLists = record { row = (38, tables.pair) ∷ (11, tables.number) ∷ []; lists = 38 ∷ 11 ∷ [] }
+abbrev pub publishLists : tables.Row
+publishLists = record { forms = (38, tables.pair) ∷ (11, tables.number) ∷ []; lists = 38 ∷ 11 ∷ [] }
 
 -- the index after a value of the form f at `start`; `at` if none stands there
 pub record ValuePassed (f : tables.Form) (k : ℕ) (s : List ℕ) (at start r : ℕ) : Type 0 where
   pub says : r ≡ nextOr at (fromAt (valueAt asPlaces (some f) k (length s)) s start)
 
 -- the index after the property at index `at` of s, in a row; `at` if none stands there
-pub record PropertyPassed (row : tables.Place) (s : List ℕ) (at r : ℕ) : Type 0 where
+pub record PropertyPassed (row : tables.Row) (s : List ℕ) (at r : ℕ) : Type 0 where
   pub says : r ≡ nextOr at (fromAt (propertyOf asPlaces row (length s)) s at)

@@ -8,7 +8,7 @@ use records::error::Error;
 use records::span::Span;
 use tables::property;
 use tables::property::PropertyForm;
-use tables::property::PropertyPlace;
+use tables::property::PropertyRow;
 use var_length;
 use wire::got::GotSpan;
 use wire::string;
@@ -17,7 +17,7 @@ ghost use mathlib.Core.Option.{some};
 ghost use Rattle.grammar.specs.Tables.{number, pair};
 ghost use Rattle.positions.specs.Position.{fromAt};
 ghost use Rattle.numbers.specs.NumberRead.{toldGotU32};
-ghost use Rattle.tables.specs.Property.{placeOf, toldForm};
+ghost use Rattle.tables.specs.Property.{tableRow, toldForm};
 ghost use Rattle.property_value.specs.OneProperty.{identifierOf, ValueRead, PropertyRead, publishLists, ValuePassed, PropertyPassed};
 
 // A value, by its form.
@@ -100,13 +100,13 @@ fn read_value(form: PropertyForm, k: u8, s: &[u8], at: usize) -> GotProperty
 }
 
 // The property at index `at` of a block: its identifier, its value in the form of its row, and the index after it; else 2, 7, 8, 9, 10 or 23.
-pub fn read_property(place: PropertyPlace, s: &[u8], at: usize) -> GotProperty
-    ensures { λ r. ⌜ PropertyRead (placeOf place) (now (s .entry)) at r ⌝ }
+pub fn read_property(row: PropertyRow, s: &[u8], at: usize) -> GotProperty
+    ensures { λ r. ⌜ PropertyRead (tableRow row) (now (s .entry)) at r ⌝ }
 {
     match fixed::read_u8(s, at) {
         GotU8::Refused(e) => GotProperty::Refused(e),
         GotU8::Value(k, next) => {
-            let form = property::property(place, k);
+            let form = property::property(row, k);
             read_value(form, k, s, next)
         }
     }

@@ -6,7 +6,7 @@ use native.Mathlib.Omega.{arith}
 use lib.ListN.{length, getD}
 use Rattle.reading.specs.Reader.{Fit}
 use Rattle.property_value.specs.OneProperty.{publishLists, PropertyPassed}
-use Rattle.properties.specs.Block.{publishRow}
+use Rattle.properties.specs.Block.{publishRecord}
 use Rattle.properties.proofs.Laws.Fold.{Filling, over-ahead, loop-over}
 use Rattle.publish.specs.Singles.{ListsPassed}
 
@@ -21,5 +21,5 @@ lists-next {s = s} {at = at} L h P ne = record {
 }
 
 -- what a loop keeps, behind them
-pub filling-lists : {s : List ℕ} {whole : Fit (publishRow .Props)} {o : publishRow .Props} {at r : ℕ} → Filling publishRow s whole o at → ListsPassed s at r → Filling publishRow s whole o r
+pub filling-lists : {s : List ℕ} {whole : Fit (publishRecord .Props)} {o : publishRecord .Props} {at r : ℕ} → Filling publishRecord s whole o at → ListsPassed s at r → Filling publishRecord s whole o r
 filling-lists {o = o} f L = record { σ = f .σ; there = f .there; rest = f .rest ∙ L .rest o (f .σ) (f .there) }

@@ -7,7 +7,7 @@ use Prim.Native.Nat.{ℕ, zero, suc, _-_, _/_, _%_, _≤_, _<_}
 use native.Mathlib.Omega.{arith}
 use lib.ListN.{length, drop, length-drop}
 use borrow.Author.Tests.{ne-eqb}
-use Rattle.grammar.specs.Tables.{publishPlace, aPublish}
+use Rattle.grammar.specs.Tables.{publishRow, aPublish}
 use Rattle.grammar.specs.Record.{PublishProps, publish, flagQos}
 use Rattle.grammar.specs.Sentence.{notThree, notZero}
 use Rattle.reading.specs.Refusal.{Refusal, nr, cut}
@@ -89,8 +89,8 @@ Block = Option (PublishProps Span (λ A. Span))
 pub topic-within : (s : List ℕ) (at : ℕ) (p : Span) (a : ℕ) → got (p, a) ≡ fromAt (bytesOf asPlaces (length s)) s at → a ≤ length s
 topic-within s at p a e = got-within (bytesOf asPlaces (length s)) s at (trails-bytes asPlaces (length s)) p a (sym e)
 
-pub block-within : (s : List ℕ) (at : ℕ) (ps : Block) (n : ℕ) → got (ps, n) ≡ fromAt (blockOf asPlaces publishPlace (publishAs asPlaces) (length s)) s at → n ≤ length s
-block-within s at ps n e = got-within (blockOf asPlaces publishPlace (publishAs asPlaces) (length s)) s at (trails-block asPlaces (length s) publishPlace (publishAs asPlaces)) ps n (sym e)
+pub block-within : (s : List ℕ) (at : ℕ) (ps : Block) (n : ℕ) → got (ps, n) ≡ fromAt (blockOf asPlaces publishRow (publishAs asPlaces) (length s)) s at → n ≤ length s
+block-within s at ps n e = got-within (blockOf asPlaces publishRow (publishAs asPlaces) (length s)) s at (trails-block asPlaces (length s) publishRow (publishAs asPlaces)) ps n (sym e)
 
 -- the payload: all that is left
 abbrev payloadFit : ℕ → Block → Filler Span
@@ -98,7 +98,7 @@ payloadFit end ps = stringFit asPlaces anyBytes cut end
 
 -- the block, then the payload
 abbrev blockFit : ℕ → ℕ → Filler (Block × Span)
-blockFit end i = thenFit (blockOf asPlaces publishPlace (publishAs asPlaces) end) (payloadFit end)
+blockFit end i = thenFit (blockOf asPlaces publishRow (publishAs asPlaces) end) (payloadFit end)
 
 -- the identifier, then the block
 abbrev identFit : ℕ → ℕ → Span → Filler (ℕ × (Block × Span))
@@ -142,14 +142,14 @@ module _ (s : List ℕ) (at x : ℕ) where
         pkid-got : identFit x (length s) p (drop a s) ≡ (blockFit (length s) i (drop b s) >>= λ c. got (i, c))
         pkid-got = fill-got (identOf (flagQos x)) s a (trails-reads (reads-ident (flagQos x))) i b (sym (rw is-flags at e₁)) (blockFit (length s))
 
-        pub block-bad : (k : Refusal) → bad k ≡ fromAt (blockOf asPlaces publishPlace (publishAs asPlaces) (length s)) s b → bad k ≡ fieldsAt
+        pub block-bad : (k : Refusal) → bad k ≡ fromAt (blockOf asPlaces publishRow (publishAs asPlaces) (length s)) s b → bad k ≡ fieldsAt
         unfolding messageFit mapFit
-        block-bad k e₂ = sym (message ∙ rw (topic-got, pkid-got, fill-bad (blockOf asPlaces publishPlace (publishAs asPlaces) (length s)) s b (payloadFit (length s)) k (sym e₂)))
+        block-bad k e₂ = sym (message ∙ rw (topic-got, pkid-got, fill-bad (blockOf asPlaces publishRow (publishAs asPlaces) (length s)) s b (payloadFit (length s)) k (sym e₂)))
 
         -- the block ps ends at n, and the rest is payload
-        module _ (ps : Block) (n : ℕ) (e₂ : got (ps, n) ≡ fromAt (blockOf asPlaces publishPlace (publishAs asPlaces) (length s)) s b) where
+        module _ (ps : Block) (n : ℕ) (e₂ : got (ps, n) ≡ fromAt (blockOf asPlaces publishRow (publishAs asPlaces) (length s)) s b) where
           block-got : blockFit (length s) i (drop b s) ≡ (payloadFit (length s) ps (drop n s) >>= λ c. got (ps, c))
-          block-got = fill-got (blockOf asPlaces publishPlace (publishAs asPlaces) (length s)) s b (trails-block asPlaces (length s) publishPlace (publishAs asPlaces)) ps n (sym e₂) (payloadFit (length s))
+          block-got = fill-got (blockOf asPlaces publishRow (publishAs asPlaces) (length s)) s b (trails-block asPlaces (length s) publishRow (publishAs asPlaces)) ps n (sym e₂) (payloadFit (length s))
 
           payload-got : payloadFit (length s) ps (drop n s) ≡ got (record { start = n; len = length s - n })
           unfolding stringFit handFit isFit

@@ -10,7 +10,7 @@ use Rattle.reading.specs.Reader.{Fit, got, bad}
 use Rattle.reading.specs.Place.{Span}
 use Rattle.records.specs.AsNumbers.{toldError, toldSpan}
 use Rattle.records.specs.Said.{toldPublishBlock}
-use Rattle.properties.specs.Block.{publishRow, loopFrom}
+use Rattle.properties.specs.Block.{publishRecord, loopFrom}
 use Rattle.publish.specs.declared.GotPublishBlock.{GotPublishBlock}
 use Rattle.publish.specs.declared.Singles.{Singles}
 
@@ -36,7 +36,7 @@ toldSingles p = record {
 -- which σ may not come again, a loop over the block goes on at r with what it had
 pub record ListsPassed (s : List ℕ) (at r : ℕ) : Type 0 where
   pub ahead : at ≤ r
-  pub rest : (o : publishRow .Props) (σ : List ℕ) → ((i : ℕ) → isIn i σ ≡ publishRow .has o i) → loopFrom publishRow o σ s at ≡ loopFrom publishRow o σ s r
+  pub rest : (o : publishRecord .Props) (σ : List ℕ) → ((i : ℕ) → isIn i σ ≡ publishRecord .has o i) → loopFrom publishRecord o σ s at ≡ loopFrom publishRecord o σ s r
 
 -- the properties, if there are any, and the index after the block; or the refusal
 abbrev pub toldPublishBlockAt : GotPublishBlock → Fit (Option (PublishProps Span (λ A. Span)) × ℕ)

@@ -14,7 +14,7 @@ use records::span::MaybeU8;
 use records::span::MaybeU16;
 use records::span::MaybeU32;
 use records::span::Span;
-use tables::property::PropertyPlace;
+use tables::property::PropertyRow;
 use tables::qos;
 use tables::qos::GotQos;
 use wire::got::GotSpan;
@@ -24,7 +24,7 @@ ghost use mathlib.Core.Option.{some};
 ghost use mathlib.Core.List.{[]};
 ghost use Prim.Native.Nat.{_≤_};
 ghost use lib.ListN.{length, drop};
-ghost use Rattle.grammar.specs.Tables.{aPublish, publishPlace, formAt};
+ghost use Rattle.grammar.specs.Tables.{aPublish, publishRow, formAt};
 ghost use Rattle.grammar.specs.Record.{num, str};
 ghost use Rattle.reading.specs.Read.{identOf, bytesOf, fieldsFit, blockOf, publishAs};
 ghost use Rattle.reading.specs.Place.{asPlaces};
@@ -34,7 +34,7 @@ ghost use Rattle.records.specs.Said.{toldPublishProperties};
 ghost use Rattle.numbers.specs.NumberRead.{toldGotU16};
 ghost use Rattle.wire.specs.StringRead.{toldPart};
 ghost use Rattle.property_value.specs.OneProperty.{toldValue, formOf};
-ghost use Rattle.properties.specs.Block.{publishRow, applied, filledAt};
+ghost use Rattle.properties.specs.Block.{publishRecord, applied, filledAt};
 ghost use Rattle.publish.specs.Singles.{given, toldSingles, ListsPassed, toldPublishBlockAt};
 ghost use Rattle.publish.specs.PublishRead.{toldGotPublish};
 
@@ -67,7 +67,7 @@ struct Singles {
 
 // No property yet, of the block that stands at `block`.
 fn none(block: Span) -> Singles
-    ensures { λ r. ⌜ toldSingles r ≡ publishRow .made (toldSpan block) [] ⌝ }
+    ensures { λ r. ⌜ toldSingles r ≡ publishRecord .made (toldSpan block) [] ⌝ }
 {
     Singles {
         response: block,
@@ -88,8 +88,8 @@ fn none(block: Span) -> Singles
 
 // One property more.
 fn apply(p: Singles, k: u8, v: Value) -> Singles
-    requires { ⌜ formAt publishPlace k ≡ some (formOf v) ⌝ }
-    ensures { λ r. ⌜ toldSingles r ≡ applied publishRow (toldSingles p) (k, toldValue v) ⌝ }
+    requires { ⌜ formAt publishRow k ≡ some (formOf v) ⌝ }
+    ensures { λ r. ⌜ toldSingles r ≡ applied publishRecord (toldSingles p) (k, toldValue v) ⌝ }
 {
     match v {
         Value::U8(x) => Singles {
@@ -133,7 +133,7 @@ fn apply(p: Singles, k: u8, v: Value) -> Singles
 
 // Whether the single-valued property k is there.
 fn has(p: Singles, k: u8) -> bool
-    ensures { λ r. ⌜ r ≡ publishRow .has (toldSingles p) k ⌝ }
+    ensures { λ r. ⌜ r ≡ publishRecord .has (toldSingles p) k ⌝ }
 {
     match k {
         1 => p.has_format,
@@ -222,7 +222,7 @@ fn pass_lists(s: &[u8], from: usize) -> usize
 
 // The block that stands at `block`, which ends where the slice does: no read goes past it (D2).
 fn fill(s: &[u8], block: Span) -> GotPublishBlock
-    ensures { λ r. ⌜ toldPublishBlockAt r ≡ filledAt publishRow (now (s .entry)) (toldSpan block) ⌝ }
+    ensures { λ r. ⌜ toldPublishBlockAt r ≡ filledAt publishRecord (now (s .entry)) (toldSpan block) ⌝ }
 {
     let mut p = none(block);
     let mut at = block.start;
@@ -235,7 +235,7 @@ fn fill(s: &[u8], block: Span) -> GotPublishBlock
         if has(p, first) {
             return GotPublishBlock::Refused(Error::DuplicateProperty(first));
         }
-        match property_value::read_property(PropertyPlace::Publish, s, at) {
+        match property_value::read_property(PropertyRow::Publish, s, at) {
             GotProperty::Found(k, v, next) => {
                 p = apply(p, k, v);
                 at = next;
@@ -251,7 +251,7 @@ fn fill(s: &[u8], block: Span) -> GotPublishBlock
 
 // The block of a Publish at index `at`: its L, and its properties; absent where L is 0.
 fn read_publish_block(s: &[u8], at: usize) -> GotPublishBlock
-    ensures { λ r. ⌜ toldPublishBlockAt r ≡ fromAt (blockOf asPlaces publishPlace (publishAs asPlaces) (length (now (s .entry)))) (now (s .entry)) at ⌝ }
+    ensures { λ r. ⌜ toldPublishBlockAt r ≡ fromAt (blockOf asPlaces publishRow (publishAs asPlaces) (length (now (s .entry)))) (now (s .entry)) at ⌝ }
 {
     match block::read_room(s, at) {
         GotSpan::Refused(e) => GotPublishBlock::Refused(e),

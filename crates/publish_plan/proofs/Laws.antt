@@ -13,8 +13,8 @@ use Rattle.writing.specs.Handed.{PublishHanded, publish, lent, several, strings
 use Rattle.writing.specs.Order.{judge, raw, word, fieldTests, givenFields, fieldsOf, numberTests}
 use Rattle.writing.proofs.Tests.{eq-when, eq-not}
 use Rattle.writing.proofs.ForCode.{publish-belongs, judge-if, publish-tests}
-use Rattle.rows.specs.Given.{givenU8, givenU16, givenU32, givenLent, givenPairs}
-use Rattle.settle.specs.Found.{lateOf}
+use Rattle.write_runs.specs.Given.{givenU8, givenU16, givenU32, givenLent, givenPairs}
+use Rattle.write_order.specs.Found.{afterLimit}
 use Rattle.publish_plan.specs.Handed.{handed}
 use Rattle.publish_plan.specs.declared.head.PublishHead.{PublishHead}
 
@@ -82,8 +82,8 @@ then-none (got u) = refl
 then-none (bad k) = refl
 
 module _ (h : PublishHanded) {q : ℕ} {t : Bool} (e : q ≡ h .qos) (f : t ≡ (eqb q 0 || notZero (h .ident))) where
-  pub late-unnamed : t ≡ false → bad (nr 12 []) ≡ lateOf (publish h)
-  late-unnamed g = rw (← e, ← f, g)
+  pub after-limit-unnamed : t ≡ false → bad (nr 12 []) ≡ afterLimit (publish h)
+  after-limit-unnamed g = rw (← e, ← f, g)
 
-  pub late-named : t ≡ true → {x : Fit (Unit {0})} → x ≡ judge (flat numberTests (h .subscriptions)) → x ≡ lateOf (publish h)
-  late-named g i = i ∙ rw (← e, ← f, g) (sym (then-none (judge (flat numberTests (h .subscriptions)))))
+  pub after-limit-named : t ≡ true → {x : Fit (Unit {0})} → x ≡ judge (flat numberTests (h .subscriptions)) → x ≡ afterLimit (publish h)
+  after-limit-named g i = i ∙ rw (← e, ← f, g) (sym (then-none (judge (flat numberTests (h .subscriptions)))))

@@ -5,12 +5,12 @@ use mathlib.Core.List.{List}
 use Prim.Native.Nat.{ℕ, _+_}
 use native.Mathlib.Omega.{arith}
 use lib.ListN.{length}
-use Rattle.grammar.specs.Tables.{u8, u16, u32, number, text, bytes, pair, publishPlace}
+use Rattle.grammar.specs.Tables.{u8, u16, u32, number, text, bytes, pair, publishRow}
 use Rattle.writing.specs.Handed.{PublishHanded, publish, several, publishGiven}
 use Rattle.writing.specs.Size.{withLength, givenSize, propsSize, noIdent, identSize, restIs, cap}
 use Rattle.writing.proofs.ForCode.{publish-sum, cap-length}
-use Rattle.rows.specs.Given.{givenU8, givenU16, givenU32, givenLent, givenPairs}
-use Rattle.row_sizes.proofs.Laws.{cap-left, cap-both}
+use Rattle.write_runs.specs.Given.{givenU8, givenU16, givenU32, givenLent, givenPairs}
+use Rattle.write_sizes.proofs.Laws.{cap-left, cap-both}
 use Rattle.publish_plan.specs.Handed.{handed}
 use Rattle.publish_plan.specs.declared.head.PublishHead.{PublishHead}
 
@@ -40,7 +40,7 @@ module _ (head : PublishHead) (t a b u l i c p : List ℕ) where
       → x₇ ≡ cap (givenSize number (several i))
       → x₈ ≡ cap (givenSize text (givenLent (head .«content_type») c))
       → r₇ ≡ cap (x₇ + x₈) → r₆ ≡ cap (x₆ + r₇) → r₅ ≡ cap (x₅ + r₆) → r₄ ≡ cap (x₄ + r₅) → r₃ ≡ cap (x₃ + r₄) → r₂ ≡ cap (x₂ + r₃) → r₁ ≡ cap (x₁ + r₂)
-      → r₁ ≡ cap (propsSize publishPlace (publishGiven (handed head t a b u l i c p)))
+      → r₁ ≡ cap (propsSize publishRow (publishGiven (handed head t a b u l i c p)))
   sum-all {r₁} {r₂} {r₃} {r₄} {r₅} {r₆} {r₇} e₁ e₂ e₃ e₄ e₅ e₆ e₇ e₈ f₇ f₆ f₅ f₄ f₃ f₂ f₁ =
       let s₁ : ℕ = givenSize u8 (givenU8 (head .«payload_format_indicator»)) in
       let s₂ : ℕ = givenSize u32 (givenU32 (head .«message_expiry_interval»)) in
@@ -59,11 +59,11 @@ module _ (head : PublishHead) (t a b u l i c p : List ℕ) where
       let g₁ : r₁ ≡ cap (s₁ + (s₂ + (s₃ + (s₄ + (s₅ + (s₆ + (s₇ + (s₈ + 0)))))))) = cap-sum s₁ (s₂ + (s₃ + (s₄ + (s₅ + (s₆ + (s₇ + (s₈ + 0))))))) f₁ e₁ g₂ in
       g₁ ∙ ap cap (sym (publish-sum (handed head t a b u l i c p)))
 
-pub rest-all : (h : PublishHanded) {q props w x pk y r : ℕ} → q ≡ h .qos → props ≡ cap (propsSize publishPlace (publishGiven h)) → w ≡ cap (withLength props)
+pub rest-all : (h : PublishHanded) {q props w x pk y r : ℕ} → q ≡ h .qos → props ≡ cap (propsSize publishRow (publishGiven h)) → w ≡ cap (withLength props)
     → x ≡ cap (w + length (h .payload)) → pk ≡ cap (identSize q (h .ident)) → y ≡ cap (pk + x) → r ≡ cap (2 + length (h .topic) + y) → r ≡ cap (restIs (publish h))
 unfolding restIs
 rest-all h {w = w} e f g k m n o =
-    let s : ℕ = propsSize publishPlace (publishGiven h) in
+    let s : ℕ = propsSize publishRow (publishGiven h) in
     let v : w ≡ cap (withLength s) = g ∙ ap (λ (j : ℕ). cap (withLength j)) f ∙ cap-length s in
     let z = k ∙ cap-left w (withLength s) (length (h .payload)) v in
     cap-right (2 + length (h .topic)) (identSize (h .qos) (h .ident) + (withLength s + length (h .payload))) o

@@ -3,7 +3,7 @@ use mathlib.Core.List.{List}
 use Prim.Native.Nat.{ℕ}
 use Rattle.writing.specs.Handed.{PublishHanded}
 use Rattle.records.specs.AsNumbers.{toldBool, toldQoS, numberU8, numberU16, numberU32}
-use Rattle.rows.specs.Given.{run}
+use Rattle.write_runs.specs.Given.{run}
 use Rattle.publish_plan.specs.declared.head.PublishHead.{PublishHead}
 
 -- 01, "What must change shape": numbers and presence in the head, strings and lists beside it in the order of the arguments

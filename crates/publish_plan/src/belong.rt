@@ -1,7 +1,7 @@
 // Whether what is handed over of a Publish belongs together (01, row 20).
 use crate::head::PublishHead;
-use row_belongs;
-use row_belongs::both;
+use write_belongs;
+use write_belongs::both;
 ghost use mathlib.Core.Path.{_≡_};
 ghost use mathlib.Core.List.{List};
 ghost use Prim.Native.Nat.{ℕ};
@@ -24,18 +24,18 @@ pub fn all_belong(
     let format = head.payload_format_indicator;
     let expiry = head.message_expiry_interval;
     let alias = head.topic_alias;
-    let ids = row_belongs::ids_belong(block, subscription_identifiers);
-    let content = row_belongs::lent_belongs(block, head.content_type, content_type);
+    let ids = write_belongs::ids_belong(block, subscription_identifiers);
+    let content = write_belongs::lent_belongs(block, head.content_type, content_type);
     let lists = both(
-        row_belongs::pairs_belong(block, user, user_lengths),
+        write_belongs::pairs_belong(block, user, user_lengths),
         both(ids, content),
     );
-    let correlation = row_belongs::lent_belongs(block, head.correlation_data, correlation_data);
-    let response = row_belongs::lent_belongs(block, head.response_topic, response_topic);
+    let correlation = write_belongs::lent_belongs(block, head.correlation_data, correlation_data);
+    let response = write_belongs::lent_belongs(block, head.response_topic, response_topic);
     let strings = both(response, both(correlation, lists));
-    let numbers = both(row_belongs::u16_belongs(block, alias), strings);
+    let numbers = both(write_belongs::u16_belongs(block, alias), strings);
     both(
-        row_belongs::u8_belongs(block, format),
-        both(row_belongs::u32_belongs(block, expiry), numbers),
+        write_belongs::u8_belongs(block, format),
+        both(write_belongs::u32_belongs(block, expiry), numbers),
     )
 }

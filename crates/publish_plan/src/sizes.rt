@@ -1,11 +1,11 @@
 // R and L of a Publish, after `len` and `size` of publish.rs, each cut off above the largest R.
 use crate::head::PublishHead;
-use codes::qos_number;
-use row_sizes as size;
+use qos_numbers::qos_number;
+use write_sizes as size;
 ghost use mathlib.Core.Path.{_≡_};
 ghost use mathlib.Core.List.{List};
 ghost use Prim.Native.Nat.{ℕ};
-ghost use Rattle.grammar.specs.Tables.{publishPlace};
+ghost use Rattle.grammar.specs.Tables.{publishRow};
 ghost use Rattle.writing.specs.Handed.{publish, publishGiven};
 ghost use Rattle.writing.specs.Size.{propsSize, noIdent, identSize, restIs, cap};
 ghost use Rattle.publish_plan.specs.Handed.{handed};
@@ -20,7 +20,7 @@ fn properties_size(
     subscription_identifiers: &[u32],
     content_type: &[u8],
 ) -> usize
-    ensures { λ r. ⌜ ((t p : List ℕ) → r ≡ cap (propsSize publishPlace (publishGiven (handed head t (now («response_topic» .entry)) (now («correlation_data» .entry)) (now (user .entry)) (now («user_lengths» .entry)) (now («subscription_identifiers» .entry)) (now («content_type» .entry)) p)))) ⌝ }
+    ensures { λ r. ⌜ ((t p : List ℕ) → r ≡ cap (propsSize publishRow (publishGiven (handed head t (now («response_topic» .entry)) (now («correlation_data» .entry)) (now (user .entry)) (now («user_lengths» .entry)) (now («subscription_identifiers» .entry)) (now («content_type» .entry)) p)))) ⌝ }
 {
     let format = head.payload_format_indicator;
     let expiry = head.message_expiry_interval;
@@ -62,7 +62,7 @@ fn pkid_size(qos: u8, pkid: u16) -> usize
 
 // R, cut off above the largest; `properties` is L, cut off.
 fn rest_size(head: PublishHead, topic: &[u8], properties: usize, payload: &[u8]) -> usize
-    ensures { λ r. ⌜ ((a b u l i c : List ℕ) → properties ≡ cap (propsSize publishPlace (publishGiven (handed head (now (topic .entry)) a b u l i c (now (payload .entry))))) → r ≡ cap (restIs (publish (handed head (now (topic .entry)) a b u l i c (now (payload .entry)))))) ⌝ }
+    ensures { λ r. ⌜ ((a b u l i c : List ℕ) → properties ≡ cap (propsSize publishRow (publishGiven (handed head (now (topic .entry)) a b u l i c (now (payload .entry))))) → r ≡ cap (restIs (publish (handed head (now (topic .entry)) a b u l i c (now (payload .entry)))))) ⌝ }
 {
     let qos = head.qos;
     let block = size::add(size::with_length(properties), payload.len());
@@ -88,7 +88,7 @@ pub fn sizes(
     content_type: &[u8],
     payload: &[u8],
 ) -> Lengths
-    ensures { λ r. ⌜ (r .rest ≡ cap (restIs (publish (handed head (now (topic .entry)) (now («response_topic» .entry)) (now («correlation_data» .entry)) (now (user .entry)) (now («user_lengths» .entry)) (now («subscription_identifiers» .entry)) (now («content_type» .entry)) (now (payload .entry)))))) × (r .properties ≡ cap (propsSize publishPlace (publishGiven (handed head (now (topic .entry)) (now («response_topic» .entry)) (now («correlation_data» .entry)) (now (user .entry)) (now («user_lengths» .entry)) (now («subscription_identifiers» .entry)) (now («content_type» .entry)) (now (payload .entry)))))) ⌝ }
+    ensures { λ r. ⌜ (r .rest ≡ cap (restIs (publish (handed head (now (topic .entry)) (now («response_topic» .entry)) (now («correlation_data» .entry)) (now (user .entry)) (now («user_lengths» .entry)) (now («subscription_identifiers» .entry)) (now («content_type» .entry)) (now (payload .entry)))))) × (r .properties ≡ cap (propsSize publishRow (publishGiven (handed head (now (topic .entry)) (now («response_topic» .entry)) (now («correlation_data» .entry)) (now (user .entry)) (now («user_lengths» .entry)) (now («subscription_identifiers» .entry)) (now («content_type» .entry)) (now (payload .entry)))))) ⌝ }
 {
     let properties = properties_size(
         head,

@@ -1,11 +1,11 @@
 // What refuses a Publish but its size, in 01's writing order.
 use crate::belong::all_belong;
 use crate::head::PublishHead;
-use codes::qos_number;
+use qos_numbers::qos_number;
 use records::error::Error;
-use row_tests;
-use row_tests::Tested;
-use row_tests::then;
+use write_tests;
+use write_tests::Tested;
+use write_tests::then;
 ghost use mathlib.Core.Path.{_≡_};
 ghost use mathlib.Core.Bool.{_||_};
 ghost use mathlib.Core.List.{List};
@@ -15,8 +15,8 @@ ghost use Rattle.grammar.specs.Sentence.{notZero};
 ghost use Rattle.writing.specs.Lists.{flat};
 ghost use Rattle.writing.specs.Handed.{publish};
 ghost use Rattle.writing.specs.Order.{judge, fieldTests, fieldsOf};
-ghost use Rattle.row_tests.specs.Tested.{toldTested};
-ghost use Rattle.settle.specs.Found.{earlyOf, lateOf};
+ghost use Rattle.write_tests.specs.Tested.{toldTested};
+ghost use Rattle.write_order.specs.Found.{beforeSize, afterLimit};
 ghost use Rattle.publish_plan.specs.Handed.{handed};
 
 // 18, and 9 for text, field by field as written.
@@ -31,18 +31,18 @@ fn test_fields(
 ) -> Tested
     ensures { λ r. ⌜ ((i p : List ℕ) → toldTested r ≡ judge (flat fieldTests (fieldsOf (publish (handed head (now (topic .entry)) (now («response_topic» .entry)) (now («correlation_data» .entry)) (now (user .entry)) (now («user_lengths» .entry)) i (now («content_type» .entry)) p))))) ⌝ }
 {
-    let content = row_tests::test_text(head.content_type, content_type);
-    let lists = then(row_tests::test_words(user, user_lengths), content);
-    let correlation = row_tests::test_bytes(head.correlation_data, correlation_data);
-    let response = row_tests::test_text(head.response_topic, response_topic);
+    let content = write_tests::test_text(head.content_type, content_type);
+    let lists = then(write_tests::test_words(user, user_lengths), content);
+    let correlation = write_tests::test_bytes(head.correlation_data, correlation_data);
+    let response = write_tests::test_text(head.response_topic, response_topic);
     then(
-        row_tests::test_raw(topic),
+        write_tests::test_raw(topic),
         then(response, then(correlation, lists)),
     )
 }
 
 // 20, then 18 and 9 field by field.
-pub fn early(
+pub fn before_size(
     head: PublishHead,
     topic: &[u8],
     response_topic: &[u8],
@@ -52,7 +52,7 @@ pub fn early(
     subscription_identifiers: &[u32],
     content_type: &[u8],
 ) -> Tested
-    ensures { λ r. ⌜ ((p : List ℕ) → toldTested r ≡ earlyOf (publish (handed head (now (topic .entry)) (now («response_topic» .entry)) (now («correlation_data» .entry)) (now (user .entry)) (now («user_lengths» .entry)) (now («subscription_identifiers» .entry)) (now («content_type» .entry)) p))) ⌝ }
+    ensures { λ r. ⌜ ((p : List ℕ) → toldTested r ≡ beforeSize (publish (handed head (now (topic .entry)) (now («response_topic» .entry)) (now («correlation_data» .entry)) (now (user .entry)) (now («user_lengths» .entry)) (now («subscription_identifiers» .entry)) (now («content_type» .entry)) p))) ⌝ }
 {
     let together = all_belong(
         head,
@@ -88,12 +88,12 @@ fn is_named(qos: u8, pkid: u16) -> bool
 }
 
 // 12, then 17 or 23 for the identifiers in order.
-pub fn late(head: PublishHead, subscription_identifiers: &[u32]) -> Tested
-    ensures { λ r. ⌜ ((t a b u l c p : List ℕ) → toldTested r ≡ lateOf (publish (handed head t a b u l (now («subscription_identifiers» .entry)) c p))) ⌝ }
+pub fn after_limit(head: PublishHead, subscription_identifiers: &[u32]) -> Tested
+    ensures { λ r. ⌜ ((t a b u l c p : List ℕ) → toldTested r ≡ afterLimit (publish (handed head t a b u l (now («subscription_identifiers» .entry)) c p))) ⌝ }
 {
     let qos = head.qos;
     if !is_named(qos_number(qos), head.pkid) {
         return Tested::Refused(Error::PacketIdZero);
     }
-    row_tests::test_numbers(subscription_identifiers)
+    write_tests::test_numbers(subscription_identifiers)
 }

@@ -8,7 +8,7 @@ use native.Mathlib.Omega.{arith}
 use lib.Dec.{eqb}
 use lib.ListN.{length}
 use lib.Seq.{sets}
-use Rattle.grammar.specs.Tables.{publishPlace}
+use Rattle.grammar.specs.Tables.{publishRow}
 use Rattle.reading.specs.Reader.{got}
 use Rattle.writing.specs.Handed.{PublishHanded, publish, one, lent, pairs, several, publishGiven, addsUp, nothingGiven, rowBelongs, belongs}
 use Rattle.writing.specs.Spell.{short, string, propsBytes}
@@ -32,7 +32,7 @@ sixth false b c d e x y z w p = absurd (false≢true p)
 
 module _ (h : PublishHanded) where
   -- a block in a frame that is not too long is not too long
-  length-small : restIs (publish h) ≤ most → propsSize publishPlace (publishGiven h) ≤ most
+  length-small : restIs (publish h) ≤ most → propsSize publishRow (publishGiven h) ≤ most
   unfolding restIs
   length-small s = omega arith
 
@@ -47,18 +47,18 @@ module _ (h : PublishHanded) where
   abbrev behind : ℕ → ℕ → List ℕ → List ℕ
   behind rest props rows = (short rest ++ (string (h .topic) ++ identBytes (h .qos) (h .ident))) ++ (short props ++ (rows ++ h .payload))
 
-  module _ {rest props : ℕ} {rows : List ℕ} (e : rest ≡ cap (restIs (publish h))) (f : props ≡ cap (propsSize publishPlace (publishGiven h))) (g : rows ≡ propsBytes publishPlace (publishGiven h)) where
+  module _ {rest props : ℕ} {rows : List ℕ} (e : rest ≡ cap (restIs (publish h))) (f : props ≡ cap (propsSize publishRow (publishGiven h))) (g : rows ≡ propsBytes publishRow (publishGiven h)) where
     frame-is : belongs (publish h) ≡ true → restIs (publish h) ≤ most → frameBytes (publish h) ≡ firstByte (publish h) ∷ behind rest props rows
     frame-is b l =
         let w : rest ≡ restIs (publish h) = e ∙ cap-small (restIs (publish h)) l in
-        let v : props ≡ propsSize publishPlace (publishGiven h) = f ∙ cap-small (propsSize publishPlace (publishGiven h)) (length-small l) in
+        let v : props ≡ propsSize publishRow (publishGiven h) = f ∙ cap-small (propsSize publishRow (publishGiven h)) (length-small l) in
         publish-frame h b
         ∙ rw (
           w,
           v,
           g,
-          append-assoc (short (restIs (publish h))) (string (h .topic) ++ identBytes (h .qos) (h .ident)) (short (propsSize publishPlace (publishGiven h)) ++ (propsBytes publishPlace (publishGiven h) ++ h .payload)),
-          append-assoc (string (h .topic)) (identBytes (h .qos) (h .ident)) (short (propsSize publishPlace (publishGiven h)) ++ (propsBytes publishPlace (publishGiven h) ++ h .payload)),
+          append-assoc (short (restIs (publish h))) (string (h .topic) ++ identBytes (h .qos) (h .ident)) (short (propsSize publishRow (publishGiven h)) ++ (propsBytes publishRow (publishGiven h) ++ h .payload)),
+          append-assoc (string (h .topic)) (identBytes (h .qos) (h .ident)) (short (propsSize publishRow (publishGiven h)) ++ (propsBytes publishRow (publishGiven h) ++ h .payload)),
         )
 
     pub put-frame : (before : List ℕ) {after : List ℕ} → after ≡ sets before 0 (firstByte (publish h) ∷ behind rest props rows)

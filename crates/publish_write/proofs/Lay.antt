@@ -5,8 +5,8 @@ use Prim.Native.Nat.{ℕ, zero, suc, _+_, _≤_, _<_}
 use native.Mathlib.Omega.{arith}
 use lib.ListN.{length, take, drop, set, length-append, length-drop, take-append-drop}
 use lib.Seq.{sets, length-sets, set-set, set-comm, length-take-le, take-take, drop-drop, take-add, drop-at}
-use Rattle.byte_puts.proofs.Laws.{sets-append, put-more}
-use Rattle.row_puts.specs.Put.{Put}
+use Rattle.write_bytes.proofs.Laws.{sets-append, put-more}
+use Rattle.write_properties.specs.Put.{Put}
 use Rattle.publish_write.specs.Laid.{Laid, Room}
 
 -- ---- chunks that overlap

@@ -9,7 +9,7 @@ use native.Mathlib.Numerals.{add-one}
 use lib.ListN.{length, take, drop, getD, length-append, length-drop}
 use lib.Seq.{sets, length-sets, length-take-le, take-length, drop-cons}
 use borrow.Author.Tests.{eqb-true}
-use Rattle.grammar.specs.Tables.{Form, u8, u16, u32, number, text, bytes, pair, publishPlace}
+use Rattle.grammar.specs.Tables.{Form, u8, u16, u32, number, text, bytes, pair, publishRow}
 use Rattle.writing.specs.Lists.{sum}
 use Rattle.writing.specs.Handed.{Run, PublishHanded, publish, pairs, several, publishGiven, addsUp}
 use Rattle.writing.specs.Spell.{wide, short, string, value, rowBytes, propsBytes}
@@ -22,11 +22,11 @@ use Rattle.writing.proofs.Tests.{le-or}
 use Rattle.writing.proofs.ForCode.{runFrom, stringAt, strings-more, strings-done}
 use Rattle.records.specs.AsNumbers.{toldQoS}
 use Rattle.records.specs.declared.qos.QoS.{QoS}
-use Rattle.rows.specs.Given.{givenU8, givenU16, givenU32, givenLent, givenPairs}
+use Rattle.write_runs.specs.Given.{givenU8, givenU16, givenU32, givenLent, givenPairs}
 use Rattle.publish_plan.specs.Handed.{handed}
 use Rattle.publish_plan.specs.declared.head.PublishHead.{PublishHead}
 use Rattle.publish_write.specs.Laid.{Laid, Room, allRows}
-use Rattle.byte_puts.proofs.Laws.{sets-append}
+use Rattle.write_bytes.proofs.Laws.{sets-append}
 use Rattle.publish_write.proofs.Lay.{none-laid, store-laid, laid-then}
 
 -- ---- strings
@@ -127,7 +127,7 @@ regroup : (a b c d e f g i : List ℕ) → a ++ (b ++ (c ++ (d ++ (e ++ (f ++ (g
 regroup a b c d e f g i = rw (append-assoc a (b ++ c) ((d ++ e) ++ (f ++ (g ++ i))), append-assoc b c ((d ++ e) ++ (f ++ (g ++ i))), append-assoc d e (f ++ (g ++ i)), append-nil i)
 
 -- the rows are the properties
-pub props-rows : (head : PublishHead) (t a b u l i c p : List ℕ) → allRows head a b u l i c ≡ propsBytes publishPlace (publishGiven (handed head t a b u l i c p))
+pub props-rows : (head : PublishHead) (t a b u l i c p : List ℕ) → allRows head a b u l i c ≡ propsBytes publishRow (publishGiven (handed head t a b u l i c p))
 props-rows head t a b u l i c p =
     sym (publish-props (handed head t a b u l i c p)
     ∙ regroup (rowBytes (1, u8) (givenU8 (head .«payload_format_indicator»))) (rowBytes (2, u32) (givenU32 (head .«message_expiry_interval»))) (rowBytes (35, u16) (givenU16 (head .«topic_alias»)))

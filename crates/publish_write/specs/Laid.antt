@@ -7,7 +7,7 @@ use lib.Seq.{sets}
 use Rattle.grammar.specs.Tables.{u8, u16, u32, number, text, bytes, pair}
 use Rattle.writing.specs.Handed.{several}
 use Rattle.writing.specs.Spell.{rowBytes}
-use Rattle.rows.specs.Given.{givenU8, givenU16, givenU32, givenLent, givenPairs}
+use Rattle.write_runs.specs.Given.{givenU8, givenU16, givenU32, givenLent, givenPairs}
 use Rattle.publish_plan.specs.declared.head.PublishHead.{PublishHead}
 
 -- the bytes xs stand from `at` on, and `next` is the index behind them

@@ -1,4 +1,4 @@
-// Bytes copied to where there is room for them, by plain stores: what `byte_puts` tests at each put, these functions require.
+// Bytes copied to where there is room for them, by plain stores: what `write_bytes` tests at each put, these functions require.
 ghost use mathlib.Core.Path.{_≡_};
 ghost use mathlib.Core.List.{_∷_, []};
 ghost use Prim.Native.Nat.{_+_, _≤_, _<_};

@@ -3,11 +3,11 @@
 use crate::copy::copy;
 use crate::copy::store;
 use crate::copy::store_two;
-use codes::qos_number;
-use length_puts::put_length;
-use number_puts::fixed;
 use publish_plan::head::PublishHead;
 use publish_plan::sizes::no_pkid;
+use qos_numbers::qos_number;
+use write_lengths::put_length;
+use write_numbers::fixed;
 ghost use mathlib.Core.Path.{_≡_};
 ghost use mathlib.Core.Bool.{true};
 ghost use mathlib.Core.List.{List, _∷_, _++_};
@@ -19,7 +19,7 @@ ghost use Rattle.writing.specs.Handed.{publish, addsUp};
 ghost use Rattle.writing.specs.Spell.{short, string as spelled, rowBytes};
 ghost use Rattle.writing.specs.Write.{firstByte, identBytes};
 ghost use Rattle.records.specs.AsNumbers.{toldBool, toldQoS};
-ghost use Rattle.rows.specs.Given.{run as runOf, givenLent, givenPairs};
+ghost use Rattle.write_runs.specs.Given.{run as runOf, givenLent, givenPairs};
 ghost use Rattle.publish_plan.specs.Handed.{handed};
 ghost use Rattle.publish_write.specs.Laid.{Laid, Room, numberRows, stringRows, listRows, allRows};
 
@@ -80,9 +80,9 @@ fn lay_numbers(out: &mut [u8], at: usize, head: PublishHead) -> usize
     let format = head.payload_format_indicator;
     let expiry = head.message_expiry_interval;
     let alias = head.topic_alias;
-    let second = at + row_puts::put_u8_if(&mut *out, at, 1, format);
-    let third = second + row_puts::put_u32_if(&mut *out, second, 2, expiry);
-    third + row_puts::put_u16_if(&mut *out, third, 35, alias)
+    let second = at + write_properties::put_u8_if(&mut *out, at, 1, format);
+    let third = second + write_properties::put_u32_if(&mut *out, second, 2, expiry);
+    third + write_properties::put_u16_if(&mut *out, third, 35, alias)
 }
 
 // 8 and 9.
@@ -120,7 +120,7 @@ fn lay_lists(
     ensures { λ r. ⌜ Laid (now (out .entry)) at (listRows head (now (user .entry)) (now («user_lengths» .entry)) (now («subscription_identifiers» .entry)) (now («content_type» .entry))) (now (out .exit)) r ⌝ }
 {
     let second = lay_pairs(&mut *out, at, user, user_lengths);
-    let third = second + list_puts::put_ids(&mut *out, second, subscription_identifiers);
+    let third = second + write_lists::put_ids(&mut *out, second, subscription_identifiers);
     lay_lent(&mut *out, third, 3, head.content_type, content_type)
 }
 

@@ -51,7 +51,7 @@ pub fn size(
         content_type,
         payload,
     );
-    settle::size(together, sizes.rest)
+    write_order::size(together, sizes.rest)
 }
 
 // The frame from index 0 on, and its size; a refused write leaves the output as it stood.
@@ -70,7 +70,7 @@ pub fn write(
 ) -> Written
     ensures { λ r. ⌜ WrittenOf (limitOf limit) (publish (handed head (now (topic .entry)) (now («response_topic» .entry)) (now («correlation_data» .entry)) (now (user .entry)) (now («user_lengths» .entry)) (now («subscription_identifiers» .entry)) (now («content_type» .entry)) (now (payload .entry)))) (now (out .entry)) (now (out .exit)) (toldWritten r) ⌝ }
 {
-    let fields = test::early(
+    let fields = test::before_size(
         head,
         topic,
         response_topic,
@@ -93,8 +93,8 @@ pub fn write(
     );
     let rest = sizes.rest;
     let properties = sizes.properties;
-    let end = test::late(head, subscription_identifiers);
-    match settle::settle(fields, rest, limit, end, out.len()) {
+    let end = test::after_limit(head, subscription_identifiers);
+    match write_order::settle(fields, rest, limit, end, out.len()) {
         Written::Refused(e) => Written::Refused(e),
         Written::Size(n) => {
             lay_frame(

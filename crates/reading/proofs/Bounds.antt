@@ -10,7 +10,7 @@ use lib.ListN.{length, take, drop, length-drop}
 use lib.Seq.{length-take-le}
 use Rattle.grammar.specs.Choice.{lookup, isIn, isEmpty}
 use Rattle.grammar.specs.Record.{PropOf, PublishProps, publishProps, Props, propsOf, Filter, PacketOf, publish, ack, subscribe, reply, unsubscribe, ping, unlessEmpty, mkPublish, mkAck, mkSubscribe, mkReply, mkUnsubscribe, mkPing, flagQos, kindOf}
-use Rattle.grammar.specs.Tables.{Place, Layout, aPublish, anAck, aSubscribe, aReply, anUnsubscribe, aPing, kinds, publishPlace, subscribePlace, ackPlace, unsubscribePlace, reserved, isPing}
+use Rattle.grammar.specs.Tables.{Row, Layout, aPublish, anAck, aSubscribe, aReply, anUnsubscribe, aPing, kinds, publishRow, subscribeRow, ackRow, unsubscribeRow, reserved, isPing}
 use Rattle.grammar.specs.Sentence.{met, notThree}
 use Rattle.reading.specs.Refusal.{Refusal, cut, crossed, nr, Answer, accepted, refused, refusedAs}
 use Rattle.reading.specs.Reader.{Fit, got, bad, Filler, Reader, _>>=_, _>>_, guard, runFit, chainFit, handFit, sizedOf, thenFit, mapFit, exactFit, isFit}
@@ -29,7 +29,7 @@ pair-is p q = rw (p, q)
 -- ---- the block
 
 -- properties that come to none fill no bytes
-none-empty : (row : Place) (end : ℕ) (b : List ℕ) → propertiesFit asPlaces row end b ≡ got [] → b ≡ []
+none-empty : (row : Row) (end : ℕ) (b : List ℕ) → propertiesFit asPlaces row end b ≡ got [] → b ≡ []
 unfolding propertiesFit chainFit runFit
 none-empty row end [] e = refl
 none-empty row end (x ∷ b) e =
@@ -38,7 +38,7 @@ none-empty row end (x ∷ b) e =
     (λ vs _. from-got (λ (ws : List (PropOf Span)). ws ≡ [] → ⊥) (z .0 ∷ vs) no-nil)) [] e refl)
 
 -- a block of a row, whose record says where it stands
-module _ {X : Type 0} (row : Place) (g : List ℕ → ℕ → List (PropOf Span) → X) (user : X → Span) (u : (b : List ℕ) (e : ℕ) (ps : List (PropOf Span)) → user (g b e ps) ≡ spanOf b e) (end : ℕ) where
+module _ {X : Type 0} (row : Row) (g : List ℕ → ℕ → List (PropOf Span) → X) (user : X → Span) (u : (b : List ℕ) (e : ℕ) (ps : List (PropOf Span)) → user (g b e ps) ≡ spanOf b e) (end : ℕ) where
   abbrev blockAs : List (PropOf Span) → List ℕ → ℕ → Option X
   blockAs ps b e = unlessEmpty (g b e) ps
 
@@ -106,7 +106,7 @@ module _ (end : ℕ) where
   at-end q h = omega (arith, ap length h)
 
   -- the block of any place but a Publish's
-  plain-block : (row : Place) (r : List ℕ) (z : Option (Props Span (λ A. Span)) × List ℕ) → blockOf asPlaces row (propsAs asPlaces) end r ≡ got z
+  plain-block : (row : Row) (r : List ℕ) (z : Option (Props Span (λ A. Span)) × List ℕ) → blockOf asPlaces row (propsAs asPlaces) end r ≡ got z
       → afterLength end r ≡ got (endingAt (λ ps. ps .user) (end - length (z .1)) (z .0))
   unfolding propsOf
   plain-block row = block-bounds row (λ b e ps. propsOf Span (λ A. Span) (λ vs. spanOf b e) ps) (λ ps. ps .user) (λ b e ps. refl) end
@@ -117,15 +117,15 @@ module _ (end : ℕ) where
   ack-rest rs (c ∷ []) = from-guard (isIn c rs) _ _ λ _. from-got (λ (z : ℕ × Option (Props Span (λ A. Span))). got (end, end) ≡ got (endingAt (λ ps. ps .user) end (z .1))) (c, none) refl
   ack-rest rs (c ∷ x ∷ r) =
       from-guard (isIn c rs) _ _ λ _.
-      from-bind {C = λ (z : ℕ × Option (Props Span (λ A. Span))). afterLength end (x ∷ r) ≡ got (endingAt (λ ps. ps .user) end (z .1))} (exactFit (blockOf asPlaces ackPlace (propsAs asPlaces) end) cut (x ∷ r)) _ λ o e.
+      from-bind {C = λ (z : ℕ × Option (Props Span (λ A. Span))). afterLength end (x ∷ r) ≡ got (endingAt (λ ps. ps .user) end (z .1))} (exactFit (blockOf asPlaces ackRow (propsAs asPlaces) end) cut (x ∷ r)) _ λ o e.
       from-got (λ (z : ℕ × Option (Props Span (λ A. Span))). afterLength end (x ∷ r) ≡ got (endingAt (λ ps. ps .user) end (z .1))) (c, o)
-      (from-bind {C = λ (y : Option (Props Span (λ A. Span))). afterLength end (x ∷ r) ≡ got (endingAt (λ ps. ps .user) end y)} (blockOf asPlaces ackPlace (propsAs asPlaces) end (x ∷ r)) _ (λ oq f.
+      (from-bind {C = λ (y : Option (Props Span (λ A. Span))). afterLength end (x ∷ r) ≡ got (endingAt (λ ps. ps .user) end y)} (blockOf asPlaces ackRow (propsAs asPlaces) end (x ∷ r)) _ (λ oq f.
       from-guard (isEmpty (oq .1)) _ _ λ h.
       from-got (λ (y : Option (Props Span (λ A. Span))). afterLength end (x ∷ r) ≡ got (endingAt (λ ps. ps .user) end y)) (oq .0)
-      (plain-block ackPlace (x ∷ r) oq f ∙ ap (λ (m : ℕ). got (endingAt (λ (ps : Props Span (λ A. Span)). ps .user) m (oq .0))) (at-end (oq .1) (nil-of (oq .1) h)))) o e)
+      (plain-block ackRow (x ∷ r) oq f ∙ ap (λ (m : ℕ). got (endingAt (λ (ps : Props Span (λ A. Span)). ps .user) m (oq .0))) (at-end (oq .1) (nil-of (oq .1) h)))) o e)
 
   -- an identifier, a block, entries to the end
-  entries-bounds : {A : Type 0} (row : Place) (q : ℕ → Filler A) (b : List ℕ) (z : ℕ × (Option (Props Span (λ A. Span)) × Span))
+  entries-bounds : {A : Type 0} (row : Row) (q : ℕ → Filler A) (b : List ℕ) (z : ℕ × (Option (Props Span (λ A. Span)) × Span))
       → thenFit (bigOf cut 2) (λ _. thenFit (blockOf asPlaces row (propsAs asPlaces) end) (λ _. handFit (λ vs b e. spanOf b e) q end)) b ≡ got z
       → afterIdentifier end b ≡ got (endingAt (λ ps. ps .user) (z .1 .1 .start) (z .1 .0))
   unfolding propsOf
@@ -142,20 +142,20 @@ module _ (end : ℕ) where
       from-got (λ (v : Placed). fieldBounds aPublish x end b ≡ got (boundsIn v end)) (mkPublish x z)
       (then-bounds (bytesOf asPlaces end) _ (λ r. identOf (flagQos x) r >>= λ iq. afterLength end (iq .1)) (λ c. endingAt (λ ps. ps .user) (c .1 .1 .start) (c .1 .0))
       (λ _. then-bounds (identOf (flagQos x)) _ (afterLength end) (λ c. endingAt (λ ps. ps .user) (c .1 .start) (c .0))
-      (λ _. tail-bounds publishPlace (λ b e ps. publishProps Span (λ A. Span) (λ vs. spanOf b e) ps) (λ ps. ps .user) (λ b e ps. refl) end (stringFit asPlaces anyBytes cut end) (payload-start end))) b z e)
+      (λ _. tail-bounds publishRow (λ b e ps. publishProps Span (λ A. Span) (λ vs. spanOf b e) ps) (λ ps. ps .user) (λ b e ps. refl) end (stringFit asPlaces anyBytes cut end) (payload-start end))) b z e)
   fields-bounds (anAck rs) x b =
       from-bind {C = λ (v : Placed). fieldBounds (anAck rs) x end b ≡ got (boundsIn v end)} _ _ λ z e.
       from-got (λ (v : Placed). fieldBounds (anAck rs) x end b ≡ got (boundsIn v end)) (mkAck x z)
       (then-bounds (bigOf cut 2) _ (ackBounds end) (λ c. endingAt (λ ps. ps .user) end (c .1)) (λ _. ack-rest rs) b z e)
   fields-bounds aSubscribe x b =
       from-bind {C = λ (v : Placed). fieldBounds aSubscribe x end b ≡ got (boundsIn v end)} _ _ λ z e.
-      from-got (λ (v : Placed). fieldBounds aSubscribe x end b ≡ got (boundsIn v end)) (mkSubscribe z) (entries-bounds subscribePlace (filtersFit asPlaces) b z e)
+      from-got (λ (v : Placed). fieldBounds aSubscribe x end b ≡ got (boundsIn v end)) (mkSubscribe z) (entries-bounds subscribeRow (filtersFit asPlaces) b z e)
   fields-bounds (aReply rs) x b =
       from-bind {C = λ (v : Placed). fieldBounds (aReply rs) x end b ≡ got (boundsIn v end)} _ _ λ z e.
-      from-got (λ (v : Placed). fieldBounds (aReply rs) x end b ≡ got (boundsIn v end)) (mkReply x z) (entries-bounds ackPlace (reasonsFit rs) b z e)
+      from-got (λ (v : Placed). fieldBounds (aReply rs) x end b ≡ got (boundsIn v end)) (mkReply x z) (entries-bounds ackRow (reasonsFit rs) b z e)
   fields-bounds anUnsubscribe x b =
       from-bind {C = λ (v : Placed). fieldBounds anUnsubscribe x end b ≡ got (boundsIn v end)} _ _ λ z e.
-      from-got (λ (v : Placed). fieldBounds anUnsubscribe x end b ≡ got (boundsIn v end)) (mkUnsubscribe z) (entries-bounds unsubscribePlace (topicsFit asPlaces) b z e)
+      from-got (λ (v : Placed). fieldBounds anUnsubscribe x end b ≡ got (boundsIn v end)) (mkUnsubscribe z) (entries-bounds unsubscribeRow (topicsFit asPlaces) b z e)
   fields-bounds aPing x b =
       from-bind {C = λ (v : Placed). fieldBounds aPing x end b ≡ got (boundsIn v end)} (isFit anyBytes cut b) _ λ z e.
       from-got (λ (v : Placed). fieldBounds aPing x end b ≡ got (boundsIn v end)) (mkPing x z) refl

@@ -12,7 +12,7 @@ use Rattle.grammar.specs.Choice.{isIn, lookup, isEmpty}
 use Rattle.grammar.specs.Gram.{Gram, done, more, Many, Solid}
 use Rattle.grammar.specs.Number.{shortest}
 use Rattle.grammar.specs.Text.{Utf8}
-use Rattle.grammar.specs.Tables.{Form, u8, u16, u32, number, text, bytes, pair, Place, publishPlace, subscribePlace, ackPlace, unsubscribePlace, Layout, aPublish, anAck, aSubscribe, aReply, anUnsubscribe, aPing, kinds, reserved, isPing, formAt}
+use Rattle.grammar.specs.Tables.{Form, u8, u16, u32, number, text, bytes, pair, Row, publishRow, subscribeRow, ackRow, unsubscribeRow, Layout, aPublish, anAck, aSubscribe, aReply, anUnsubscribe, aPing, kinds, reserved, isPing, formAt}
 use Rattle.grammar.specs.Record.{num, str, kindOf, flagQos, mkPublish, mkAck, mkFilter, mkSubscribe, mkReply, mkUnsubscribe, mkPing}
 use Rattle.grammar.specs.Sentence.{Text, Prop, duoOf, met, Block, propsIf, notThree, notZero, qosFine, ruleFine, someOf, ReasonOf, Packet}
 use Rattle.reading.specs.Refusal.{Refusal, nr, Answer, cut, crossed, lacking, passes, exceeds}
@@ -55,39 +55,39 @@ refuses-value text end = refuses-map (refuses-text end) str
 refuses-value bytes end = refuses-map (refuses-bytes end) str
 refuses-value pair end = refuses-map (refuses-then (refuses-text end) (reads-text end) (refuses-text end)) duoOf
 
-module _ (place : Place) (end : ℕ) where
-  kind-fault : (i : ℕ) (s : List ℕ) (k : Refusal) (o : Option Form) → formAt place i ≡ o → valueAt asBytes o i end s ≡ bad k → PropertyFault place (i ∷ s) k
+module _ (row : Row) (end : ℕ) where
+  kind-fault : (i : ℕ) (s : List ℕ) (k : Refusal) (o : Option Form) → formAt row i ≡ o → valueAt asBytes o i end s ≡ bad k → PropertyFault row (i ∷ s) k
   unfolding valueAt
-  kind-fault i s k none e h = subst (PropertyFault place (i ∷ s)) (cc) (unknown e)
+  kind-fault i s k none e h = subst (PropertyFault row (i ∷ s)) (cc) (unknown e)
   kind-fault i s k (some t) e h = of-bind (valueOf asBytes t end s) _ k (λ e′. value e (refuses-value t end .fault s k e′)) (λ y e′ e″. got-bad e″) h
 
-  property-fault : (s : List ℕ) (k : Refusal) → propertyOf asBytes place end s ≡ bad k → PropertyFault place s k
+  property-fault : (s : List ℕ) (k : Refusal) → propertyOf asBytes row end s ≡ bad k → PropertyFault row s k
   unfolding propertyOf
-  property-fault [] k e = subst (PropertyFault place []) (cc) noId
-  property-fault (i ∷ s) k e = kind-fault i s k (formAt place i) refl e
+  property-fault [] k e = subst (PropertyFault row []) (cc) noId
+  property-fault (i ∷ s) k e = kind-fault i s k (formAt row i) refl e
 
-  property-refuse : (s : List ℕ) (k : Refusal) → PropertyFault place s k → propertyOf asBytes place end s ≡ bad k
+  property-refuse : (s : List ℕ) (k : Refusal) → PropertyFault row s k → propertyOf asBytes row end s ≡ bad k
   unfolding propertyOf valueAt
   property-refuse _ _ noId = refl
   property-refuse _ _ (unknown e) = rw e
   property-refuse _ k (value {f = t} {s = s} e h) = rw (e, refuses-value t end .refuse s k h)
 
-  refuses-property : RefusesBy (propertyOf asBytes place end) (PropertyFault place)
+  refuses-property : RefusesBy (propertyOf asBytes row end) (PropertyFault row)
   refuses-property = record { fault = property-fault; refuse = property-refuse }
 
-refuses-once : (place : Place) (end : ℕ) (σ : List ℕ) → RefusesBy (onceOf asBytes place end σ) (OnceFault place σ)
+refuses-once : (row : Row) (end : ℕ) (σ : List ℕ) → RefusesBy (onceOf asBytes row end σ) (OnceFault row σ)
 unfolding onceOf
-refuses-once place end σ = refuses-head (refuses-property place end) (λ i. not (isIn i σ)) (λ i. nr 22 (i ∷ []))
+refuses-once row end σ = refuses-head (refuses-property row end) (λ i. not (isIn i σ)) (λ i. nr 22 (i ∷ []))
 
-refuses-block : {A : Type 0} (place : Place) (f : List Prop → List ℕ → ℕ → A) (end : ℕ) → RefusesBy (blockOf asBytes place f end) (BlockFault place)
+refuses-block : {A : Type 0} (row : Row) (f : List Prop → List ℕ → ℕ → A) (end : ℕ) → RefusesBy (blockOf asBytes row f end) (BlockFault row)
 unfolding blockOf propertiesFit
-refuses-block place f = refuses-sized crossed (reads-num cut 4) (refuses-num cut 4) (refuses-hand f (λ e. refuses-chain (met place) (refuses-once place e) (reads-once place e) (once-solid place) []))
+refuses-block row f = refuses-sized crossed (reads-num cut 4) (refuses-num cut 4) (refuses-hand f (λ e. refuses-chain (met row) (refuses-once row e) (reads-once row e) (once-solid row) []))
 
 -- ---- bodies
 
 module _ (rs : List ℕ) (end : ℕ) where
-  ack-block : RefusesBy (exactFit (blockOf asBytes ackPlace (propsAs asBytes) end) cut) (ExactFault (Block ackPlace propsIf) (BlockFault ackPlace) cut)
-  ack-block = refuses-exact (refuses-block ackPlace (propsAs asBytes) end) (reads-props ackPlace end) cut
+  ack-block : RefusesBy (exactFit (blockOf asBytes ackRow (propsAs asBytes) end) cut) (ExactFault (Block ackRow propsIf) (BlockFault ackRow) cut)
+  ack-block = refuses-exact (refuses-block ackRow (propsAs asBytes) end) (reads-props ackRow end) cut
 
   block-fault : (c : ℕ) (r : List ℕ) (k : Refusal) → isIn c rs ≡ true → ackBlockFit asBytes end r ≡ bad k → AckFault rs (c ∷ r) k
   unfolding ackBlockFit
@@ -166,7 +166,7 @@ module _ (x end : ℕ) where
       refuses-fit (mkPublish x)
       (refuses-end (refuses-bytes end) (reads-bytes end)
       (refuses-end (refuses-ident (flagQos x)) (reads-ident (flagQos x))
-      (refuses-end (refuses-block publishPlace (publishAs asBytes) end) (reads-publish-block end)
+      (refuses-end (refuses-block publishRow (publishAs asBytes) end) (reads-publish-block end)
       (refuses-hand _ (λ _. sound) end))))
 
   publish-fault : (s : List ℕ) (k : Refusal) → fieldsFit asBytes aPublish x end s ≡ bad k → PublishFault x s k
@@ -185,17 +185,17 @@ module _ (x end : ℕ) where
   refuses-fields aSubscribe =
       refuses-fit mkSubscribe
       (refuses-end (refuses-big cut 2) (reads-big cut 2)
-      (refuses-end (refuses-block subscribePlace (propsAs asBytes) end) (reads-props subscribePlace end)
+      (refuses-end (refuses-block subscribeRow (propsAs asBytes) end) (reads-props subscribeRow end)
       (refuses-hand _ refuses-filters end)))
   refuses-fields (aReply rs) =
       refuses-fit (mkReply x)
       (refuses-end (refuses-big cut 2) (reads-big cut 2)
-      (refuses-end (refuses-block ackPlace (propsAs asBytes) end) (reads-props ackPlace end)
+      (refuses-end (refuses-block ackRow (propsAs asBytes) end) (reads-props ackRow end)
       (refuses-hand _ (refuses-reasons rs) end)))
   refuses-fields anUnsubscribe =
       refuses-fit mkUnsubscribe
       (refuses-end (refuses-big cut 2) (reads-big cut 2)
-      (refuses-end (refuses-block unsubscribePlace (propsAs asBytes) end) (reads-props unsubscribePlace end)
+      (refuses-end (refuses-block unsubscribeRow (propsAs asBytes) end) (reads-props unsubscribeRow end)
       (refuses-hand _ refuses-topics end)))
   refuses-fields aPing = refuses-fit (mkPing x) sound
 

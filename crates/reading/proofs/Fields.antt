@@ -14,7 +14,7 @@ use Rattle.grammar.specs.Choice.{isIn}
 use Rattle.grammar.specs.Gram.{Only, OnlyBy, Many, Is, Solid}
 use Rattle.grammar.specs.Number.{Byte, byte, bigFrom, Big, big, Groups, last, next, shortest}
 use Rattle.grammar.specs.Text.{Range, inRange, rows, rowAt, cons, Follow, Rest, Char, Utf8}
-use Rattle.grammar.specs.Tables.{Form, u8, u16, u32, number, text, bytes, pair, Place, formAt}
+use Rattle.grammar.specs.Tables.{Form, u8, u16, u32, number, text, bytes, pair, Row, formAt}
 use Rattle.grammar.specs.Record.{num, str}
 use Rattle.grammar.specs.Sentence.{Any, Bytes, Text, Prop, duoOf, notZero, Spelt, Property, property, met, fresh, Properties, Block}
 use Rattle.reading.specs.Refusal.{Refusal, nr, cut, crossed}
@@ -149,49 +149,49 @@ reads-value pair end = reads-map duoOf (reads-then (reads-text end) (λ _. reads
 
 -- ---- properties
 
-module _ (place : Place) (end : ℕ) where
-  property-whole : (a : Prop) (b r : List ℕ) → Property place a b → propertyOf asBytes place end (b ++ r) ≡ got (a, r)
+module _ (row : Row) (end : ℕ) where
+  property-whole : (a : Prop) (b r : List ℕ) → Property row a b → propertyOf asBytes row end (b ++ r) ≡ got (a, r)
   unfolding propertyOf valueAt
   property-whole _ _ r (property {f = k} {v = v} {b = b} e g) = rw (e, reads-value k end .whole v b r g)
 
-  value-split : (i : ℕ) (s : List ℕ) (k : Option Form) → formAt place i ≡ k → (z : Prop × List ℕ) → valueAt asBytes k i end s ≡ got z → Cut (Property place) (i ∷ s) z
+  value-split : (i : ℕ) (s : List ℕ) (k : Option Form) → formAt row i ≡ k → (z : Prop × List ℕ) → valueAt asBytes k i end s ≡ got z → Cut (Property row) (i ∷ s) z
   unfolding valueAt
   value-split i s none e = λ z e′. absurd (bad-got e′)
   value-split i s (some k) e = from-bind (valueOf asBytes k end s) (λ y. got ((i, y .0), y .1)) λ y e₁.
       let (b, e₂, g) = reads-value k end .split s y e₁ in
-      from-got (Cut (Property place) (i ∷ s)) ((i, y .0), y .1) (i ∷ b, ap (λ (l : List ℕ). i ∷ l) e₂, property e g)
+      from-got (Cut (Property row) (i ∷ s)) ((i, y .0), y .1) (i ∷ b, ap (λ (l : List ℕ). i ∷ l) e₂, property e g)
 
-  property-split : (s : List ℕ) (z : Prop × List ℕ) → propertyOf asBytes place end s ≡ got z → Cut (Property place) s z
+  property-split : (s : List ℕ) (z : Prop × List ℕ) → propertyOf asBytes row end s ≡ got z → Cut (Property row) s z
   unfolding propertyOf
   property-split [] = λ z e. absurd (bad-got e)
-  property-split (i ∷ s) = value-split i s (formAt place i) refl
+  property-split (i ∷ s) = value-split i s (formAt row i) refl
 
-  pub reads-property : Reads (propertyOf asBytes place end) (Property place)
+  pub reads-property : Reads (propertyOf asBytes row end) (Property row)
   reads-property = record { whole = property-whole; split = property-split }
 
-pub property-solid : (place : Place) → Solid (Property place)
-property-solid place _ _ (property e g) h = let z : _≡_ {A = ℕ} 0 1 = cc in omega arith
+pub property-solid : (row : Row) → Solid (Property row)
+property-solid row _ _ (property e g) h = let z : _≡_ {A = ℕ} 0 1 = cc in omega arith
 
 -- 02, P9: a property that is not met a second time
-property-heads : (place : Place) (σ : List ℕ) → Heads (λ i. not (isIn i σ)) (fresh σ) (Property place)
-property-heads place σ _ _ (property {i = i} {b = b} e g) = (i, b, refl, refl)
+property-heads : (row : Row) (σ : List ℕ) → Heads (λ i. not (isIn i σ)) (fresh σ) (Property row)
+property-heads row σ _ _ (property {i = i} {b = b} e g) = (i, b, refl, refl)
 
-pub reads-once : (place : Place) (end : ℕ) (σ : List ℕ) → Reads (onceOf asBytes place end σ) (Only (fresh σ) (Property place))
+pub reads-once : (row : Row) (end : ℕ) (σ : List ℕ) → Reads (onceOf asBytes row end σ) (Only (fresh σ) (Property row))
 unfolding onceOf
-reads-once place end σ = reads-head (λ i. not (isIn i σ)) (fresh σ) (λ i. nr 22 (i ∷ [])) (property-heads place σ) (reads-property place end)
+reads-once row end σ = reads-head (λ i. not (isIn i σ)) (fresh σ) (λ i. nr 22 (i ∷ [])) (property-heads row σ) (reads-property row end)
 
-pub once-solid : (place : Place) (σ : List ℕ) → Solid (Only (fresh σ) (Property place))
-once-solid place σ = solid-only (fresh σ) (property-solid place)
+pub once-solid : (row : Row) (σ : List ℕ) → Solid (Only (fresh σ) (Property row))
+once-solid row σ = solid-only (fresh σ) (property-solid row)
 
-pub fills-properties : (place : Place) (end : ℕ) → Fills (propertiesFit asBytes place end) (Properties place)
+pub fills-properties : (row : Row) (end : ℕ) → Fills (propertiesFit asBytes row end) (Properties row)
 unfolding propertiesFit
-fills-properties place end = fills-iff (chain-only (met place) fresh []) (fills-chain (met place) (reads-once place end) (once-solid place) [])
+fills-properties row end = fills-iff (chain-only (met row) fresh []) (fills-chain (met row) (reads-once row end) (once-solid row) [])
 
-module _ {A : Type 0} (place : Place) where
+module _ {A : Type 0} (row : Row) where
   pub reads-block : (f : List Prop → List ℕ → ℕ → A) (f′ : List Prop → A) → ((ps : List Prop) (b : List ℕ) (e : ℕ) → f ps b e ≡ f′ ps)
-      → (end : ℕ) → Reads (blockOf asBytes place f end) (Block place f′)
+      → (end : ℕ) → Reads (blockOf asBytes row f end) (Block row f′)
   unfolding blockOf
-  reads-block f f′ m = reads-sized crossed (reads-num cut 4) (fills-hand f f′ m (fills-properties place))
+  reads-block f f′ m = reads-sized crossed (reads-num cut 4) (fills-hand f f′ m (fills-properties row))
 
-  pub block-solid : (f : List Prop → A) → Solid (Block place f)
+  pub block-solid : (f : List Prop → A) → Solid (Block row f)
   block-solid f = solid-sized (num-solid 4)

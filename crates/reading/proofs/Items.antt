@@ -10,7 +10,7 @@ use lib.Dec.{eqb, leb, leb→le}
 use lib.ListN.{length, take, drop, length-drop, take-append-drop}
 use lib.Seq.{length-take-le}
 use Rattle.grammar.specs.Gram.{Gram, Only, Many}
-use Rattle.grammar.specs.Tables.{Place, publishPlace, subscribePlace, ackPlace, unsubscribePlace, reasonsOf}
+use Rattle.grammar.specs.Tables.{Row, publishRow, subscribeRow, ackRow, unsubscribeRow, reasonsOf}
 use Rattle.grammar.specs.Record.{PropOf, allOf, PublishProps, Props, Filter, publish, ack, subscribe, reply, unsubscribe, ping}
 use Rattle.grammar.specs.Sentence.{Value, Prop, Text, Properties, FilterOf, ReasonOf, someOf, Packet}
 use Rattle.reading.specs.Refusal.{Refusal, nr, accepted}
@@ -83,26 +83,26 @@ all-says s i (p ∷ ps) = one (eqb (p .0) i) (all-says s i ps)
     one true e = ap (λ (l : List Value). sayVal s (p .1) ∷ l) e
     one false e = e
 
-values-only : (h : Shape) (s : List ℕ) (p : Span) (k : Refusal) (place : Place) (i : ℕ) → valuesAt h s p place i ≡ bad k → k ≡ nr 21 []
+values-only : (h : Shape) (s : List ℕ) (p : Span) (k : Refusal) (row : Row) (i : ℕ) → valuesAt h s p row i ≡ bad k → k ≡ nr 21 []
 unfolding valuesAt
-values-only h s p k place i = of-bind (again (propertiesFit h place) s p) _ k (again-bad (propertiesFit h place) s p k) (λ ps e e′. got-bad e′)
+values-only h s p k row i = of-bind (again (propertiesFit h row) s p) _ k (again-bad (propertiesFit h row) s p k) (λ ps e e′. got-bad e′)
 
 -- ---- each kind of item, at any place p of any bytes s: what stands at the answer's places is the item in bytes
 
 module _ (s : List ℕ) (p : Span) where
-  values-like : (place : Place) (i : ℕ) → Like (Via (map (sayVal s))) (valuesAt asPlaces s p place i) (valuesAt asBytes s p place i)
+  values-like : (row : Row) (i : ℕ) → Like (Via (map (sayVal s))) (valuesAt asPlaces s p row i) (valuesAt asBytes s p row i)
   unfolding valuesAt
-  values-like place i = like-bind (again (propertiesFit asPlaces place) s p) (again (propertiesFit asBytes place) s p) _ _ (again-like s (properties-says s place) p) λ ps qs _ _ r.
+  values-like row i = like-bind (again (propertiesFit asPlaces row) s p) (again (propertiesFit asBytes row) s p) _ _ (again-like s (properties-says s row) p) λ ps qs _ _ r.
       gots (all-says s i ps ∙ ap (allOf i) r)
 
-  nth-value : (place : Place) (i n : ℕ) → onGot (sayVal s) (valuesAt asPlaces s p place i >>= nthOf n) ≡ (valuesAt asBytes s p place i >>= nthOf n)
-  nth-value place i n =
-      like-is (valuesAt asPlaces s p place i >>= nthOf n) (valuesAt asBytes s p place i >>= nthOf n) (onGot (sayVal s)) (λ _. refl) (λ _. refl)
-      (like-bind (valuesAt asPlaces s p place i) (valuesAt asBytes s p place i) (nthOf n) (nthOf n) (values-like place i) λ vs ws _ _ r. nth-like (sayVal s) n vs ws r)
+  nth-value : (row : Row) (i n : ℕ) → onGot (sayVal s) (valuesAt asPlaces s p row i >>= nthOf n) ≡ (valuesAt asBytes s p row i >>= nthOf n)
+  nth-value row i n =
+      like-is (valuesAt asPlaces s p row i >>= nthOf n) (valuesAt asBytes s p row i >>= nthOf n) (onGot (sayVal s)) (λ _. refl) (λ _. refl)
+      (like-bind (valuesAt asPlaces s p row i) (valuesAt asBytes s p row i) (nthOf n) (nthOf n) (values-like row i) λ vs ws _ _ r. nth-like (sayVal s) n vs ws r)
 
-  pub nth-user : (place : Place) (n : ℕ) → onGot (sayVal s) (userAt asPlaces s p place n) ≡ userAt asBytes s p place n
+  pub nth-user : (row : Row) (n : ℕ) → onGot (sayVal s) (userAt asPlaces s p row n) ≡ userAt asBytes s p row n
   unfolding userAt
-  nth-user place n = nth-value place _ n
+  nth-user row n = nth-value row _ n
 
   pub nth-subscription : (n : ℕ) → onGot (sayVal s) (subscriptionAt asPlaces s p n) ≡ subscriptionAt asBytes s p n
   unfolding subscriptionAt
@@ -129,32 +129,32 @@ bind-iff : {A B : Type 0} (m : Fit A) (f : A → Fit B) (z : B) → ((m >>= f) �
 bind-iff {A = A} {B = B} m f z = (from-bind {C = λ (y : B). (a : A) × (m ≡ got a) × (f a ≡ got y)} m f (λ a e y e′. (a, e, e′)) z, λ (a, e, e′). rw e e′)
 
 module _ (s : List ℕ) (p : Span) (n : ℕ) where
-  nth-iff : (place : Place) (i : ℕ) (v : Value) → ((valuesAt asBytes s p place i >>= nthOf n) ≡ got v)
-      ↔ ((ps : List Prop) × (p .start + p .len ≤ length s) × Properties place ps (partOf s p) × (nthOf n (allOf i ps) ≡ got v))
+  nth-iff : (row : Row) (i : ℕ) (v : Value) → ((valuesAt asBytes s p row i >>= nthOf n) ≡ got v)
+      ↔ ((ps : List Prop) × (p .start + p .len ≤ length s) × Properties row ps (partOf s p) × (nthOf n (allOf i ps) ≡ got v))
   unfolding valuesAt
-  nth-iff place i v = (
-    from-bind {C = λ (y : Value). (ps : List Prop) × (p .start + p .len ≤ length s) × Properties place ps (partOf s p) × (nthOf n (allOf i ps) ≡ got y)}
-        (valuesAt asBytes s p place i) (nthOf n) (from-values place i) v,
-    λ (ps, h, g, e). rw (block-iff place s p ps .1 (h, g)) e,
+  nth-iff row i v = (
+    from-bind {C = λ (y : Value). (ps : List Prop) × (p .start + p .len ≤ length s) × Properties row ps (partOf s p) × (nthOf n (allOf i ps) ≡ got y)}
+        (valuesAt asBytes s p row i) (nthOf n) (from-values row i) v,
+    λ (ps, h, g, e). rw (block-iff row s p ps .1 (h, g)) e,
   )
     where
-      from-values : (place : Place) (i : ℕ) (vs : List Value) → valuesAt asBytes s p place i ≡ got vs → (y : Value) → nthOf n vs ≡ got y
-          → (ps : List Prop) × (p .start + p .len ≤ length s) × Properties place ps (partOf s p) × (nthOf n (allOf i ps) ≡ got y)
-      from-values place i vs e y e′ =
-          let (ps, a, b) = bind-iff (again (propertiesFit asBytes place) s p) _ vs .0 e in
-          let (h, g) = block-iff place s p ps .0 a in
+      from-values : (row : Row) (i : ℕ) (vs : List Value) → valuesAt asBytes s p row i ≡ got vs → (y : Value) → nthOf n vs ≡ got y
+          → (ps : List Prop) × (p .start + p .len ≤ length s) × Properties row ps (partOf s p) × (nthOf n (allOf i ps) ≡ got y)
+      from-values row i vs e y e′ =
+          let (ps, a, b) = bind-iff (again (propertiesFit asBytes row) s p) _ vs .0 e in
+          let (h, g) = block-iff row s p ps .0 a in
           (ps, h, g, ap (nthOf n) (got-inj b) ∙ e′)
 
   -- an n-th user property is given exactly when the place is a well-formed block of the row, of the bytes, that has so many
-  pub user-iff : (place : Place) (v : Value) → (userAt asBytes s p place n ≡ got v)
-      ↔ ((ps : List Prop) × (p .start + p .len ≤ length s) × Properties place ps (partOf s p) × (nthOf n (allOf 38 ps) ≡ got v))
+  pub user-iff : (row : Row) (v : Value) → (userAt asBytes s p row n ≡ got v)
+      ↔ ((ps : List Prop) × (p .start + p .len ≤ length s) × Properties row ps (partOf s p) × (nthOf n (allOf 38 ps) ≡ got v))
   unfolding userAt
-  user-iff place v = nth-iff place 38 v
+  user-iff row v = nth-iff row 38 v
 
   pub subscription-iff : (v : Value) → (subscriptionAt asBytes s p n ≡ got v)
-      ↔ ((ps : List Prop) × (p .start + p .len ≤ length s) × Properties publishPlace ps (partOf s p) × (nthOf n (allOf 11 ps) ≡ got v))
+      ↔ ((ps : List Prop) × (p .start + p .len ≤ length s) × Properties publishRow ps (partOf s p) × (nthOf n (allOf 11 ps) ≡ got v))
   unfolding subscriptionAt
-  subscription-iff v = nth-iff publishPlace 11 v
+  subscription-iff v = nth-iff publishRow 11 v
 
   -- an entry exactly when the place holds a list of the grammar that has so many
   entry-iff : {A : Type 0} {q : ℕ → Filler (List A)} {G : Gram (List A)} → ((e : ℕ) → Fills (q e) G) → (a : A) → ((again q s p >>= nthOf n) ≡ got a)
@@ -187,13 +187,13 @@ entry-only s p k q n = of-bind (again q s p) (nthOf n) k (again-bad q s p k) (λ
 
 module _ (h : Shape) (s : List ℕ) (p : Span) (k : Refusal) where
   -- no other refusal is given, whatever the bytes, the place and n
-  pub user-only : (place : Place) (n : ℕ) → userAt h s p place n ≡ bad k → k ≡ nr 21 []
+  pub user-only : (row : Row) (n : ℕ) → userAt h s p row n ≡ bad k → k ≡ nr 21 []
   unfolding userAt
-  user-only place n = of-bind (valuesAt h s p place 38) _ k (values-only h s p k place 38) (λ vs e. nth-bad n vs k)
+  user-only row n = of-bind (valuesAt h s p row 38) _ k (values-only h s p k row 38) (λ vs e. nth-bad n vs k)
 
   pub subscription-only : (n : ℕ) → subscriptionAt h s p n ≡ bad k → k ≡ nr 21 []
   unfolding subscriptionAt
-  subscription-only n = of-bind (valuesAt h s p publishPlace 11) _ k (values-only h s p k publishPlace 11) (λ vs e. nth-bad n vs k)
+  subscription-only n = of-bind (valuesAt h s p publishRow 11) _ k (values-only h s p k publishRow 11) (λ vs e. nth-bad n vs k)
 
   pub filter-only : (n : ℕ) → filterAt h s p n ≡ bad k → k ≡ nr 21 []
   unfolding filterAt
@@ -220,11 +220,11 @@ if-some {A = A} {B = B} {R = R} f h (some a) z e = go (f a) refl z e
 -- ---- so of a placed record whose lists are read at their places: items from 0 on are the record's list, in order, and then 21
 
 module _ (s : List ℕ) where
-  user-lists : (place : Place) (p : Span) (vs : List Value) → valuesAt asBytes s p place 38 ≡ got vs → Lists (userAt asPlaces s p place) (sayVal s) vs
+  user-lists : (row : Row) (p : Span) (vs : List Value) → valuesAt asBytes s p row 38 ≡ got vs → Lists (userAt asPlaces s p row) (sayVal s) vs
   unfolding userAt
-  user-lists place p vs e n = nth-user s p place n ∙ rw e
+  user-lists row p vs e n = nth-user s p row n ∙ rw e
 
-  subscription-lists : (p : Span) (vs : List Value) → valuesAt asBytes s p publishPlace 11 ≡ got vs → Lists (subscriptionAt asPlaces s p) (sayVal s) vs
+  subscription-lists : (p : Span) (vs : List Value) → valuesAt asBytes s p publishRow 11 ≡ got vs → Lists (subscriptionAt asPlaces s p) (sayVal s) vs
   unfolding subscriptionAt
   subscription-lists p vs e n = nth-subscription s p n ∙ rw e
 
@@ -246,23 +246,23 @@ module _ (s : List ℕ) where
 
   publish-items : (ps : PublishProps Span (λ A. Span)) (qs : PublishProps (List ℕ) List) → sayPublishProps s ps ≡ got qs → PublishItems s ps qs
   publish-items ps =
-      from-bind (valuesAt asBytes s (ps .user) publishPlace 38) _ λ us e.
-      from-bind (valuesAt asBytes s (ps .subscriptions) publishPlace 11) _ λ ns e′.
-      from-got (PublishItems s ps) _ (user-lists publishPlace (ps .user) us e, subscription-lists (ps .subscriptions) ns e′)
+      from-bind (valuesAt asBytes s (ps .user) publishRow 38) _ λ us e.
+      from-bind (valuesAt asBytes s (ps .subscriptions) publishRow 11) _ λ ns e′.
+      from-got (PublishItems s ps) _ (user-lists publishRow (ps .user) us e, subscription-lists (ps .subscriptions) ns e′)
 
-  props-items : (place : Place) (ps : Props Span (λ A. Span)) (qs : Props (List ℕ) List) → sayProps s place ps ≡ got qs → PropsItems s place ps qs
-  props-items place ps = from-bind (valuesAt asBytes s (ps .user) place 38) _ λ us e. from-got (PropsItems s place ps) _ (user-lists place (ps .user) us e)
+  props-items : (row : Row) (ps : Props Span (λ A. Span)) (qs : Props (List ℕ) List) → sayProps s row ps ≡ got qs → PropsItems s row ps qs
+  props-items row ps = from-bind (valuesAt asBytes s (ps .user) row 38) _ λ us e. from-got (PropsItems s row ps) _ (user-lists row (ps .user) us e)
 
   -- so of any placed record that says w
   pub say-items : (v : Placed) (w : Packet) → say s v ≡ got w → Items s v w
   say-items (publish m) = from-bind (ifSome (sayPublishProps s) (m .props)) _ λ ps e. from-got (Items s (publish m)) _ (ofPublish (if-some (sayPublishProps s) publish-items (m .props) ps e))
-  say-items (ack k m) = from-bind (ifSome (sayProps s ackPlace) (m .props)) _ λ ps e. from-got (Items s (ack k m)) _ (ofAck (if-some (sayProps s ackPlace) (props-items ackPlace) (m .props) ps e))
-  say-items (subscribe m) = from-bind (ifSome (sayProps s subscribePlace) (m .props)) _ λ ps e. from-bind (again (filtersFit asBytes) s (m .filters)) _ λ fs e′.
-      from-got (Items s (subscribe m)) _ (ofSubscribe (if-some (sayProps s subscribePlace) (props-items subscribePlace) (m .props) ps e) (filter-lists (m .filters) fs e′))
-  say-items (reply k m) = from-bind (ifSome (sayProps s ackPlace) (m .props)) _ λ ps e. from-bind (again (reasonsFit (reasonsOf k)) s (m .reasons)) _ λ cs e′.
-      from-got (Items s (reply k m)) _ (ofReply (if-some (sayProps s ackPlace) (props-items ackPlace) (m .props) ps e) (reason-lists (m .reasons) (reasonsOf k) cs e′))
-  say-items (unsubscribe m) = from-bind (ifSome (sayProps s unsubscribePlace) (m .props)) _ λ ps e. from-bind (again (topicsFit asBytes) s (m .topics)) _ λ ts e′.
-      from-got (Items s (unsubscribe m)) _ (ofUnsubscribe (if-some (sayProps s unsubscribePlace) (props-items unsubscribePlace) (m .props) ps e) (topic-lists (m .topics) ts e′))
+  say-items (ack k m) = from-bind (ifSome (sayProps s ackRow) (m .props)) _ λ ps e. from-got (Items s (ack k m)) _ (ofAck (if-some (sayProps s ackRow) (props-items ackRow) (m .props) ps e))
+  say-items (subscribe m) = from-bind (ifSome (sayProps s subscribeRow) (m .props)) _ λ ps e. from-bind (again (filtersFit asBytes) s (m .filters)) _ λ fs e′.
+      from-got (Items s (subscribe m)) _ (ofSubscribe (if-some (sayProps s subscribeRow) (props-items subscribeRow) (m .props) ps e) (filter-lists (m .filters) fs e′))
+  say-items (reply k m) = from-bind (ifSome (sayProps s ackRow) (m .props)) _ λ ps e. from-bind (again (reasonsFit (reasonsOf k)) s (m .reasons)) _ λ cs e′.
+      from-got (Items s (reply k m)) _ (ofReply (if-some (sayProps s ackRow) (props-items ackRow) (m .props) ps e) (reason-lists (m .reasons) (reasonsOf k) cs e′))
+  say-items (unsubscribe m) = from-bind (ifSome (sayProps s unsubscribeRow) (m .props)) _ λ ps e. from-bind (again (topicsFit asBytes) s (m .topics)) _ λ ts e′.
+      from-got (Items s (unsubscribe m)) _ (ofUnsubscribe (if-some (sayProps s unsubscribeRow) (props-items unsubscribeRow) (m .props) ps e) (topic-lists (m .topics) ts e′))
   say-items (ping k) = from-got (Items s (ping k)) (ping k) ofPing
 
 -- 01: of a record that was read, with places v and in bytes w: the items from 0 on are w's lists, in order, and then 21

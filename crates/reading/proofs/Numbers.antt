@@ -6,7 +6,7 @@ use mathlib.Core.List.{List, [], _∷_}
 use Prim.Native.Nat.{ℕ, zero, suc}
 use Rattle.grammar.specs.Choice.{isIn}
 use Rattle.grammar.specs.Gram.{Gram}
-use Rattle.grammar.specs.Tables.{Form, u8, u16, u32, number, text, bytes, pair, Place, Layout, aPublish, anAck, aSubscribe, aReply, anUnsubscribe, aPing}
+use Rattle.grammar.specs.Tables.{Form, u8, u16, u32, number, text, bytes, pair, Row, Layout, aPublish, anAck, aSubscribe, aReply, anUnsubscribe, aPing}
 use Rattle.grammar.specs.Record.{flagQos}
 use Rattle.reading.specs.Refusal.{Refusal, nr}
 use Rattle.reading.specs.Fault.{Fault, Sound, OnlyFault, under, fails, underBy, failsBy, ThenFault, first, second, SizedFault, sizes, crosses, fills, ChainFault, now, later, HeadFault, noHead, head, behind, ExactFault, before, follows, IsFault, isnt, ByteFault, noByte, BigFault, fewer, NumFault, endless, long, BytesFault, TextFault, ValueFault, PropertyFault, noId, unknown, value, BlockFault, AckFault, reason, block, IdentFault, SomeFault, noEntry, entry, FiltersFault, PublishFault, qos, fields, FieldsFault}
@@ -78,13 +78,13 @@ kept-value text = kept-text
 kept-value bytes = kept-bytes
 kept-value pair = kept-then kept-text kept-text
 
-kept-property : (place : Place) → Kept (PropertyFault place)
-kept-property place _ _ noId = refl
-kept-property place _ _ (unknown e) = refl
-kept-property place _ k (value {f = t} {s = s} e f) = kept-value t s k f
+kept-property : (row : Row) → Kept (PropertyFault row)
+kept-property row _ _ noId = refl
+kept-property row _ _ (unknown e) = refl
+kept-property row _ k (value {f = t} {s = s} e f) = kept-value t s k f
 
-kept-block : (place : Place) → Kept (BlockFault place)
-kept-block place = kept-sized (λ _ _. refl) (kept-num refl refl) (kept-chain (λ σ. kept-head (λ _. refl) (kept-property place)) [])
+kept-block : (row : Row) → Kept (BlockFault row)
+kept-block row = kept-sized (λ _ _. refl) (kept-num refl refl) (kept-chain (λ σ. kept-head (λ _. refl) (kept-property row)) [])
 
 kept-ack : (rs : List ℕ) → Kept (AckFault rs)
 kept-ack rs _ _ (reason h) = refl

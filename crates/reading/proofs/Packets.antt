@@ -8,7 +8,7 @@ use lib.Dec.{eqb}
 use borrow.Author.Tests.{eqb-true}
 use Rattle.grammar.specs.Choice.{isIn, lookup, isEmpty}
 use Rattle.grammar.specs.Gram.{Gram, Only, only, Many, Solid}
-use Rattle.grammar.specs.Tables.{Place, publishPlace, subscribePlace, ackPlace, unsubscribePlace, Layout, aPublish, anAck, aSubscribe, aReply, anUnsubscribe, aPing, kinds, reserved, isPing}
+use Rattle.grammar.specs.Tables.{Row, publishRow, subscribeRow, ackRow, unsubscribeRow, Layout, aPublish, anAck, aSubscribe, aReply, anUnsubscribe, aPing, kinds, reserved, isPing}
 use Rattle.grammar.specs.Record.{Props, kindOf, flagQos, mkPublish, mkAck, mkFilter, mkSubscribe, mkReply, mkUnsubscribe, mkPing}
 use Rattle.grammar.specs.Sentence.{Any, Text, Block, publishOf, propsIf, notThree, notZero, Ident, publishGood, qosFine, ruleFine, FilterOf, someOf, AckRest, plain, coded, full, ReasonOf, Packet, Fields, Body, body}
 use Rattle.reading.specs.Refusal.{Refusal, cut}
@@ -19,14 +19,14 @@ use Rattle.reading.proofs.Fields.{reads-byte, byte-solid, reads-big, bi
 
 -- ---- PubAck
 
-pub reads-props : (place : Place) (end : ℕ) → Reads (blockOf asBytes place (propsAs asBytes) end) (Block place propsIf)
-reads-props place = reads-block place (propsAs asBytes) propsIf (λ _ _ _. refl)
+pub reads-props : (row : Row) (end : ℕ) → Reads (blockOf asBytes row (propsAs asBytes) end) (Block row propsIf)
+reads-props row = reads-block row (propsAs asBytes) propsIf (λ _ _ _. refl)
 
 module _ (rs : List ℕ) (end : ℕ) where
-  full-whole : (c : ℕ) (ps : Option (Props (List ℕ) List)) (b : List ℕ) → isIn c rs ≡ true → Block ackPlace propsIf ps b → ackRestFit asBytes rs end (c ∷ b) ≡ got (c, ps)
+  full-whole : (c : ℕ) (ps : Option (Props (List ℕ) List)) (b : List ℕ) → isIn c rs ≡ true → Block ackRow propsIf ps b → ackRestFit asBytes rs end (c ∷ b) ≡ got (c, ps)
   unfolding ackRestFit ackBlockFit
-  full-whole c ps [] h g = absurd (block-solid ackPlace propsIf ps [] g refl)
-  full-whole c ps (x ∷ b) h g = rw (h, fills-exact cut (reads-props ackPlace end) .whole ps (x ∷ b) g)
+  full-whole c ps [] h g = absurd (block-solid ackRow propsIf ps [] g refl)
+  full-whole c ps (x ∷ b) h g = rw (h, fills-exact cut (reads-props ackRow end) .whole ps (x ∷ b) g)
 
   rest-whole : (a : ℕ × Option (Props (List ℕ) List)) (b : List ℕ) → AckRest rs a b → ackRestFit asBytes rs end b ≡ got a
   unfolding ackRestFit ackBlockFit
@@ -37,7 +37,7 @@ module _ (rs : List ℕ) (end : ℕ) where
   block-back : (c : ℕ) (b : List ℕ) → isIn c rs ≡ true → (ps : Option (Props (List ℕ) List)) → ackBlockFit asBytes end b ≡ got ps → AckRest rs (c, ps) (c ∷ b)
   unfolding ackBlockFit
   block-back c [] h = from-got (λ ps. AckRest rs (c, ps) (c ∷ [])) none (coded h)
-  block-back c (x ∷ r) h = λ ps e. full h (fills-exact cut (reads-props ackPlace end) .back (x ∷ r) ps e)
+  block-back c (x ∷ r) h = λ ps e. full h (fills-exact cut (reads-props ackRow end) .back (x ∷ r) ps e)
 
   rest-back : (b : List ℕ) (z : ℕ × Option (Props (List ℕ) List)) → ackRestFit asBytes rs end b ≡ got z → AckRest rs z b
   unfolding ackRestFit
@@ -68,8 +68,8 @@ pub fills-filters : (end : ℕ) → Fills (filtersFit asBytes end) (Only someOf 
 unfolding filtersFit
 fills-filters end = fills-only someOf _ (fills-many (reads-filter end) filter-solid)
 
-pub reads-publish-block : (end : ℕ) → Reads (blockOf asBytes publishPlace (publishAs asBytes) end) (Block publishPlace publishOf)
-reads-publish-block = reads-block publishPlace (publishAs asBytes) publishOf (λ _ _ _. refl)
+pub reads-publish-block : (end : ℕ) → Reads (blockOf asBytes publishRow (publishAs asBytes) end) (Block publishRow publishOf)
+reads-publish-block = reads-block publishRow (publishAs asBytes) publishOf (λ _ _ _. refl)
 
 -- ---- reasons and topics
 
@@ -113,17 +113,17 @@ fills-fields (anAck rs) x end = fills-map (mkAck x) (fills-then (reads-big cut 2
 fills-fields aSubscribe x end =
     fills-map mkSubscribe
     (fills-then (reads-big cut 2)
-    (λ _. fills-then (reads-props subscribePlace end)
+    (λ _. fills-then (reads-props subscribeRow end)
     (λ _. fills-as fills-filters end)))
 fills-fields (aReply rs) x end =
     fills-map (mkReply x)
     (fills-then (reads-big cut 2)
-    (λ _. fills-then (reads-props ackPlace end)
+    (λ _. fills-then (reads-props ackRow end)
     (λ _. fills-as (fills-reasons rs) end)))
 fills-fields anUnsubscribe x end =
     fills-map mkUnsubscribe
     (fills-then (reads-big cut 2)
-    (λ _. fills-then (reads-props unsubscribePlace end)
+    (λ _. fills-then (reads-props unsubscribeRow end)
     (λ _. fills-as fills-topics end)))
 fills-fields aPing x end = fills-map (mkPing x) (fills-is anyBytes Any cut any-fine)
 

@@ -13,7 +13,7 @@ use borrow.Author.Tests.{le-leb}
 use Rattle.grammar.specs.Choice.{isIn, lookup, isEmpty}
 use Rattle.grammar.specs.Gram.{Gram, Only, both, sized, Many, is}
 use Rattle.grammar.specs.Number.{byte}
-use Rattle.grammar.specs.Tables.{Form, u8, u16, u32, number, text, bytes, pair, Place, publishPlace, subscribePlace, ackPlace, unsubscribePlace, Layout, aPublish, anAck, aSubscribe, aReply, anUnsubscribe, aPing, kinds, reserved, isPing, listed, reasonsOf, formAt}
+use Rattle.grammar.specs.Tables.{Form, u8, u16, u32, number, text, bytes, pair, Row, publishRow, subscribeRow, ackRow, unsubscribeRow, Layout, aPublish, anAck, aSubscribe, aReply, anUnsubscribe, aPing, kinds, reserved, isPing, listed, reasonsOf, formAt}
 use Rattle.grammar.specs.Record.{Val, num, str, PropOf, lastFrom, lastOf, allOf, unlessEmpty, publishProps, propsOf, Props, kindOf, flagQos, mkPublish, mkAck, mkFilter, mkSubscribe, mkReply, mkUnsubscribe, mkPing}
 use Rattle.grammar.specs.Sentence.{Value, Prop, duoOf, notZero, met, Properties, notThree, FilterOf, someOf, Packet, Frame}
 use Rattle.reading.specs.Refusal.{Refusal, nr, Answer, accepted, refused, cut, crossed}
@@ -47,8 +47,8 @@ module _ {A : Type 0} {q : ℕ → Filler A} {G : Gram A} (S : (e : ℕ) → Fil
     λ t. rw (le-leb (p .start + p .len) (length s) (t .0), S (p .start + p .len) .whole v (partOf s p) (t .1)),
   )
 
-pub block-iff : (place : Place) (s : List ℕ) (p : Span) (ps : List Prop) → (again (propertiesFit asBytes place) s p ≡ got ps) ↔ ((p .start + p .len ≤ length s) × Properties place ps (partOf s p))
-block-iff place s p ps = again-iff (fills-properties place) s p ps
+pub block-iff : (row : Row) (s : List ℕ) (p : Span) (ps : List Prop) → (again (propertiesFit asBytes row) s p ≡ got ps) ↔ ((p .start + p .len ≤ length s) × Properties row ps (partOf s p))
+block-iff row s p ps = again-iff (fills-properties row) s p ps
 
 -- so where it was read once
 again-right : {s : List ℕ} {end : ℕ} {A : Type 0} {q : ℕ → Filler A} {G : Gram A} → ((e : ℕ) → Fills (q e) G) → (b : List ℕ) (v : A) → Stands s end b → q end b ≡ got v → again q s (spanOf b end) ≡ got v
@@ -56,10 +56,10 @@ again-right {s} {end} S b v w e =
     let (h, i) = stands-within b w in
     again-iff S s (spanOf b end) v .1 (omega arith, rw (stands-span b w) (S end .back b v e))
 
-values-right : {s : List ℕ} {end : ℕ} (place : Place) (i : ℕ) (b : List ℕ) (ps : List Prop) → Stands s end b → propertiesFit asBytes place end b ≡ got ps
-    → valuesAt asBytes s (spanOf b end) place i ≡ got (allOf i ps)
+values-right : {s : List ℕ} {end : ℕ} (row : Row) (i : ℕ) (b : List ℕ) (ps : List Prop) → Stands s end b → propertiesFit asBytes row end b ≡ got ps
+    → valuesAt asBytes s (spanOf b end) row i ≡ got (allOf i ps)
 unfolding valuesAt
-values-right place i b ps w e = rw (again-right (fills-properties place) b ps w e)
+values-right row i b ps w e = rw (again-right (fills-properties row) b ps w e)
 
 -- ---- single values
 
@@ -120,44 +120,44 @@ module _ (s : List ℕ) where
   form-like (some k) i end l w = like-bind (valueOf asPlaces k end l) (valueOf asBytes k end l) _ _ (value-says k end .like l w) λ x y _ _ r.
       gots (ap (λ (v : Value). (i, v)) (r .0), r .1)
 
-  property-like : (place : Place) (end : ℕ) (l : List ℕ) → Stands s end l → Like (First (Via (sayProp s))) (propertyOf asPlaces place end l) (propertyOf asBytes place end l)
+  property-like : (row : Row) (end : ℕ) (l : List ℕ) → Stands s end l → Like (First (Via (sayProp s))) (propertyOf asPlaces row end l) (propertyOf asBytes row end l)
   unfolding propertyOf
-  property-like place end [] w = bads
-  property-like place end (i ∷ l) w = form-like (formAt place i) i end l (stands-rest (i ∷ l) (i ∷ []) l refl w)
+  property-like row end [] w = bads
+  property-like row end (i ∷ l) w = form-like (formAt row i) i end l (stands-rest (i ∷ l) (i ∷ []) l refl w)
 
-  pub property-says : (place : Place) (end : ℕ) → Forgets s end (Via (sayProp s)) (propertyOf asPlaces place end) (propertyOf asBytes place end)
-  property-says place end = record { like = property-like place end }
+  pub property-says : (row : Row) (end : ℕ) → Forgets s end (Via (sayProp s)) (propertyOf asPlaces row end) (propertyOf asBytes row end)
+  property-says row end = record { like = property-like row end }
 
-  pub once-says : (place : Place) (end : ℕ) (σ : List ℕ) → Forgets s end (Via (sayProp s)) (onceOf asPlaces place end σ) (onceOf asBytes place end σ)
+  pub once-says : (row : Row) (end : ℕ) (σ : List ℕ) → Forgets s end (Via (sayProp s)) (onceOf asPlaces row end σ) (onceOf asBytes row end σ)
   unfolding onceOf
-  once-says place end σ = forgets-head (property-says place end) (λ i. not (isIn i σ)) (λ i. nr 22 (i ∷ []))
+  once-says row end σ = forgets-head (property-says row end) (λ i. not (isIn i σ)) (λ i. nr 22 (i ∷ []))
 
-  pub properties-says : (place : Place) (end : ℕ) → Drops s end (Via (map (sayProp s))) (propertiesFit asPlaces place end) (propertiesFit asBytes place end)
+  pub properties-says : (row : Row) (end : ℕ) → Drops s end (Via (map (sayProp s))) (propertiesFit asPlaces row end) (propertiesFit asBytes row end)
   unfolding propertiesFit
-  properties-says place end = drops-chain (met place) (met place) (λ _ _. refl) (once-says place end) (reads-once place end) []
+  properties-says row end = drops-chain (met row) (met row) (λ _ _. refl) (once-says row end) (reads-once row end) []
 
   -- what a block reader hands back, read at its places, is what it hands back in bytes
-  block-says : {A B : Type 0} (place : Place) (f : List (PropOf Span) → List ℕ → ℕ → A) (f′ : List Prop → List ℕ → ℕ → B) (h : A → Fit B)
-      → ((end : ℕ) (ps : List (PropOf Span)) (b : List ℕ) → Stands s end b → propertiesFit asBytes place end b ≡ got (map (sayProp s) ps) → h (f ps b end) ≡ got (f′ (map (sayProp s) ps) b end))
-      → (end : ℕ) → Forgets s end (Reading h) (blockOf asPlaces place f end) (blockOf asBytes place f′ end)
+  block-says : {A B : Type 0} (row : Row) (f : List (PropOf Span) → List ℕ → ℕ → A) (f′ : List Prop → List ℕ → ℕ → B) (h : A → Fit B)
+      → ((end : ℕ) (ps : List (PropOf Span)) (b : List ℕ) → Stands s end b → propertiesFit asBytes row end b ≡ got (map (sayProp s) ps) → h (f ps b end) ≡ got (f′ (map (sayProp s) ps) b end))
+      → (end : ℕ) → Forgets s end (Reading h) (blockOf asPlaces row f end) (blockOf asBytes row f′ end)
   unfolding blockOf
-  block-says {B = B} place f f′ h e end = forgets-sized (λ e′. drops-hand (properties-says place) e′ (Reading h) f f′ λ ps qs b w i r.
+  block-says {B = B} row f f′ h e end = forgets-sized (λ e′. drops-hand (properties-says row) e′ (Reading h) f f′ λ ps qs b w i r.
       e e′ ps b w (i ∙ ap got (sym r)) ∙ ap (λ (l : List Prop). got (f′ l b e′)) r) end crossed (reads-num cut 4)
 
-  publish-as : (end : ℕ) (ps : List (PropOf Span)) (b : List ℕ) → Stands s end b → propertiesFit asBytes publishPlace end b ≡ got (map (sayProp s) ps)
+  publish-as : (end : ℕ) (ps : List (PropOf Span)) (b : List ℕ) → Stands s end b → propertiesFit asBytes publishRow end b ≡ got (map (sayProp s) ps)
       → ifSome (sayPublishProps s) (publishAs asPlaces ps b end) ≡ got (publishAs asBytes (map (sayProp s) ps) b end)
   unfolding publishProps
   publish-as end ps b w e =
-      let v : (i : ℕ) → valuesAt asBytes s (spanOf b end) publishPlace i ≡ got (allOf i (map (sayProp s) ps)) = λ i. values-right publishPlace i b (map (sayProp s) ps) w e in
+      let v : (i : ℕ) → valuesAt asBytes s (spanOf b end) publishRow i ≡ got (allOf i (map (sayProp s) ps)) = λ i. values-right publishRow i b (map (sayProp s) ps) w e in
       unless-says _ _ _ ps (rw (v 38, v 11, last-says 1 ps, last-says 2 ps, last-says 35 ps, last-says 8 ps, last-says 9 ps, last-says 3 ps))
 
-  props-as : (place : Place) (end : ℕ) (ps : List (PropOf Span)) (b : List ℕ) → Stands s end b → propertiesFit asBytes place end b ≡ got (map (sayProp s) ps)
-      → ifSome (sayProps s place) (propsAs asPlaces ps b end) ≡ got (propsAs asBytes (map (sayProp s) ps) b end)
+  props-as : (row : Row) (end : ℕ) (ps : List (PropOf Span)) (b : List ℕ) → Stands s end b → propertiesFit asBytes row end b ≡ got (map (sayProp s) ps)
+      → ifSome (sayProps s row) (propsAs asPlaces ps b end) ≡ got (propsAs asBytes (map (sayProp s) ps) b end)
   unfolding propsOf
-  props-as place end ps b w e = unless-says _ _ _ ps (rw (values-right place 38 b (map (sayProp s) ps) w e, last-says 31 ps, last-says 11 ps))
+  props-as row end ps b w e = unless-says _ _ _ ps (rw (values-right row 38 b (map (sayProp s) ps) w e, last-says 31 ps, last-says 11 ps))
 
-  props-says : (place : Place) (end : ℕ) → Forgets s end (Reading (ifSome (sayProps s place))) (blockOf asPlaces place (propsAs asPlaces) end) (blockOf asBytes place (propsAs asBytes) end)
-  props-says place = block-says place (propsAs asPlaces) (propsAs asBytes) (ifSome (sayProps s place)) (props-as place)
+  props-says : (row : Row) (end : ℕ) → Forgets s end (Reading (ifSome (sayProps s row))) (blockOf asPlaces row (propsAs asPlaces) end) (blockOf asBytes row (propsAs asBytes) end)
+  props-says row = block-says row (propsAs asPlaces) (propsAs asBytes) (ifSome (sayProps s row)) (props-as row)
 
   pub filter-says : (end : ℕ) → Forgets s end (Via (sayFilter s)) (filterOf asPlaces end) (filterOf asBytes end)
   unfolding filterOf
@@ -179,12 +179,12 @@ module _ (s : List ℕ) where
 
   -- a reason, and a block
   abbrev Rest : ℕ × Option (Props Span (λ A. Span)) → ℕ × Option (Props (List ℕ) List) → Type 0
-  Rest = Both (Via (λ c. c)) (Reading (ifSome (sayProps s ackPlace)))
+  Rest = Both (Via (λ c. c)) (Reading (ifSome (sayProps s ackRow)))
 
-  block-like : (end : ℕ) (l : List ℕ) → Stands s end l → Like (Reading (ifSome (sayProps s ackPlace))) (ackBlockFit asPlaces end l) (ackBlockFit asBytes end l)
+  block-like : (end : ℕ) (l : List ℕ) → Stands s end l → Like (Reading (ifSome (sayProps s ackRow))) (ackBlockFit asPlaces end l) (ackBlockFit asBytes end l)
   unfolding ackBlockFit
   block-like end [] w = gots refl
-  block-like end (x ∷ r) w = drops-exact (props-says ackPlace end) cut .like (x ∷ r) w
+  block-like end (x ∷ r) w = drops-exact (props-says ackRow end) cut .like (x ∷ r) w
 
   rest-like : (rs : List ℕ) (end : ℕ) (l : List ℕ) → Stands s end l → Like Rest (ackRestFit asPlaces rs end l) (ackRestFit asBytes rs end l)
   unfolding ackRestFit
@@ -205,7 +205,7 @@ module _ (s : List ℕ) where
       drops-map
       (drops-then (bytes-says end) (reads-bytes end)
       (drops-then (forgets-same (identOf (flagQos x))) (reads-ident (flagQos x))
-      (drops-then (block-says publishPlace (publishAs asPlaces) (publishAs asBytes) (ifSome (sayPublishProps s)) publish-as end) (reads-publish-block end)
+      (drops-then (block-says publishRow (publishAs asPlaces) (publishAs asBytes) (ifSome (sayPublishProps s)) publish-as end) (reads-publish-block end)
       (string-says anyBytes cut end))))
       (mkPublish x) (mkPublish x) (λ a b r. rw (r .1 .1 .0, r .0, r .1 .0, r .1 .1 .1))
 
@@ -223,19 +223,19 @@ module _ (s : List ℕ) where
   fields-like aSubscribe x end q l w =
       drops-map
       (drops-then (forgets-same (bigOf cut 2)) (reads-big cut 2)
-      (drops-then (props-says subscribePlace end) (reads-props subscribePlace end)
+      (drops-then (props-says subscribeRow end) (reads-props subscribeRow end)
       (drops-hand filters-says end (Reading (again (filtersFit asBytes) s)) _ _ (λ fs gs b w′ e r. again-right fills-filters b gs w′ e))))
       {Q = Reading (say s)} mkSubscribe mkSubscribe (λ a b r. rw (r .1 .0, r .1 .1, r .0)) .like l w
   fields-like (aReply rs) x end q l w =
       drops-map
       (drops-then (forgets-same (bigOf cut 2)) (reads-big cut 2)
-      (drops-then (props-says ackPlace end) (reads-props ackPlace end)
+      (drops-then (props-says ackRow end) (reads-props ackRow end)
       (drops-hand (λ e. drops-same (reasonsFit rs e)) end (Reading (again (reasonsFit rs) s)) _ _ (λ cs ds b w′ e r. again-right (fills-reasons rs) b ds w′ e))))
       {Q = Reading (say s)} (mkReply x) (mkReply x) (λ a b r. rw (kind-lists (kindOf x) (aReply rs) q, r .1 .0, r .1 .1, r .0)) .like l w
   fields-like anUnsubscribe x end q l w =
       drops-map
       (drops-then (forgets-same (bigOf cut 2)) (reads-big cut 2)
-      (drops-then (props-says unsubscribePlace end) (reads-props unsubscribePlace end)
+      (drops-then (props-says unsubscribeRow end) (reads-props unsubscribeRow end)
       (drops-hand topics-says end (Reading (again (topicsFit asBytes) s)) _ _ (λ ts us b w′ e r. again-right fills-topics b us w′ e))))
       {Q = Reading (say s)} mkUnsubscribe mkUnsubscribe (λ a b r. rw (r .1 .0, r .1 .1, r .0)) .like l w
   fields-like aPing x end q l w = drops-map (drops-same (isFit anyBytes cut)) {Q = Reading (say s)} (mkPing x) (mkPing x) (λ a b r. refl) .like l w

@@ -10,7 +10,7 @@ use Rattle.grammar.specs.Choice.{isIn, lookup, isEmpty}
 use Rattle.grammar.specs.Gram.{Gram, Only, OnlyBy, forget}
 use Rattle.grammar.specs.Number.{Byte, Big, Groups, shortest, Spells}
 use Rattle.grammar.specs.Text.{Utf8}
-use Rattle.grammar.specs.Tables.{Form, u8, u16, u32, number, text, bytes, pair, Place, publishPlace, subscribePlace, ackPlace, unsubscribePlace, Layout, aPublish, anAck, aSubscribe, aReply, anUnsubscribe, aPing, kinds, reserved, isPing, formAt}
+use Rattle.grammar.specs.Tables.{Form, u8, u16, u32, number, text, bytes, pair, Row, publishRow, subscribeRow, ackRow, unsubscribeRow, Layout, aPublish, anAck, aSubscribe, aReply, anUnsubscribe, aPing, kinds, reserved, isPing, formAt}
 use Rattle.grammar.specs.Record.{kindOf, flagQos}
 use Rattle.grammar.specs.Sentence.{Bytes, Text, met, fresh, Property, Block, publishOf, propsIf, notThree, notZero, Ident, qosFine, ruleFine, FilterOf, ReasonOf, Packet, Body, Frame}
 use Rattle.reading.specs.Refusal.{Refusal, nr, Answer, accepted, refused, lacking, passes, exceeds}
@@ -118,25 +118,25 @@ ValueFault bytes = BytesFault
 ValueFault pair = ThenFault Text TextFault TextFault
 
 -- 01, row 10: "identifier not in its place's row"
-pub data PropertyFault (place : Place) : List ℕ → Refusal → Type 0 where
-  noId : PropertyFault place [] (nr 7 [])
-  unknown : {i : ℕ} {s : List ℕ} → formAt place i ≡ none → PropertyFault place (i ∷ s) (nr 10 (i ∷ []))
-  value : {i : ℕ} {f : Form} {s : List ℕ} {k : Refusal} → formAt place i ≡ some f → ValueFault f s k → PropertyFault place (i ∷ s) k
+pub data PropertyFault (row : Row) : List ℕ → Refusal → Type 0 where
+  noId : PropertyFault row [] (nr 7 [])
+  unknown : {i : ℕ} {s : List ℕ} → formAt row i ≡ none → PropertyFault row (i ∷ s) (nr 10 (i ∷ []))
+  value : {i : ℕ} {f : Form} {s : List ℕ} {k : Refusal} → formAt row i ≡ some f → ValueFault f s k → PropertyFault row (i ∷ s) k
 
 -- 02, P9: "A single-valued property met a second time gets a new refusal DuplicateProperty(k), when its identifier byte is met"; σ were met
-abbrev pub OnceFault : Place → List ℕ → Fault
-OnceFault place σ = HeadFault (λ i. not (isIn i σ)) (λ i. nr 22 (i ∷ [])) (PropertyFault place)
+abbrev pub OnceFault : Row → List ℕ → Fault
+OnceFault row σ = HeadFault (λ i. not (isIn i σ)) (λ i. nr 22 (i ∷ [])) (PropertyFault row)
 
 -- 01, rows 7, 2 and 8 for L, then the first property that breaks
-abbrev pub BlockFault : Place → Fault
-BlockFault place = SizedFault Spells (NumFault (nr 7 []) 4) crossing (ChainFault (met place) (λ σ. Only (fresh σ) (Property place)) (OnceFault place) [])
+abbrev pub BlockFault : Row → Fault
+BlockFault row = SizedFault Spells (NumFault (nr 7 []) 4) crossing (ChainFault (met row) (λ σ. Only (fresh σ) (Property row)) (OnceFault row) [])
 
 -- ---- bodies
 
 -- 01, rows 15 and 7: "not one of the nine"; "bytes after a PubAck's block"
 pub data AckFault (rs : List ℕ) : List ℕ → Refusal → Type 0 where
   reason : {c : ℕ} {r : List ℕ} → isIn c rs ≡ false → AckFault rs (c ∷ r) (nr 15 (c ∷ []))
-  block : {c x : ℕ} {r : List ℕ} {k : Refusal} → isIn c rs ≡ true → ExactFault (Block ackPlace propsIf) (BlockFault ackPlace) (nr 7 []) (x ∷ r) k → AckFault rs (c ∷ x ∷ r) k
+  block : {c x : ℕ} {r : List ℕ} {k : Refusal} → isIn c rs ≡ true → ExactFault (Block ackRow propsIf) (BlockFault ackRow) (nr 7 []) (x ∷ r) k → AckFault rs (c ∷ x ∷ r) k
 
 -- 01, row 12: "Publish, QoS 1 or 2, identifier 0"
 abbrev pub IdentFault : ℕ → Fault
@@ -162,7 +162,7 @@ ReasonFault rs = OnlyFault (λ c. isIn c rs) (λ c. nr 15 (c ∷ [])) Byte (Byte
 
 -- 01: "Topic as bytes, ..; u16 identifier ..; block; the rest is payload", where QoS is q
 abbrev pub MessageFault : ℕ → Fault
-MessageFault q = ThenFault Bytes BytesFault (ThenFault (Ident q) (IdentFault q) (ThenFault (Block publishPlace publishOf) (BlockFault publishPlace) Sound))
+MessageFault q = ThenFault Bytes BytesFault (ThenFault (Ident q) (IdentFault q) (ThenFault (Block publishRow publishOf) (BlockFault publishRow) Sound))
 
 -- 01, row 11, and reading order: "then QoS for Publish; then fields left to right"
 pub data PublishFault (x : ℕ) : List ℕ → Refusal → Type 0 where
@@ -173,9 +173,9 @@ pub data PublishFault (x : ℕ) : List ℕ → Refusal → Type 0 where
 abbrev pub FieldsFault : Layout → ℕ → Fault
 FieldsFault aPublish x = PublishFault x
 FieldsFault (anAck rs) x = ThenFault (Big 2) (BigFault (nr 7 []) 2) (AckFault rs)
-FieldsFault aSubscribe x = ThenFault (Big 2) (BigFault (nr 7 []) 2) (ThenFault (Block subscribePlace propsIf) (BlockFault subscribePlace) FiltersFault)
-FieldsFault (aReply rs) x = ThenFault (Big 2) (BigFault (nr 7 []) 2) (ThenFault (Block ackPlace propsIf) (BlockFault ackPlace) (SomeFault (ReasonOf rs) (ReasonFault rs)))
-FieldsFault anUnsubscribe x = ThenFault (Big 2) (BigFault (nr 7 []) 2) (ThenFault (Block unsubscribePlace propsIf) (BlockFault unsubscribePlace) (SomeFault Text TextFault))
+FieldsFault aSubscribe x = ThenFault (Big 2) (BigFault (nr 7 []) 2) (ThenFault (Block subscribeRow propsIf) (BlockFault subscribeRow) FiltersFault)
+FieldsFault (aReply rs) x = ThenFault (Big 2) (BigFault (nr 7 []) 2) (ThenFault (Block ackRow propsIf) (BlockFault ackRow) (SomeFault (ReasonOf rs) (ReasonFault rs)))
+FieldsFault anUnsubscribe x = ThenFault (Big 2) (BigFault (nr 7 []) 2) (ThenFault (Block unsubscribeRow propsIf) (BlockFault unsubscribeRow) (SomeFault Text TextFault))
 FieldsFault aPing x = Sound
 
 -- 01, rows 4 to 6, in this order; x is the first byte, x / 16 the kind

@@ -1,6 +1,6 @@
 -- The reader whose answer holds places, where strings and lists stand in the stream; items read at a place; and what a placed answer
 -- says once its places are looked up. A place in the stream is a `Span`; a place of the table of properties, whose row says what may
--- stand in a block, is a `Place` (grammar). Assumes nothing.
+-- stand in a block, is a `Row` (grammar). Assumes nothing.
 use mathlib.Core.Path.{_≡_}
 use mathlib.Core.Bool.{Bool, cond}
 use mathlib.Core.Option.{Option, none, some}
@@ -8,7 +8,7 @@ use mathlib.Core.List.{List, [], _∷_}
 use Prim.Native.Nat.{ℕ, zero, suc, _+_, _-_}
 use lib.Dec.{leb}
 use lib.ListN.{length, take, drop}
-use Rattle.grammar.specs.Tables.{Place, publishPlace, subscribePlace, ackPlace, unsubscribePlace, reasonsOf}
+use Rattle.grammar.specs.Tables.{Row, publishRow, subscribeRow, ackRow, unsubscribeRow, reasonsOf}
 use Rattle.grammar.specs.Record.{Val, num, str, duo, PropOf, allOf, PublishProps, Props, Publish, Filter, Subscribe, Ack, Reply, Unsubscribe, PacketOf, publish, ack, subscribe, reply, unsubscribe, ping}
 use Rattle.grammar.specs.Sentence.{Value, Prop, Packet}
 use Rattle.reading.specs.Refusal.{Refusal, nr, Answer, accepted, refused}
@@ -78,22 +78,22 @@ reasonAt s p rs n = do
   nthOf n cs
 
 module _ (h : Shape) (s : List ℕ) (p : Span) where
-  -- all values of property i in the block of a place's row
-  unfoldable pub valuesAt : Place → ℕ → Fit (List (Val (h .Str)))
-  valuesAt place i = do
-    ps ← again (propertiesFit h place) s p
+  -- all values of property i in a block of the row
+  unfoldable pub valuesAt : Row → ℕ → Fit (List (Val (h .Str)))
+  valuesAt row i = do
+    ps ← again (propertiesFit h row) s p
     got (allOf i ps)
 
   -- 01: "a way to get the n-th pair, identifier or filter, n from 0, each list apart"
-  unfoldable pub userAt : Place → ℕ → Fit (Val (h .Str))
-  userAt place n = do
-    vs ← valuesAt place 38
+  unfoldable pub userAt : Row → ℕ → Fit (Val (h .Str))
+  userAt row n = do
+    vs ← valuesAt row 38
     nthOf n vs
 
   -- 01: the n-th identifier of a Publish block
   unfoldable pub subscriptionAt : ℕ → Fit (Val (h .Str))
   subscriptionAt n = do
-    vs ← valuesAt publishPlace 11
+    vs ← valuesAt publishRow 11
     nthOf n vs
 
   -- 01: the n-th filter of a run
@@ -143,8 +143,8 @@ module _ (s : List ℕ) where
   -- a list that cannot be read at its place refuses
   abbrev pub sayPublishProps : PublishProps Span (λ A. Span) → Fit (PublishProps (List ℕ) List)
   sayPublishProps ps = do
-    user ← valuesAt asBytes s (ps .user) publishPlace 38
-    subscriptions ← valuesAt asBytes s (ps .subscriptions) publishPlace 11
+    user ← valuesAt asBytes s (ps .user) publishRow 38
+    subscriptions ← valuesAt asBytes s (ps .subscriptions) publishRow 11
     got (record {
       format = onSome sayVal (ps .format);
       expiry = onSome sayVal (ps .expiry);
@@ -157,9 +157,9 @@ module _ (s : List ℕ) where
     })
 
   -- a list that cannot be read at its place refuses
-  abbrev pub sayProps : Place → Props Span (λ A. Span) → Fit (Props (List ℕ) List)
-  sayProps place ps = do
-    user ← valuesAt asBytes s (ps .user) place 38
+  abbrev pub sayProps : Row → Props Span (λ A. Span) → Fit (Props (List ℕ) List)
+  sayProps row ps = do
+    user ← valuesAt asBytes s (ps .user) row 38
     got (record { reason = onSome sayVal (ps .reason); ident = onSome sayVal (ps .ident); user = user })
 
   -- a packet
@@ -176,18 +176,18 @@ module _ (s : List ℕ) where
       payload = heldOf s (m .payload);
     }))
   say (ack k m) = do
-    props ← ifSome (sayProps ackPlace) (m .props)
+    props ← ifSome (sayProps ackRow) (m .props)
     got (ack k (record { ident = m .ident; reason = m .reason; props = props }))
   say (subscribe m) = do
-    props ← ifSome (sayProps subscribePlace) (m .props)
+    props ← ifSome (sayProps subscribeRow) (m .props)
     filters ← again (filtersFit asBytes) s (m .filters)
     got (subscribe (record { ident = m .ident; props = props; filters = filters }))
   say (reply k m) = do
-    props ← ifSome (sayProps ackPlace) (m .props)
+    props ← ifSome (sayProps ackRow) (m .props)
     reasons ← again (reasonsFit (reasonsOf k)) s (m .reasons)
     got (reply k (record { ident = m .ident; props = props; reasons = reasons }))
   say (unsubscribe m) = do
-    props ← ifSome (sayProps unsubscribePlace) (m .props)
+    props ← ifSome (sayProps unsubscribeRow) (m .props)
     topics ← again (topicsFit asBytes) s (m .topics)
     got (unsubscribe (record { ident = m .ident; props = props; topics = topics }))
   say (ping k) = got (ping k)
@@ -211,20 +211,20 @@ pub data OnBoth {A B : Type 0} (R : A → B → Type 0) : Option A → Option B 
 module _ (s : List ℕ) where
   -- the lists of a Publish block
   abbrev pub PublishItems : PublishProps Span (λ A. Span) → PublishProps (List ℕ) List → Type 0
-  PublishItems ps qs = Lists (userAt asPlaces s (ps .user) publishPlace) (sayVal s) (qs .user) × Lists (subscriptionAt asPlaces s (ps .subscriptions)) (sayVal s) (qs .subscriptions)
+  PublishItems ps qs = Lists (userAt asPlaces s (ps .user) publishRow) (sayVal s) (qs .user) × Lists (subscriptionAt asPlaces s (ps .subscriptions)) (sayVal s) (qs .subscriptions)
 
   -- the list of a block at any other place
-  abbrev pub PropsItems : Place → Props Span (λ A. Span) → Props (List ℕ) List → Type 0
-  PropsItems place ps qs = Lists (userAt asPlaces s (ps .user) place) (sayVal s) (qs .user)
+  abbrev pub PropsItems : Row → Props Span (λ A. Span) → Props (List ℕ) List → Type 0
+  PropsItems row ps qs = Lists (userAt asPlaces s (ps .user) row) (sayVal s) (qs .user)
 
   -- every list of a packet
   pub data Items : Placed → Packet → Type 0 where
     ofPublish : {m : Publish Span (λ A. Span)} {w : Publish (List ℕ) List} → OnBoth PublishItems (m .props) (w .props) → Items (publish m) (publish w)
-    ofAck : {k : ℕ} {m : Ack Span (λ A. Span)} {w : Ack (List ℕ) List} → OnBoth (PropsItems ackPlace) (m .props) (w .props) → Items (ack k m) (ack k w)
-    ofSubscribe : {m : Subscribe Span (λ A. Span)} {w : Subscribe (List ℕ) List} → OnBoth (PropsItems subscribePlace) (m .props) (w .props) → Lists (filterAt asPlaces s (m .filters)) (sayFilter s) (w .filters)
+    ofAck : {k : ℕ} {m : Ack Span (λ A. Span)} {w : Ack (List ℕ) List} → OnBoth (PropsItems ackRow) (m .props) (w .props) → Items (ack k m) (ack k w)
+    ofSubscribe : {m : Subscribe Span (λ A. Span)} {w : Subscribe (List ℕ) List} → OnBoth (PropsItems subscribeRow) (m .props) (w .props) → Lists (filterAt asPlaces s (m .filters)) (sayFilter s) (w .filters)
         → Items (subscribe m) (subscribe w)
-    ofReply : {k : ℕ} {m : Reply Span (λ A. Span)} {w : Reply (List ℕ) List} → OnBoth (PropsItems ackPlace) (m .props) (w .props) → Lists (reasonAt s (m .reasons) (reasonsOf k)) (λ c. c) (w .reasons)
+    ofReply : {k : ℕ} {m : Reply Span (λ A. Span)} {w : Reply (List ℕ) List} → OnBoth (PropsItems ackRow) (m .props) (w .props) → Lists (reasonAt s (m .reasons) (reasonsOf k)) (λ c. c) (w .reasons)
         → Items (reply k m) (reply k w)
-    ofUnsubscribe : {m : Unsubscribe Span (λ A. Span)} {w : Unsubscribe (List ℕ) List} → OnBoth (PropsItems unsubscribePlace) (m .props) (w .props) → Lists (topicAt asPlaces s (m .topics)) (heldOf s) (w .topics)
+    ofUnsubscribe : {m : Unsubscribe Span (λ A. Span)} {w : Unsubscribe (List ℕ) List} → OnBoth (PropsItems unsubscribeRow) (m .props) (w .props) → Lists (topicAt asPlaces s (m .topics)) (heldOf s) (w .topics)
         → Items (unsubscribe m) (unsubscribe w)
     ofPing : {k : ℕ} → Items (ping k) (ping k)

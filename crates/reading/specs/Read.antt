@@ -9,7 +9,7 @@ use lib.ListN.{length, take, drop}
 use Rattle.grammar.specs.Choice.{isIn, lookup, isEmpty}
 use Rattle.grammar.specs.Number.{bigFrom, shortest}
 use Rattle.grammar.specs.Text.{Range, inRange, rows, rowAt, cons}
-use Rattle.grammar.specs.Tables.{Form, u8, u16, u32, number, text, bytes, pair, Place, publishPlace, subscribePlace, ackPlace, unsubscribePlace, Layout, aPublish, anAck, aSubscribe, aReply, anUnsubscribe, aPing, kinds, reserved, isPing, formAt}
+use Rattle.grammar.specs.Tables.{Form, u8, u16, u32, number, text, bytes, pair, Row, publishRow, subscribeRow, ackRow, unsubscribeRow, Layout, aPublish, anAck, aSubscribe, aReply, anUnsubscribe, aPing, kinds, reserved, isPing, formAt}
 use Rattle.grammar.specs.Record.{Val, num, str, PropOf, unlessEmpty, PublishProps, publishProps, Props, propsOf, Filter, PacketOf, kindOf, flagQos, mkPublish, mkAck, mkFilter, mkSubscribe, mkReply, mkUnsubscribe, mkPing}
 use Rattle.grammar.specs.Sentence.{duoOf, met, notThree, notZero, qosFine, ruleFine, someOf, Packet}
 use Rattle.reading.specs.Refusal.{Refusal, nr, Answer, accepted, refusedAs, cut, crossed, lacking, passes, exceeds}
@@ -148,21 +148,21 @@ module _ (h : Shape) where
     got ((i, v), r)
 
   -- 01: "an identifier byte and a value"
-  unfoldable pub propertyOf : Place → ℕ → Reader (PropOf (h .Str))
-  propertyOf place end [] = bad cut
-  propertyOf place end (i ∷ s) = valueAt (formAt place i) i end s
+  unfoldable pub propertyOf : Row → ℕ → Reader (PropOf (h .Str))
+  propertyOf row end [] = bad cut
+  propertyOf row end (i ∷ s) = valueAt (formAt row i) i end s
 
   -- 02, P9: "when its identifier byte is met": σ were met and may not come again; they are in the row, so none of them gets 10
-  unfoldable pub onceOf : Place → ℕ → List ℕ → Reader (PropOf (h .Str))
-  onceOf place end σ = headOf (λ i. not (isIn i σ)) (λ i. nr 22 (i ∷ [])) (propertyOf place end)
+  unfoldable pub onceOf : Row → ℕ → List ℕ → Reader (PropOf (h .Str))
+  onceOf row end σ = headOf (λ i. not (isIn i σ)) (λ i. nr 22 (i ∷ [])) (propertyOf row end)
 
   -- 01, grammar: "filled exactly by properties"
-  unfoldable pub propertiesFit : Place → ℕ → Filler (List (PropOf (h .Str)))
-  propertiesFit place end = chainFit (met place) (onceOf place end) []
+  unfoldable pub propertiesFit : Row → ℕ → Filler (List (PropOf (h .Str)))
+  propertiesFit row end = chainFit (met row) (onceOf row end) []
 
   -- 01: "A property block is a variable length number L and L bytes"; f makes the record
-  unfoldable pub blockOf : {A : Type 0} → Place → (List (PropOf (h .Str)) → List ℕ → ℕ → A) → ℕ → Reader A
-  blockOf place f = sizedOf (numOf cut 4) crossed (handFit f (propertiesFit place))
+  unfoldable pub blockOf : {A : Type 0} → Row → (List (PropOf (h .Str)) → List ℕ → ℕ → A) → ℕ → Reader A
+  blockOf row f = sizedOf (numOf cut 4) crossed (handFit f (propertiesFit row))
 
   -- 01: "L = 0 means absent"; Publish
   abbrev pub publishAs : List (PropOf (h .Str)) → List ℕ → ℕ → Option (PublishProps (h .Str) (h .Run))
@@ -177,7 +177,7 @@ module _ (h : Shape) where
   -- 01, grammar, PubAck: "at R = 3 a reason and no block; from R = 4 a reason and a block that ends the frame"; row 7: "bytes after a PubAck's block"
   unfoldable pub ackBlockFit : ℕ → Filler (Option (Props (h .Str) (h .Run)))
   ackBlockFit end [] = got none
-  ackBlockFit end (x ∷ r) = exactFit (blockOf ackPlace propsAs end) cut (x ∷ r)
+  ackBlockFit end (x ∷ r) = exactFit (blockOf ackRow propsAs end) cut (x ∷ r)
 
   -- 01, grammar, PubAck: "at R = 2 success and no block"; row 15: "not one of the nine", tested before the block
   unfoldable pub ackRestFit : List ℕ → ℕ → Filler (ℕ × Option (Props (h .Str) (h .Run)))
@@ -202,7 +202,7 @@ module _ (h : Shape) where
   -- 01: "Topic as bytes, ..; u16 identifier ..; block; the rest is payload"
   unfoldable pub messageFit : ℕ → ℕ → Filler (PacketOf (h .Str) (h .Run))
   messageFit x end =
-      mapFit (mkPublish x) (thenFit (bytesOf end) (λ _. thenFit (identOf (flagQos x)) (λ _. thenFit (blockOf publishPlace publishAs end) (λ _. stringFit anyBytes cut end))))
+      mapFit (mkPublish x) (thenFit (bytesOf end) (λ _. thenFit (identOf (flagQos x)) (λ _. thenFit (blockOf publishRow publishAs end) (λ _. stringFit anyBytes cut end))))
 
   -- 01, reading order: "then QoS for Publish; then fields left to right"
   unfoldable pub fieldsFit : Layout → ℕ → ℕ → Filler (PacketOf (h .Str) (h .Run))
@@ -211,11 +211,11 @@ module _ (h : Shape) where
     messageFit x end b
   fieldsFit (anAck rs) x end b = mapFit (mkAck x) (thenFit (bigOf cut 2) (λ _. ackRestFit rs end)) b
   fieldsFit aSubscribe x end b =
-      mapFit mkSubscribe (thenFit (bigOf cut 2) (λ _. thenFit (blockOf subscribePlace propsAs end) (λ _. handFit (λ vs. h .run (Filter (h .Str)) vs) filtersFit end))) b
+      mapFit mkSubscribe (thenFit (bigOf cut 2) (λ _. thenFit (blockOf subscribeRow propsAs end) (λ _. handFit (λ vs. h .run (Filter (h .Str)) vs) filtersFit end))) b
   fieldsFit (aReply rs) x end b =
-      mapFit (mkReply x) (thenFit (bigOf cut 2) (λ _. thenFit (blockOf ackPlace propsAs end) (λ _. handFit (λ vs. h .run ℕ vs) (reasonsFit rs) end))) b
+      mapFit (mkReply x) (thenFit (bigOf cut 2) (λ _. thenFit (blockOf ackRow propsAs end) (λ _. handFit (λ vs. h .run ℕ vs) (reasonsFit rs) end))) b
   fieldsFit anUnsubscribe x end b =
-      mapFit mkUnsubscribe (thenFit (bigOf cut 2) (λ _. thenFit (blockOf unsubscribePlace propsAs end) (λ _. handFit (λ vs. h .run (h .Str) vs) topicsFit end))) b
+      mapFit mkUnsubscribe (thenFit (bigOf cut 2) (λ _. thenFit (blockOf unsubscribeRow propsAs end) (λ _. handFit (λ vs. h .run (h .Str) vs) topicsFit end))) b
   fieldsFit aPing x end b = mapFit (mkPing x) (isFit anyBytes cut) b
 
   -- 01, row 6, as 02's P1 leaves it: "kind 1, 2, .. 14"

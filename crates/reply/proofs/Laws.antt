@@ -8,7 +8,7 @@ use native.Mathlib.Omega.{arith}
 use lib.ListN.{length, drop, getD, length-drop}
 use lib.Seq.{drop-cons}
 use Rattle.grammar.specs.Choice.{isIn}
-use Rattle.grammar.specs.Tables.{ackPlace, aReply}
+use Rattle.grammar.specs.Tables.{ackRow, aReply}
 use Rattle.grammar.specs.Record.{Props, reply, kindOf}
 use Rattle.reading.specs.Refusal.{nr}
 use Rattle.reading.specs.Reader.{got, bad, handFit, onlyOf}
@@ -33,6 +33,6 @@ abbrev pub madeBy : ℕ → ℕ × (Option (Props Span (λ A. Span)) × Span) �
 madeBy k v = reply k (record { ident = v .0; props = v .1 .0; reasons = v .1 .1 })
 
 -- x is a first byte of the kind
-pub as-listed : (rs : List ℕ) (k : ℕ) (s : List ℕ) (at x : ℕ) → kindOf x ≡ k → listedFields ackPlace (placedRun (reasonOf rs) (length s)) (madeBy k) s at ≡ fieldsFit asPlaces (aReply rs) x (length s) (drop at s)
+pub as-listed : (rs : List ℕ) (k : ℕ) (s : List ℕ) (at x : ℕ) → kindOf x ≡ k → listedFields ackRow (placedRun (reasonOf rs) (length s)) (madeBy k) s at ≡ fieldsFit asPlaces (aReply rs) x (length s) (drop at s)
 unfolding fieldsFit handFit reasonsFit
-as-listed rs k s at x h = ap (λ (n : ℕ). listedFields ackPlace (placedRun (reasonOf rs) (length s)) (madeBy n) s at) (sym h)
+as-listed rs k s at x h = ap (λ (n : ℕ). listedFields ackRow (placedRun (reasonOf rs) (length s)) (madeBy n) s at) (sym h)

@@ -8,7 +8,7 @@ use native.Mathlib.Numerals.{add-one}
 use lib.ListN.{length, drop, getD, drop-of-length-le}
 use lib.Seq.{sets, drop-cons}
 use Rattle.grammar.specs.Choice.{isEmpty}
-use Rattle.grammar.specs.Tables.{ackPlace, reasonsOf, firstOf}
+use Rattle.grammar.specs.Tables.{ackRow, reasonsOf, firstOf}
 use Rattle.reading.specs.Refusal.{nr}
 use Rattle.reading.specs.Reader.{Fit, got, bad, _>>_, guard}
 use Rattle.writing.specs.Lists.{flat}
@@ -21,12 +21,12 @@ use Rattle.writing.proofs.Judge.{judge-append}
 use Rattle.writing.proofs.Each.{flat-append}
 use Rattle.writing.proofs.ForCode.{reply-frame, cap-small, cap-length}
 use Rattle.writing.proofs.Says.{length-wide}
-use Rattle.row_sizes.proofs.Laws.{cap-left}
-use Rattle.row_puts.specs.Put.{Put}
-use Rattle.row_puts.specs.Behind.{Behind}
-use Rattle.row_puts.proofs.Laws.{store-next, put-next, next-last}
-use Rattle.settle.specs.Found.{earlyOf, lateOf}
-use Rattle.settle.proofs.Laws.{early-fields}
+use Rattle.write_sizes.proofs.Laws.{cap-left}
+use Rattle.write_properties.specs.Put.{Put}
+use Rattle.write_properties.specs.Behind.{Behind}
+use Rattle.write_properties.proofs.Laws.{store-next, put-next, next-last}
+use Rattle.write_order.specs.Found.{beforeSize, afterLimit}
+use Rattle.write_order.proofs.Laws.{before-size-fields}
 
 -- ---- the i-th reason of a list, and the rest
 
@@ -50,17 +50,17 @@ some-asked (c ∷ cs) e = refl
 module _ (k : ℕ) (h : ReplyHanded) where
   -- ---- 20
 
-  pub belong-all : {r : Bool} → r ≡ blockBelongs ackPlace (h .block) (ackGiven (h .text) (h .user)) → r ≡ belongs (reply k h)
+  pub belong-all : {r : Bool} → r ≡ blockBelongs ackRow (h .block) (ackGiven (h .text) (h .user)) → r ≡ belongs (reply k h)
   unfolding belongs
   belong-all e = e
 
   -- ---- R
 
-  pub reply-rest : (l w a r : ℕ) → l ≡ cap (propsSize ackPlace (ackGiven (h .text) (h .user))) → w ≡ cap (withLength l)
+  pub reply-rest : (l w a r : ℕ) → l ≡ cap (propsSize ackRow (ackGiven (h .text) (h .user))) → w ≡ cap (withLength l)
       → a ≡ cap (w + length (h .reasons)) → r ≡ cap (a + 2) → r ≡ cap (restIs (reply k h))
   unfolding restIs
   reply-rest l w a r e g j i =
-      let n : ℕ = propsSize ackPlace (ackGiven (h .text) (h .user)) in
+      let n : ℕ = propsSize ackRow (ackGiven (h .text) (h .user)) in
       let t : ℕ = length (h .reasons) in
       let p : w ≡ cap (withLength n) = g ∙ rw e (cap-length n) in
       let q : withLength n + t + 2 ≡ 2 + (withLength n + t) = omega arith in
@@ -69,37 +69,37 @@ module _ (k : ℕ) (h : ReplyHanded) where
   -- ---- 20 and the fields
 
   tests-both : judge (flat fieldTests (fieldsOf (reply k h)))
-      ≡ (judge (flat fieldTests (propsFields ackPlace (ackGiven (h .text) (h .user)))) >> judge (flat fieldTests (map (code (reasonsOf k)) (h .reasons))))
+      ≡ (judge (flat fieldTests (propsFields ackRow (ackGiven (h .text) (h .user)))) >> judge (flat fieldTests (map (code (reasonsOf k)) (h .reasons))))
   unfolding fieldsOf
   tests-both =
-      let fs = propsFields ackPlace (ackGiven (h .text) (h .user)) in
+      let fs = propsFields ackRow (ackGiven (h .text) (h .user)) in
       let gs = map (code (reasonsOf k)) (h .reasons) in
       rw (flat-append fieldTests fs gs) (judge-append (flat fieldTests fs) (flat fieldTests gs))
 
-  pub early-all : {b : Bool} {x y r : Fit (Unit {0})} → b ≡ belongs (reply k h) → b ≡ true → x ≡ judge (flat fieldTests (propsFields ackPlace (ackGiven (h .text) (h .user))))
-      → y ≡ judge (flat fieldTests (map (code (reasonsOf k)) (h .reasons))) → r ≡ (x >> y) → r ≡ earlyOf (reply k h)
-  early-all {b} e f i j l = l ∙ rw (i, j) (sym tests-both) ∙ early-fields (reply k h) b e f
+  pub before-size-all : {b : Bool} {x y r : Fit (Unit {0})} → b ≡ belongs (reply k h) → b ≡ true → x ≡ judge (flat fieldTests (propsFields ackRow (ackGiven (h .text) (h .user))))
+      → y ≡ judge (flat fieldTests (map (code (reasonsOf k)) (h .reasons))) → r ≡ (x >> y) → r ≡ beforeSize (reply k h)
+  before-size-all {b} e f i j l = l ∙ rw (i, j) (sym tests-both) ∙ before-size-fields (reply k h) b e f
 
   -- ---- 13, at its place
 
-  pub late-all : {x : Fit (Unit {0})} → x ≡ guard (not (isEmpty (h .reasons))) (nr 13 []) → x ≡ lateOf (reply k h)
+  pub after-limit-all : {x : Fit (Unit {0})} → x ≡ guard (not (isEmpty (h .reasons))) (nr 13 []) → x ≡ afterLimit (reply k h)
   unfolding judge
-  late-all e = e
+  after-limit-all e = e
 
   -- ---- the bytes
 
   abbrev pub block : List ℕ
-  block = short (propsSize ackPlace (ackGiven (h .text) (h .user))) ++ propsBytes ackPlace (ackGiven (h .text) (h .user))
+  block = short (propsSize ackRow (ackGiven (h .text) (h .user))) ++ propsBytes ackRow (ackGiven (h .text) (h .user))
 
   -- a block in a frame that is not too long is not too long
-  length-small : restIs (reply k h) ≤ most → propsSize ackPlace (ackGiven (h .text) (h .user)) ≤ most
+  length-small : restIs (reply k h) ≤ most → propsSize ackRow (ackGiven (h .text) (h .user)) ≤ most
   unfolding restIs
   length-small s = omega arith
 
   pub put-frame : (before out₁ out₂ out₃ out₄ : List ℕ) (byte len n first second third : ℕ) → byte ≡ firstOf k → len ≡ cap (restIs (reply k h))
       → Put before 0 (byte ∷ short len) out₁ n → first ≡ min (0 + n) (length out₁)
       → out₂ ≡ sets out₁ first (wide 2 (h .ident)) → second ≡ min (first + 2) (length out₂)
-      → (propsSize ackPlace (ackGiven (h .text) (h .user)) ≤ most → Behind out₂ second block out₃ third)
+      → (propsSize ackRow (ackGiven (h .text) (h .user)) ≤ most → Behind out₂ second block out₃ third)
       → out₄ ≡ sets out₃ third (h .reasons)
       → belongs (reply k h) ≡ true → restIs (reply k h) ≤ most → out₄ ≡ sets before 0 (frameBytes (reply k h))
   unfolding firstByte
@@ -111,4 +111,4 @@ module _ (k : ℕ) (h : ReplyHanded) where
       ∙ ap (sets before 0) (sym (spelt i))
     where
       spelt : len ≡ restIs (reply k h) → frameBytes (reply k h) ≡ (byte ∷ short len) ++ (wide 2 (h .ident) ++ (block ++ h .reasons))
-      spelt i = reply-frame k h e ∙ rw (i, o, append-assoc (short (propsSize ackPlace (ackGiven (h .text) (h .user)))) (propsBytes ackPlace (ackGiven (h .text) (h .user))) (h .reasons))
+      spelt i = reply-frame k h e ∙ rw (i, o, append-assoc (short (propsSize ackRow (ackGiven (h .text) (h .user)))) (propsBytes ackRow (ackGiven (h .text) (h .user))) (h .reasons))

@@ -2,7 +2,7 @@
 use mathlib.Core.List.{List}
 use Prim.Native.Nat.{ℕ}
 use Rattle.writing.specs.Handed.{ReplyHanded}
-use Rattle.rows.specs.Given.{run}
+use Rattle.write_runs.specs.Given.{run}
 use Rattle.reply_write.specs.declared.ReplyHead.{ReplyHead}
 
 -- 02, P1: SubAck and UnsubAck: the numbers and presence, the reason string, the user properties and their lengths, the reasons as bytes

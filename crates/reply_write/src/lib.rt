@@ -1,18 +1,18 @@
 // A SubAck or UnsubAck, written, after `write` and `size` of suback.rs and unsuback.rs: first every refusal and the size, touching nothing,
 // then the bytes. An empty reason list is refused, and a reason that its kind does not list.
-use byte_puts::put_bytes;
 use kinds;
 use kinds::Kind;
 use kinds::number_of;
-use number_puts::fixed;
 use records::answer::Limit;
 use records::answer::Sized;
 use records::answer::Written;
 use records::error::Error;
 use records::reply_record::ReplyKind;
-use row_tests::Tested;
-use rows::run;
 use tables::reason::is_reply_reason;
+use write_bytes::put_bytes;
+use write_numbers::fixed;
+use write_runs::run;
+use write_tests::Tested;
 ghost use mathlib.Core.Path.{_≡_};
 ghost use mathlib.Core.Bool.{true, not};
 ghost use mathlib.Core.List.{[], map};
@@ -29,8 +29,8 @@ ghost use Rattle.writing.specs.Order.{judge, code, fieldTests};
 ghost use Rattle.writing.specs.Write.{frameBytes, sizeOf, Written as WrittenOf};
 ghost use Rattle.records.specs.AsNumbers.{limitOf, toldReplyKind};
 ghost use Rattle.records.specs.Answered.{toldSized, toldWritten};
-ghost use Rattle.row_tests.specs.Tested.{toldTested};
-ghost use Rattle.settle.specs.Found.{earlyOf};
+ghost use Rattle.write_tests.specs.Tested.{toldTested};
+ghost use Rattle.write_order.specs.Found.{beforeSize};
 ghost use Rattle.reply_write.specs.Handed.{handed};
 
 // What is handed over by value; the reason string, the user properties and the reasons are lent beside it.
@@ -53,7 +53,7 @@ fn belongs(
 ) -> bool
     ensures { λ r. ⌜ r ≡ belongsOf (reply (toldReplyKind (m .kind)) (handed m (now («reason_string» .entry)) (now (user .entry)) (now («user_lengths» .entry)) (now (reasons .entry)))) ⌝ }
 {
-    ack_rows::rows_belong(m.block, m.reason_string, reason_string, user, user_lengths)
+    write_ack_properties::rows_belong(m.block, m.reason_string, reason_string, user, user_lengths)
 }
 
 // R, cut off where it is too large.
@@ -66,9 +66,9 @@ fn rest(
 ) -> usize
     ensures { λ r. ⌜ r ≡ cap (restIs (reply (toldReplyKind (m .kind)) (handed m (now («reason_string» .entry)) (now (user .entry)) (now («user_lengths» .entry)) (now (reasons .entry))))) ⌝ }
 {
-    let len = ack_rows::rows_length(m.reason_string, reason_string, user, user_lengths);
-    row_sizes::add(
-        row_sizes::add(row_sizes::with_length(len), reasons.len()),
+    let len = write_ack_properties::rows_length(m.reason_string, reason_string, user, user_lengths);
+    write_sizes::add(
+        write_sizes::add(write_sizes::with_length(len), reasons.len()),
         2,
     )
 }
@@ -83,7 +83,7 @@ pub fn size(
 ) -> Sized
     ensures { λ r. ⌜ toldSized r ≡ sizeOf (reply (toldReplyKind (m .kind)) (handed m (now («reason_string» .entry)) (now (user .entry)) (now («user_lengths» .entry)) (now (reasons .entry)))) ⌝ }
 {
-    settle::size(
+    write_order::size(
         belongs(m, reason_string, user, user_lengths, reasons),
         rest(m, reason_string, user, user_lengths, reasons),
     )
@@ -115,21 +115,21 @@ fn test_reasons(kind: ReplyKind, reasons: &[u8]) -> Tested
 }
 
 // 20, then the fields.
-fn early(
+fn before_size(
     m: ReplyHead,
     reason_string: &[u8],
     user: &[u8],
     user_lengths: &[usize],
     reasons: &[u8],
 ) -> Tested
-    ensures { λ r. ⌜ toldTested r ≡ earlyOf (reply (toldReplyKind (m .kind)) (handed m (now («reason_string» .entry)) (now (user .entry)) (now («user_lengths» .entry)) (now (reasons .entry)))) ⌝ }
+    ensures { λ r. ⌜ toldTested r ≡ beforeSize (reply (toldReplyKind (m .kind)) (handed m (now («reason_string» .entry)) (now (user .entry)) (now («user_lengths» .entry)) (now (reasons .entry)))) ⌝ }
 {
     if !belongs(m, reason_string, user, user_lengths, reasons) {
         return Tested::Refused(Error::ListMismatch);
     }
     let kind = m.kind;
-    row_tests::then(
-        ack_rows::test_rows(m.reason_string, reason_string, user, user_lengths),
+    write_tests::then(
+        write_ack_properties::test_rows(m.reason_string, reason_string, user, user_lengths),
         test_reasons(kind, reasons),
     )
 }
@@ -165,11 +165,11 @@ fn put(
     let len = rest(m, reason_string, user, user_lengths, reasons);
     let kind = m.kind;
     let byte1 = first_byte(kind);
-    let n = row_puts::put_header(&mut *out, byte1, len);
+    let n = write_properties::put_header(&mut *out, byte1, len);
     let first = run::after(out.len(), 0, n);
     fixed::put_u16(&mut *out, first, m.pkid);
     let second = run::after(out.len(), first, 2);
-    let third = ack_rows::put_rows(
+    let third = write_ack_properties::put_rows(
         &mut *out,
         second,
         m.reason_string,
@@ -192,10 +192,10 @@ pub fn write(
 ) -> Written
     ensures { λ r. ⌜ WrittenOf (limitOf limit) (reply (toldReplyKind (m .kind)) (handed m (now («reason_string» .entry)) (now (user .entry)) (now («user_lengths» .entry)) (now (reasons .entry)))) (now (out .entry)) (now (out .exit)) (toldWritten r) ⌝ }
 {
-    let fields = early(m, reason_string, user, user_lengths, reasons);
+    let fields = before_size(m, reason_string, user, user_lengths, reasons);
     let len = rest(m, reason_string, user, user_lengths, reasons);
     let end = test_asked(reasons);
-    match settle::settle(fields, len, limit, end, out.len()) {
+    match write_order::settle(fields, len, limit, end, out.len()) {
         Written::Refused(e) => Written::Refused(e),
         Written::Size(n) => {
             put(&mut *out, m, reason_string, user, user_lengths, reasons);

@@ -3,7 +3,7 @@ use mathlib.Core.Path.{_≡_, refl}
 use mathlib.Core.List.{List}
 use Prim.Native.Nat.{ℕ}
 use lib.ListN.{length, drop}
-use Rattle.grammar.specs.Tables.{subscribePlace, aSubscribe}
+use Rattle.grammar.specs.Tables.{subscribeRow, aSubscribe}
 use Rattle.grammar.specs.Record.{mkSubscribe}
 use Rattle.reading.specs.Reader.{handFit}
 use Rattle.reading.specs.Read.{filtersFit, fieldsFit}
@@ -11,6 +11,6 @@ use Rattle.reading.specs.Place.{asPlaces}
 use Rattle.positions.proofs.Listed.{listedFields}
 use Rattle.filter_runs.specs.FilterRun.{placeFit}
 
-pub as-listed : (s : List ℕ) (at x : ℕ) → listedFields subscribePlace (placeFit (length s)) mkSubscribe s at ≡ fieldsFit asPlaces aSubscribe x (length s) (drop at s)
+pub as-listed : (s : List ℕ) (at x : ℕ) → listedFields subscribeRow (placeFit (length s)) mkSubscribe s at ≡ fieldsFit asPlaces aSubscribe x (length s) (drop at s)
 unfolding fieldsFit handFit filtersFit
 as-listed s at x = refl

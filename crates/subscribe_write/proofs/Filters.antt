@@ -21,12 +21,12 @@ use Rattle.writing.proofs.Tests.{eq-when, eq-not, le-or}
 use Rattle.writing.proofs.Judge.{judge-append}
 use Rattle.writing.proofs.Sizes.{length-string}
 use Rattle.writing.proofs.ForCode.{runFrom, stringAt, strings-done}
-use Rattle.number_puts.proofs.Laws.Put.{wide-one}
-use Rattle.rows.specs.Given.{run}
-use Rattle.rows.proofs.Laws.Run.{strings-cut}
-use Rattle.row_sizes.proofs.Laws.{cap-left}
-use Rattle.row_puts.specs.Put.{Put}
-use Rattle.row_puts.proofs.Laws.{sets-next}
+use Rattle.write_numbers.proofs.Laws.Put.{wide-one}
+use Rattle.write_runs.specs.Given.{run}
+use Rattle.write_runs.proofs.Laws.Run.{strings-cut}
+use Rattle.write_sizes.proofs.Laws.{cap-left}
+use Rattle.write_properties.specs.Put.{Put}
+use Rattle.write_properties.proofs.Laws.{sets-next}
 
 -- ---- the i-th filter, its text at index p of the run; the rest of the run is from index q on
 

@@ -7,7 +7,7 @@ use native.Mathlib.Omega.{arith}
 use lib.ListN.{length}
 use lib.Seq.{sets}
 use Rattle.grammar.specs.Choice.{isEmpty}
-use Rattle.grammar.specs.Tables.{number, pair, subscribePlace, firstOf}
+use Rattle.grammar.specs.Tables.{number, pair, subscribeRow, firstOf}
 use Rattle.reading.specs.Refusal.{nr}
 use Rattle.reading.specs.Reader.{Fit, _>>_, guard}
 use Rattle.writing.specs.Lists.{flat}
@@ -19,12 +19,12 @@ use Rattle.writing.specs.Write.{firstByte, frameBytes}
 use Rattle.writing.proofs.ForCode.{judgeAll, subscribe-belongs, subscribe-tests, subscribe-sum, subscribe-frame, cap-small, cap-length}
 use Rattle.writing.proofs.Pins.{subscribe-props}
 use Rattle.writing.proofs.Says.{length-wide}
-use Rattle.row_sizes.proofs.Laws.{cap-left, cap-both, cap-last}
-use Rattle.row_puts.specs.Put.{Put}
-use Rattle.row_puts.specs.Behind.{Behind}
-use Rattle.row_puts.proofs.Laws.{store-next, put-next, next-last, next-then}
-use Rattle.settle.specs.Found.{earlyOf, lateOf}
-use Rattle.settle.proofs.Laws.{early-fields}
+use Rattle.write_sizes.proofs.Laws.{cap-left, cap-both, cap-last}
+use Rattle.write_properties.specs.Put.{Put}
+use Rattle.write_properties.specs.Behind.{Behind}
+use Rattle.write_properties.proofs.Laws.{store-next, put-next, next-last, next-then}
+use Rattle.write_order.specs.Found.{beforeSize, afterLimit}
+use Rattle.write_order.proofs.Laws.{before-size-fields}
 
 first-byte : (h : SubscribeHanded) → firstByte (subscribe h) ≡ firstOf 8
 unfolding firstByte
@@ -39,14 +39,14 @@ module _ (h : SubscribeHanded) where
 
   -- ---- L and R
 
-  pub subscribe-length : (a b r : ℕ) → a ≡ cap (givenSize number (one (h .subscription))) → b ≡ cap (givenSize pair (pairs (h .user))) → r ≡ cap (a + b) → r ≡ cap (propsSize subscribePlace (subscribeGiven h))
+  pub subscribe-length : (a b r : ℕ) → a ≡ cap (givenSize number (one (h .subscription))) → b ≡ cap (givenSize pair (pairs (h .user))) → r ≡ cap (a + b) → r ≡ cap (propsSize subscribeRow (subscribeGiven h))
   subscribe-length a b r e f g = g ∙ cap-last a b (givenSize number (one (h .subscription))) (givenSize pair (pairs (h .user))) e f ∙ ap cap (sym (subscribe-sum h))
 
-  pub subscribe-rest : (l w f a r : ℕ) → l ≡ cap (propsSize subscribePlace (subscribeGiven h)) → w ≡ cap (withLength l) → f ≡ cap (filtersSize (h .filters .bytes) (h .options))
+  pub subscribe-rest : (l w f a r : ℕ) → l ≡ cap (propsSize subscribeRow (subscribeGiven h)) → w ≡ cap (withLength l) → f ≡ cap (filtersSize (h .filters .bytes) (h .options))
       → a ≡ cap (w + f) → r ≡ cap (a + 2) → r ≡ cap (restIs (subscribe h))
   unfolding restIs
   subscribe-rest l w f a r e g i j k =
-      let n : ℕ = propsSize subscribePlace (subscribeGiven h) in
+      let n : ℕ = propsSize subscribeRow (subscribeGiven h) in
       let t : ℕ = filtersSize (h .filters .bytes) (h .options) in
       let p : w ≡ cap (withLength n) = g ∙ rw e (cap-length n) in
       let q : withLength n + t + 2 ≡ 2 + (withLength n + t) = omega arith in
@@ -54,32 +54,32 @@ module _ (h : SubscribeHanded) where
 
   -- ---- 20 and the fields
 
-  pub early-all : {b : Bool} {x y r : Fit (Unit {0})} → b ≡ belongs (subscribe h) → b ≡ true → x ≡ judgeAll (h .user)
-      → y ≡ judge (flat fieldTests (map filterField (filtersOf (h .filters) (h .options)))) → r ≡ (x >> y) → r ≡ earlyOf (subscribe h)
+  pub before-size-all : {b : Bool} {x y r : Fit (Unit {0})} → b ≡ belongs (subscribe h) → b ≡ true → x ≡ judgeAll (h .user)
+      → y ≡ judge (flat fieldTests (map filterField (filtersOf (h .filters) (h .options)))) → r ≡ (x >> y) → r ≡ beforeSize (subscribe h)
   unfolding filters
-  early-all {b} e f i j k = k ∙ rw (i, j) (sym (subscribe-tests h)) ∙ early-fields (subscribe h) b e f
+  before-size-all {b} e f i j k = k ∙ rw (i, j) (sym (subscribe-tests h)) ∙ before-size-fields (subscribe h) b e f
 
   -- ---- 17 for the identifier, and 13
 
-  pub late-all : {x y r : Fit (Unit {0})} → x ≡ judge (flat numberTests (orNone (h .subscription)))
-      → y ≡ guard (not (isEmpty (filtersOf (h .filters) (h .options)))) (nr 13 []) → r ≡ (x >> y) → r ≡ lateOf (subscribe h)
+  pub after-limit-all : {x y r : Fit (Unit {0})} → x ≡ judge (flat numberTests (orNone (h .subscription)))
+      → y ≡ guard (not (isEmpty (filtersOf (h .filters) (h .options)))) (nr 13 []) → r ≡ (x >> y) → r ≡ afterLimit (subscribe h)
   unfolding filters
-  late-all e f g = g ∙ rw (e, f)
+  after-limit-all e f g = g ∙ rw (e, f)
 
   -- ---- the bytes
 
   abbrev pub block : List ℕ
-  block = short (propsSize subscribePlace (subscribeGiven h)) ++ propsBytes subscribePlace (subscribeGiven h)
+  block = short (propsSize subscribeRow (subscribeGiven h)) ++ propsBytes subscribeRow (subscribeGiven h)
 
   -- a block in a frame that is not too long is not too long
-  length-small : restIs (subscribe h) ≤ most → propsSize subscribePlace (subscribeGiven h) ≤ most
+  length-small : restIs (subscribe h) ≤ most → propsSize subscribeRow (subscribeGiven h) ≤ most
   unfolding restIs
   length-small s = omega arith
 
   pub put-frame : (before out₁ out₂ out₃ out₄ : List ℕ) (len n first second third j : ℕ) → len ≡ cap (restIs (subscribe h))
       → Put before 0 (firstOf 8 ∷ short len) out₁ n → first ≡ min (0 + n) (length out₁)
       → out₂ ≡ sets out₁ first (wide 2 (h .ident)) → second ≡ min (first + 2) (length out₂)
-      → (propsSize subscribePlace (subscribeGiven h) ≤ most → Behind out₂ second block out₃ third)
+      → (propsSize subscribeRow (subscribeGiven h) ≤ most → Behind out₂ second block out₃ third)
       → Put out₃ third (flat filterBytes (filtersOf (h .filters) (h .options))) out₄ j
       → belongs (subscribe h) ≡ true → restIs (subscribe h) ≤ most → out₄ ≡ sets before 0 (frameBytes (subscribe h))
   unfolding filters
@@ -92,14 +92,14 @@ module _ (h : SubscribeHanded) where
       ∙ ap (sets before 0) (sym (spelt i e))
     where
       spelt : len ≡ restIs (subscribe h) → belongs (subscribe h) ≡ true → frameBytes (subscribe h) ≡ (firstOf 8 ∷ short len) ++ (wide 2 (h .ident) ++ (block ++ flat filterBytes (filters h)))
-      spelt i e = subscribe-frame h e ∙ rw (i, append-assoc (short (propsSize subscribePlace (subscribeGiven h))) (propsBytes subscribePlace (subscribeGiven h)) (flat filterBytes (filters h)), first-byte h)
+      spelt i e = subscribe-frame h e ∙ rw (i, append-assoc (short (propsSize subscribeRow (subscribeGiven h))) (propsBytes subscribeRow (subscribeGiven h)) (flat filterBytes (filters h)), first-byte h)
 
-  pub put-rows : (before out₁ out₂ out₃ : List ℕ) (at len n first k second j third : ℕ) → len ≡ cap (propsSize subscribePlace (subscribeGiven h))
+  pub put-rows : (before out₁ out₂ out₃ : List ℕ) (at len n first k second j third : ℕ) → len ≡ cap (propsSize subscribeRow (subscribeGiven h))
       → (out₁ ≡ sets before at (short len)) × (n ≡ length (short len)) → first ≡ min (at + n) (length out₁)
       → Put out₁ first (rowBytes (11, number) (one (h .subscription))) out₂ k → second ≡ min (first + k) (length out₂)
       → Put out₂ second (rowBytes (38, pair) (pairs (h .user))) out₃ j → third ≡ min (second + j) (length out₃)
-      → propsSize subscribePlace (subscribeGiven h) ≤ most → Behind before at block out₃ third
+      → propsSize subscribeRow (subscribeGiven h) ≤ most → Behind before at block out₃ third
   put-rows before out₁ out₂ out₃ at len n first k second j third l (q₁, c₁) m₁ p₂ m₂ p₃ m₃ s =
-      let i : len ≡ propsSize subscribePlace (subscribeGiven h) = l ∙ cap-small (propsSize subscribePlace (subscribeGiven h)) s in
+      let i : len ≡ propsSize subscribeRow (subscribeGiven h) = l ∙ cap-small (propsSize subscribeRow (subscribeGiven h)) s in
       let r : List ℕ = rowBytes (38, pair) (pairs (h .user)) in
       rw (← i, subscribe-props h, append-nil r) (next-then (store-next (short len) q₁ c₁ m₁) (next-then (put-next p₂ m₂) (put-next p₃ m₃)))

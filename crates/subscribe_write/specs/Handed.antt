@@ -3,7 +3,7 @@ use mathlib.Core.List.{List}
 use Prim.Native.Nat.{ℕ}
 use Rattle.writing.specs.Handed.{SubscribeHanded}
 use Rattle.records.specs.AsNumbers.{numberU32}
-use Rattle.rows.specs.Given.{run}
+use Rattle.write_runs.specs.Given.{run}
 use Rattle.subscribe_write.specs.declared.SubscribeHead.{SubscribeHead}
 
 -- 01, grammar: "Subscribe (8)": the numbers and presence, the user properties and their lengths, the filters, their lengths and options

@@ -1,12 +1,12 @@
 // The filters of a Subscribe as they are written, after subscribe.rs: whether they belong together, their size, their tests (01, writing
 // order: 14, then 11 after a filter's text) and their bytes. An empty list is refused (D6).
-use number_puts::fixed;
 use records::error::Error;
-use row_belongs;
-use row_tests::Tested;
-use row_tests::test_word;
-use rows::run;
-use string_puts::put_string;
+use write_belongs;
+use write_numbers::fixed;
+use write_runs::run;
+use write_strings::put_string;
+use write_tests::Tested;
+use write_tests::test_word;
 ghost use mathlib.Core.Path.{_≡_};
 ghost use mathlib.Core.Bool.{not};
 ghost use mathlib.Core.List.{List, [], map};
@@ -20,9 +20,9 @@ ghost use Rattle.writing.specs.Handed.{filtersOf, filtersBelong};
 ghost use Rattle.writing.specs.Spell.{filterBytes};
 ghost use Rattle.writing.specs.Size.{filtersSize, cap};
 ghost use Rattle.writing.specs.Order.{judge, filter, fieldTests, filterField};
-ghost use Rattle.rows.specs.Given.{run as runOf};
-ghost use Rattle.row_tests.specs.Tested.{toldTested};
-ghost use Rattle.row_puts.specs.Put.{Put};
+ghost use Rattle.write_runs.specs.Given.{run as runOf};
+ghost use Rattle.write_tests.specs.Tested.{toldTested};
+ghost use Rattle.write_properties.specs.Put.{Put};
 
 // How many there are: one for each length that has an options byte.
 fn how_many(lengths: &[usize], options: &[u8]) -> usize
@@ -36,7 +36,7 @@ pub fn filters_belong(bytes: &[u8], lengths: &[usize], options: &[u8]) -> bool
     ensures { λ r. ⌜ r ≡ filtersBelong (runOf (now (bytes .entry)) (now (lengths .entry))) (now (options .entry)) ⌝ }
 {
     let same = lengths.len() == options.len();
-    row_belongs::both(run::adds_up(bytes, lengths), same)
+    write_belongs::both(run::adds_up(bytes, lengths), same)
 }
 
 // Their bytes, cut off where they are too many: a filter has two bytes of length and its options byte.
@@ -44,7 +44,7 @@ pub fn filters_size(bytes: &[u8], options: &[u8]) -> usize
     ensures { λ r. ⌜ r ≡ cap (filtersSize (now (bytes .entry)) (now (options .entry))) ⌝ }
 {
     let n = options.len();
-    row_sizes::add(row_sizes::add(row_sizes::add(n, n), n), bytes.len())
+    write_sizes::add(write_sizes::add(write_sizes::add(n, n), n), bytes.len())
 }
 
 // A filter's text, then its options: 14, then 11.

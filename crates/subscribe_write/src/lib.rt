@@ -3,31 +3,31 @@
 mod filter;
 
 use kinds;
-use length_puts::put_length;
-use number_puts::fixed;
 use records::answer::Limit;
 use records::answer::Sized;
 use records::answer::Written;
 use records::error::Error;
 use records::span::MaybeU32;
-use row_belongs;
-use row_tests::Tested;
-use rows::run;
+use write_belongs;
+use write_lengths::put_length;
+use write_numbers::fixed;
+use write_runs::run;
+use write_tests::Tested;
 ghost use mathlib.Core.Path.{_≡_};
 ghost use mathlib.Core.Bool.{true};
 ghost use mathlib.Core.List.{List, _++_};
 ghost use Prim.Native.Nat.{ℕ, _≤_};
 ghost use lib.Seq.{sets};
-ghost use Rattle.grammar.specs.Tables.{subscribePlace};
+ghost use Rattle.grammar.specs.Tables.{subscribeRow};
 ghost use Rattle.writing.specs.Handed.{subscribe, subscribeGiven, belongs as belongsOf};
 ghost use Rattle.writing.specs.Spell.{short, propsBytes};
 ghost use Rattle.writing.specs.Size.{most, propsSize, restIs, cap};
 ghost use Rattle.writing.specs.Write.{frameBytes, sizeOf, Written as WrittenOf};
 ghost use Rattle.records.specs.AsNumbers.{limitOf};
 ghost use Rattle.records.specs.Answered.{toldSized, toldWritten};
-ghost use Rattle.row_tests.specs.Tested.{toldTested};
-ghost use Rattle.row_puts.specs.Behind.{Behind};
-ghost use Rattle.settle.specs.Found.{earlyOf, lateOf};
+ghost use Rattle.write_tests.specs.Tested.{toldTested};
+ghost use Rattle.write_properties.specs.Behind.{Behind};
+ghost use Rattle.write_order.specs.Found.{beforeSize, afterLimit};
 ghost use Rattle.subscribe_write.specs.Handed.{handed};
 
 // What is handed over by value; the user properties and the filters are lent beside it.
@@ -50,11 +50,11 @@ fn belongs(
     ensures { λ r. ⌜ r ≡ belongsOf (subscribe (handed m (now (user .entry)) (now («user_lengths» .entry)) (now (filters .entry)) (now («filter_lengths» .entry)) (now (options .entry)))) ⌝ }
 {
     let id = m.id;
-    let block = row_belongs::both(
-        row_belongs::u32_belongs(m.block, id),
-        row_belongs::pairs_belong(m.block, user, user_lengths),
+    let block = write_belongs::both(
+        write_belongs::u32_belongs(m.block, id),
+        write_belongs::pairs_belong(m.block, user, user_lengths),
     );
-    row_belongs::both(
+    write_belongs::both(
         block,
         filter::filters_belong(filters, filter_lengths, options),
     )
@@ -62,12 +62,12 @@ fn belongs(
 
 // L, cut off where it is too large.
 fn block_length(m: SubscribeHead, user: &[u8], user_lengths: &[usize]) -> usize
-    ensures { λ r. ⌜ ((fs ns os : List ℕ) → r ≡ cap (propsSize subscribePlace (subscribeGiven (handed m (now (user .entry)) (now («user_lengths» .entry)) fs ns os)))) ⌝ }
+    ensures { λ r. ⌜ ((fs ns os : List ℕ) → r ≡ cap (propsSize subscribeRow (subscribeGiven (handed m (now (user .entry)) (now («user_lengths» .entry)) fs ns os)))) ⌝ }
 {
     let id = m.id;
-    row_sizes::add(
-        row_sizes::one_size_number(id),
-        row_sizes::pairs_size(user, user_lengths),
+    write_sizes::add(
+        write_sizes::one_size_number(id),
+        write_sizes::pairs_size(user, user_lengths),
     )
 }
 
@@ -81,9 +81,9 @@ fn rest(
 ) -> usize
     ensures { λ r. ⌜ ((ns : List ℕ) → r ≡ cap (restIs (subscribe (handed m (now (user .entry)) (now («user_lengths» .entry)) (now (filters .entry)) ns (now (options .entry)))))) ⌝ }
 {
-    let block = row_sizes::with_length(block_length(m, user, user_lengths));
-    row_sizes::add(
-        row_sizes::add(block, filter::filters_size(filters, options)),
+    let block = write_sizes::with_length(block_length(m, user, user_lengths));
+    write_sizes::add(
+        write_sizes::add(block, filter::filters_size(filters, options)),
         2,
     )
 }
@@ -99,14 +99,14 @@ pub fn size(
 ) -> Sized
     ensures { λ r. ⌜ toldSized r ≡ sizeOf (subscribe (handed m (now (user .entry)) (now («user_lengths» .entry)) (now (filters .entry)) (now («filter_lengths» .entry)) (now (options .entry)))) ⌝ }
 {
-    settle::size(
+    write_order::size(
         belongs(m, user, user_lengths, filters, filter_lengths, options),
         rest(m, user, user_lengths, filters, options),
     )
 }
 
 // 20, then the fields.
-fn early(
+fn before_size(
     m: SubscribeHead,
     user: &[u8],
     user_lengths: &[usize],
@@ -114,24 +114,24 @@ fn early(
     filter_lengths: &[usize],
     options: &[u8],
 ) -> Tested
-    ensures { λ r. ⌜ toldTested r ≡ earlyOf (subscribe (handed m (now (user .entry)) (now («user_lengths» .entry)) (now (filters .entry)) (now («filter_lengths» .entry)) (now (options .entry)))) ⌝ }
+    ensures { λ r. ⌜ toldTested r ≡ beforeSize (subscribe (handed m (now (user .entry)) (now («user_lengths» .entry)) (now (filters .entry)) (now («filter_lengths» .entry)) (now (options .entry)))) ⌝ }
 {
     if !belongs(m, user, user_lengths, filters, filter_lengths, options) {
         return Tested::Refused(Error::ListMismatch);
     }
-    row_tests::then(
-        row_tests::test_words(user, user_lengths),
+    write_tests::then(
+        write_tests::test_words(user, user_lengths),
         filter::test_filters(filters, filter_lengths, options),
     )
 }
 
 // 17 for the identifier, then 13.
-fn late(m: SubscribeHead, filter_lengths: &[usize], options: &[u8]) -> Tested
-    ensures { λ r. ⌜ ((user lengths filters : List ℕ) → toldTested r ≡ lateOf (subscribe (handed m user lengths filters (now («filter_lengths» .entry)) (now (options .entry))))) ⌝ }
+fn after_limit(m: SubscribeHead, filter_lengths: &[usize], options: &[u8]) -> Tested
+    ensures { λ r. ⌜ ((user lengths filters : List ℕ) → toldTested r ≡ afterLimit (subscribe (handed m user lengths filters (now («filter_lengths» .entry)) (now (options .entry))))) ⌝ }
 {
     let id = m.id;
-    row_tests::then(
-        row_tests::test_number(id),
+    write_tests::then(
+        write_tests::test_number(id),
         filter::test_asked(filter_lengths, options),
     )
 }
@@ -144,15 +144,15 @@ fn put_block(
     user: &[u8],
     user_lengths: &[usize],
 ) -> usize
-    ensures { λ r. ⌜ ((fs ns os : List ℕ) → propsSize subscribePlace (subscribeGiven (handed m (now (user .entry)) (now («user_lengths» .entry)) fs ns os)) ≤ most → Behind (now (out .entry)) at (short (propsSize subscribePlace (subscribeGiven (handed m (now (user .entry)) (now («user_lengths» .entry)) fs ns os))) ++ propsBytes subscribePlace (subscribeGiven (handed m (now (user .entry)) (now («user_lengths» .entry)) fs ns os))) (now (out .exit)) r) ⌝ }
+    ensures { λ r. ⌜ ((fs ns os : List ℕ) → propsSize subscribeRow (subscribeGiven (handed m (now (user .entry)) (now («user_lengths» .entry)) fs ns os)) ≤ most → Behind (now (out .entry)) at (short (propsSize subscribeRow (subscribeGiven (handed m (now (user .entry)) (now («user_lengths» .entry)) fs ns os))) ++ propsBytes subscribeRow (subscribeGiven (handed m (now (user .entry)) (now («user_lengths» .entry)) fs ns os))) (now (out .exit)) r) ⌝ }
 {
     let len = block_length(m, user, user_lengths);
     let id = m.id;
     let n = put_length(&mut *out, at, len);
     let first = run::after(out.len(), at, n);
-    let k = row_puts::put_number_if(&mut *out, first, 11, id);
+    let k = write_properties::put_number_if(&mut *out, first, 11, id);
     let second = run::after(out.len(), first, k);
-    let j = list_puts::put_pairs(&mut *out, second, user, user_lengths);
+    let j = write_lists::put_pairs(&mut *out, second, user, user_lengths);
     run::after(out.len(), second, j)
 }
 
@@ -170,7 +170,7 @@ fn put(
 {
     let len = rest(m, user, user_lengths, filters, options);
     let byte1 = kinds::first_byte(8);
-    let n = row_puts::put_header(&mut *out, byte1, len);
+    let n = write_properties::put_header(&mut *out, byte1, len);
     let first = run::after(out.len(), 0, n);
     fixed::put_u16(&mut *out, first, m.pkid);
     let second = run::after(out.len(), first, 2);
@@ -191,10 +191,10 @@ pub fn write(
 ) -> Written
     ensures { λ r. ⌜ WrittenOf (limitOf limit) (subscribe (handed m (now (user .entry)) (now («user_lengths» .entry)) (now (filters .entry)) (now («filter_lengths» .entry)) (now (options .entry)))) (now (out .entry)) (now (out .exit)) (toldWritten r) ⌝ }
 {
-    let fields = early(m, user, user_lengths, filters, filter_lengths, options);
+    let fields = before_size(m, user, user_lengths, filters, filter_lengths, options);
     let len = rest(m, user, user_lengths, filters, options);
-    let end = late(m, filter_lengths, options);
-    match settle::settle(fields, len, limit, end, out.len()) {
+    let end = after_limit(m, filter_lengths, options);
+    match write_order::settle(fields, len, limit, end, out.len()) {
         Written::Refused(e) => Written::Refused(e),
         Written::Size(n) => {
             put(

@@ -1,21 +1,21 @@
 -- What the answers on properties tell: a row of 01's table, and the form of a value there. Assumes nothing.
 use mathlib.Core.Option.{Option, none, some}
 use Rattle.grammar.specs.Tables as tables
-use Rattle.tables.specs.declared.property.PropertyPlace.{PropertyPlace}
-use Rattle.tables.specs.declared.property.PropertyPlace.the-variants.{Publish, Subscribe, Ack, Unsubscribe}
+use Rattle.tables.specs.declared.property.PropertyRow.{PropertyRow}
+use Rattle.tables.specs.declared.property.PropertyRow.the-variants.{Publish, Subscribe, Ack, Unsubscribe}
 use Rattle.tables.specs.declared.property.OtherPlace.{OtherPlace}
 use Rattle.tables.specs.declared.property.PropertyForm.{PropertyForm}
 use Rattle.tables.specs.declared.property.PropertyForm.the-variants.{U8, U16, U32, Number, Text, Bytes, Pair, NotHere}
 
--- 01, table of properties: the row of a place
-abbrev pub placeOf : PropertyPlace → tables.Place
-placeOf Publish = tables.publishPlace
-placeOf Subscribe = tables.subscribePlace
-placeOf Ack = tables.ackPlace
-placeOf Unsubscribe = tables.unsubscribePlace
+-- 01, table of properties: a row
+abbrev pub tableRow : PropertyRow → tables.Row
+tableRow Publish = tables.publishRow
+tableRow Subscribe = tables.subscribeRow
+tableRow Ack = tables.ackRow
+tableRow Unsubscribe = tables.unsubscribeRow
 
--- 01, table of properties: the places beside Publish's
-abbrev pub otherOf : OtherPlace → PropertyPlace
+-- 01, table of properties: the rows beside Publish's
+abbrev pub otherOf : OtherPlace → PropertyRow
 otherOf OtherPlace.Subscribe = Subscribe
 otherOf OtherPlace.Ack = Ack
 otherOf OtherPlace.Unsubscribe = Unsubscribe

@@ -1,25 +1,25 @@
-// Which form a property's value has at a place: `property` of v5/mod.rs, with the rows of 01's table in place of the reads'
+// Which form a property's value has in a row: `property` of v5/mod.rs, with the rows of 01's table in place of the reads'
 // own matches.
 ghost use mathlib.Core.Path.{_≡_};
-ghost use Rattle.grammar.specs.Tables.{publishPlace, subscribePlace, ackPlace, unsubscribePlace, formAt};
-ghost use Rattle.tables.specs.Property.{toldForm, placeOf, otherOf};
+ghost use Rattle.grammar.specs.Tables.{publishRow, subscribeRow, ackRow, unsubscribeRow, formAt};
+ghost use Rattle.tables.specs.Property.{toldForm, tableRow, otherOf};
 
-// Where a block stands.
-pub enum PropertyPlace {
+// Which row of 01's table.
+pub enum PropertyRow {
     Publish,
     Subscribe,
     Ack,
     Unsubscribe,
 }
 
-// A place that is not Publish's.
+// A row that is not Publish's.
 pub enum OtherPlace {
     Subscribe,
     Ack,
     Unsubscribe,
 }
 
-// The form of a property's value, or that the place has no such property.
+// The form of a property's value, or that the row has no such property.
 pub enum PropertyForm {
     U8,
     U16,
@@ -33,7 +33,7 @@ pub enum PropertyForm {
 
 // The form of a property of a Publish.
 fn publish_property(num: u8) -> PropertyForm
-    ensures { λ r. ⌜ toldForm r ≡ formAt publishPlace num ⌝ }
+    ensures { λ r. ⌜ toldForm r ≡ formAt publishRow num ⌝ }
 {
     match num {
         1 => PropertyForm::U8,
@@ -50,7 +50,7 @@ fn publish_property(num: u8) -> PropertyForm
 
 // The form of a property of a Subscribe.
 fn subscribe_property(num: u8) -> PropertyForm
-    ensures { λ r. ⌜ toldForm r ≡ formAt subscribePlace num ⌝ }
+    ensures { λ r. ⌜ toldForm r ≡ formAt subscribeRow num ⌝ }
 {
     match num {
         11 => PropertyForm::Number,
@@ -61,7 +61,7 @@ fn subscribe_property(num: u8) -> PropertyForm
 
 // The form of a property of an acknowledgement: PubAck, PubRec, PubRel, PubComp, SubAck, UnsubAck.
 fn ack_property(num: u8) -> PropertyForm
-    ensures { λ r. ⌜ toldForm r ≡ formAt ackPlace num ⌝ }
+    ensures { λ r. ⌜ toldForm r ≡ formAt ackRow num ⌝ }
 {
     match num {
         31 => PropertyForm::Text,
@@ -72,7 +72,7 @@ fn ack_property(num: u8) -> PropertyForm
 
 // The form of a property of an Unsubscribe.
 fn unsubscribe_property(num: u8) -> PropertyForm
-    ensures { λ r. ⌜ toldForm r ≡ formAt unsubscribePlace num ⌝ }
+    ensures { λ r. ⌜ toldForm r ≡ formAt unsubscribeRow num ⌝ }
 {
     match num {
         38 => PropertyForm::Pair,
@@ -80,25 +80,25 @@ fn unsubscribe_property(num: u8) -> PropertyForm
     }
 }
 
-// One of the places beside Publish's, as a place.
-pub fn as_place(other: OtherPlace) -> PropertyPlace
+// One of the rows beside Publish's, as a row.
+pub fn as_place(other: OtherPlace) -> PropertyRow
     ensures { λ r. ⌜ r ≡ otherOf other ⌝ }
 {
     match other {
-        OtherPlace::Subscribe => PropertyPlace::Subscribe,
-        OtherPlace::Ack => PropertyPlace::Ack,
-        OtherPlace::Unsubscribe => PropertyPlace::Unsubscribe,
+        OtherPlace::Subscribe => PropertyRow::Subscribe,
+        OtherPlace::Ack => PropertyRow::Ack,
+        OtherPlace::Unsubscribe => PropertyRow::Unsubscribe,
     }
 }
 
-// The form of a property in the row of a place, or none.
-pub fn property(place: PropertyPlace, num: u8) -> PropertyForm
-    ensures { λ r. ⌜ toldForm r ≡ formAt (placeOf place) num ⌝ }
+// The form of a property in a row, or none.
+pub fn property(row: PropertyRow, num: u8) -> PropertyForm
+    ensures { λ r. ⌜ toldForm r ≡ formAt (tableRow row) num ⌝ }
 {
-    match place {
-        PropertyPlace::Publish => publish_property(num),
-        PropertyPlace::Subscribe => subscribe_property(num),
-        PropertyPlace::Ack => ack_property(num),
-        PropertyPlace::Unsubscribe => unsubscribe_property(num),
+    match row {
+        PropertyRow::Publish => publish_property(num),
+        PropertyRow::Subscribe => subscribe_property(num),
+        PropertyRow::Ack => ack_property(num),
+        PropertyRow::Unsubscribe => unsubscribe_property(num),
     }
 }

@@ -33,12 +33,12 @@ use Rattle.writing.proofs.Sizes.{length-frame}
 use Rattle.records.specs.AsNumbers.{toldError}
 use Rattle.records.proofs.Laws.{injective-by}
 use Rattle.records.proofs.AsNumbers.{backError, back-error}
-use Rattle.tidy.specs.Tidy.{handedOf, tidyOf}
-use Rattle.tidy.specs.Order.{successIn, shortAck}
-use Rattle.tidy.proofs.Said.{sentence-said}
-use Rattle.tidy.proofs.Good.{good}
-use Rattle.tidy.proofs.Tidy.{tidy-is, tidy-reads, tidy-again, tidy-equal, tidy-refused}
-use Rattle.tidy.proofs.Layouts.{opened, bounds-alone, publish-frame, reply-frame, unsubscribe-frame, subscribe-frame, ping-frame, ack-frame, ack-short}
+use Rattle.tidy_form.specs.Tidy.{handedOf, tidyOf}
+use Rattle.tidy_form.specs.Order.{successIn, shortAck}
+use Rattle.tidy_form.proofs.Said.{sentence-said}
+use Rattle.tidy_form.proofs.Good.{good}
+use Rattle.tidy_form.proofs.Tidy.{tidy-is, tidy-reads, tidy-again, tidy-equal, tidy-refused}
+use Rattle.tidy_form.proofs.Layouts.{opened, bounds-alone, publish-frame, reply-frame, unsubscribe-frame, subscribe-frame, ping-frame, ack-frame, ack-short}
 use Rattle.tidying.specs.Tidied.{toldTidied, roomFor, tidiedOf, sizeIn, standsIn, Tidies, fitOf, tidyLength, layoutIn, BareAck}
 use Rattle.tidying.specs.declared.Tidied.{Tidied}
 use Rattle.tidying.proofs.Laws.Put.{laid-length, carried-kind, reason-there}
@@ -98,7 +98,7 @@ module _ (s : List ℕ) (o : Octets s) (v : Packet) (n : ℕ) (e : readOf none s
       go true h =
           let a = accepts-all in
           let f : sizeIs (handedOf v) ≤ length before = omega (arith, leb-true (length (frameBytes (handedOf v))) (length before) h, form-length) in
-          let w : Accepts none (length before) (handedOf v) = record { countable = a .countable; within = tt; named = a .named; numbers = a .numbers; asked = a .asked; fits = f } in
+          let w : Accepts none (length before) (handedOf v) = record { countable = a .countable; within = tt; hasIdent = a .hasIdent; numbers = a .numbers; hasEntries = a .hasEntries; fits = f } in
           let i : tidiedOf s (length before) ≡ accepted (frameBytes (handedOf v)) n = tidied-is (length before) ∙ rw h in
           record {
             answer = ap fitOf (t .answer ∙ ap sizeIn i) ∙ ap got form-length ∙ sym (answered-when none (length before) (handedOf v) (sizeIs (handedOf v)) .1 (w, refl));
@@ -107,7 +107,7 @@ module _ (s : List ℕ) (o : Octets s) (v : Packet) (n : ℕ) (e : readOf none s
       go false h =
           let a = accepts-all in
           let f : length before < sizeIs (handedOf v) = omega (arith, leb-false (length (frameBytes (handedOf v))) (length before) h, form-length) in
-          let w = no-room (a .countable) tt (a .named) (a .numbers) (a .asked) f in
+          let w = no-room (a .countable) tt (a .hasIdent) (a .numbers) (a .hasEntries) f in
           let i : tidiedOf s (length before) ≡ refused 19 (length (frameBytes (handedOf v)) ∷ []) 0 = tidied-is (length before) ∙ rw h in
           record {
             answer = ap fitOf (t .answer ∙ ap sizeIn i) ∙ ap (λ (k : ℕ). bad (nr 19 (k ∷ []))) form-length ∙ sym (unanswered-when none (length before) (handedOf v) (nr 19 (sizeIs (handedOf v) ∷ [])) .1 w);

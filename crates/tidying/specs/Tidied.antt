@@ -14,8 +14,8 @@ use Rattle.reading.specs.Reader.{Fit, got, bad}
 use Rattle.reading.specs.Read.{readOf}
 use Rattle.records.specs.AsNumbers.{toldError}
 use Rattle.packet.specs.PacketRead.{takenIn}
-use Rattle.tidy.specs.Tidy.{tidyOf}
-use Rattle.tidy.specs.Order.{successIn}
+use Rattle.tidy_form.specs.Tidy.{tidyOf}
+use Rattle.tidy_form.specs.Order.{successIn}
 use Rattle.tidying.specs.declared.Tidied.{Tidied}
 
 -- the size of the tidy form, or the refusal; and how many bytes of the stream are taken

@@ -4,7 +4,7 @@ use mathlib.Core.Option.{Option, none, some}
 use Prim.Native.Nat.{ℕ}
 use Rattle.grammar.specs.Tables.{Layout, aPublish, anAck, aSubscribe, aReply, anUnsubscribe, aPing, firstOf}
 use Rattle.grammar.specs.Record.{kindOf}
-use Rattle.tables.specs.declared.property.PropertyPlace.the-variants as place
+use Rattle.tables.specs.declared.property.PropertyRow.the-variants as place
 use Rattle.tidying.specs.declared.Way.{Way}
 
 -- an acknowledgement of a publish: 01, grammar: "A successful PubAck with properties absent is 4 bytes"

@@ -1,6 +1,5 @@
 // The tidy form of a frame, 02's P14: what would be written of the record that was read. After P8 and P9 it is the frame's own bytes, with the
 // properties in the order of the table; so they are copied, and no lengths are lent.
-use byte_puts::put_bytes;
 use filters::GotFilter;
 use filters::read_filter;
 use kinds::Kind;
@@ -11,8 +10,9 @@ use property_value::read_property;
 use records::answer::Limit;
 use records::answer::Read;
 use records::error::Error;
-use rows::run;
-use tables::property::PropertyPlace;
+use tables::property::PropertyRow;
+use write_bytes::put_bytes;
+use write_runs::run;
 ghost use mathlib.Core.Path.{_≡_};
 ghost use mathlib.Core.Bool.{cond};
 ghost use mathlib.Core.List.{[], _∷_};
@@ -21,11 +21,11 @@ ghost use lib.Dec.{eqb};
 ghost use lib.ListN.{length, take, drop, getD};
 ghost use lib.Seq.{sets};
 ghost use Rattle.grammar.specs.Choice.{lookup};
-ghost use Rattle.grammar.specs.Tables.{subscribePlace, kinds};
+ghost use Rattle.grammar.specs.Tables.{subscribeRow, kinds};
 ghost use Rattle.grammar.specs.Record.{kindOf};
-ghost use Rattle.row_puts.specs.Behind.{Behind};
-ghost use Rattle.tables.specs.Property.{placeOf};
-ghost use Rattle.tidy.specs.Order.{idsOf, successIn, shortAck, AsIs, Masked};
+ghost use Rattle.write_properties.specs.Behind.{Behind};
+ghost use Rattle.tables.specs.Property.{tableRow};
+ghost use Rattle.tidy_form.specs.Order.{idsOf, successIn, shortAck, AsIs, Masked};
 ghost use Rattle.tidying.specs.Tidied.{Tidies};
 ghost use Rattle.tidying.specs.Way.{wayOf};
 ghost use Rattle.tidying.specs.Copied.{Passed, RunPassed, InOrder, IdPut, IdsPut, RowPut, FilterPassed, FiltersPut, FrontPut, Gives, LaidGiven, Accepted, FrameTidied, FoundIs};
@@ -39,8 +39,8 @@ pub enum Tidied {
 // ---- the properties of a block, which ends where `s` does
 
 // The index after the property at an index; the end if none stands there.
-fn pass_property(place: PropertyPlace, s: &[u8], at: usize) -> usize
-    ensures { λ r. ⌜ Passed (placeOf place) (now (s .entry)) at r ⌝ }
+fn pass_property(place: PropertyRow, s: &[u8], at: usize) -> usize
+    ensures { λ r. ⌜ Passed (tableRow place) (now (s .entry)) at r ⌝ }
 {
     match read_property(place, s, at) {
         GotProperty::Found(_, _, next) => next,
@@ -49,8 +49,8 @@ fn pass_property(place: PropertyPlace, s: &[u8], at: usize) -> usize
 }
 
 // The index after those properties from an index on that have this identifier.
-fn pass_run(place: PropertyPlace, id: u8, s: &[u8], at: usize) -> usize
-    ensures { λ r. ⌜ RunPassed (placeOf place) id (now (s .entry)) at r ⌝ }
+fn pass_run(place: PropertyRow, id: u8, s: &[u8], at: usize) -> usize
+    ensures { λ r. ⌜ RunPassed (tableRow place) id (now (s .entry)) at r ⌝ }
 {
     let mut i = at;
     while i < s.len() {
@@ -63,8 +63,8 @@ fn pass_run(place: PropertyPlace, id: u8, s: &[u8], at: usize) -> usize
 }
 
 // Do the properties stand in the order of the identifiers?
-fn in_order(place: PropertyPlace, ids: &[u8], s: &[u8], start: usize) -> bool
-    ensures { λ r. ⌜ InOrder (placeOf place) (now (ids .entry)) (now (s .entry)) start r ⌝ }
+fn in_order(place: PropertyRow, ids: &[u8], s: &[u8], start: usize) -> bool
+    ensures { λ r. ⌜ InOrder (tableRow place) (now (ids .entry)) (now (s .entry)) start r ⌝ }
 {
     let mut i = start;
     let mut n: usize = 0;
@@ -89,15 +89,8 @@ fn put_if(out: &mut [u8], to: usize, id: u8, s: &[u8], i: usize, next: usize) ->
 }
 
 // Puts the properties with this identifier; gives the index behind them.
-fn put_each(
-    place: PropertyPlace,
-    id: u8,
-    s: &[u8],
-    start: usize,
-    out: &mut [u8],
-    at: usize,
-) -> usize
-    ensures { λ r. ⌜ IdPut (placeOf place) id (now (s .entry)) start (now (out .entry)) at (now (out .exit)) r ⌝ }
+fn put_each(place: PropertyRow, id: u8, s: &[u8], start: usize, out: &mut [u8], at: usize) -> usize
+    ensures { λ r. ⌜ IdPut (tableRow place) id (now (s .entry)) start (now (out .entry)) at (now (out .exit)) r ⌝ }
 {
     let mut to = run::after(out.len(), at, 0);
     let mut i = start;
@@ -110,8 +103,8 @@ fn put_each(
 }
 
 // Puts the properties in the order of the identifiers, from the index on at which they stand.
-fn put_rows(place: PropertyPlace, ids: &[u8], s: &[u8], start: usize, out: &mut [u8])
-    ensures { λ r. ⌜ IdsPut (placeOf place) (now (ids .entry)) (now (s .entry)) start (now (out .entry)) (now (out .exit)) ⌝ }
+fn put_rows(place: PropertyRow, ids: &[u8], s: &[u8], start: usize, out: &mut [u8])
+    ensures { λ r. ⌜ IdsPut (tableRow place) (now (ids .entry)) (now (s .entry)) start (now (out .entry)) (now (out .exit)) ⌝ }
 {
     let mut to = run::after(out.len(), start, 0);
     let mut n: usize = 0;
@@ -122,9 +115,9 @@ fn put_rows(place: PropertyPlace, ids: &[u8], s: &[u8], start: usize, out: &mut 
 }
 
 // The same in one pass and one copy where they stand in that order.
-fn put_ordered(place: PropertyPlace, ids: &[u8], s: &[u8], start: usize, out: &mut [u8])
-    requires { ⌜ now ids ≡ idsOf (placeOf place .row) ⌝ }
-    ensures { λ r. ⌜ RowPut (placeOf place) (now (s .entry)) start (now (out .entry)) (now (out .exit)) ⌝ }
+fn put_ordered(place: PropertyRow, ids: &[u8], s: &[u8], start: usize, out: &mut [u8])
+    requires { ⌜ now ids ≡ idsOf (tableRow place .forms) ⌝ }
+    ensures { λ r. ⌜ RowPut (tableRow place) (now (s .entry)) start (now (out .entry)) (now (out .exit)) ⌝ }
 {
     if in_order(place, ids, s, start) {
         put_bytes(&mut *out, start, run::piece(s, start, s.len()));
@@ -133,12 +126,12 @@ fn put_ordered(place: PropertyPlace, ids: &[u8], s: &[u8], start: usize, out: &m
     put_rows(place, ids, s, start, &mut *out);
 }
 
-// Puts the properties in the order of the place's row.
-fn put_block(place: PropertyPlace, s: &[u8], start: usize, out: &mut [u8])
-    ensures { λ r. ⌜ RowPut (placeOf place) (now (s .entry)) start (now (out .entry)) (now (out .exit)) ⌝ }
+// Puts the properties in the order of the row.
+fn put_block(place: PropertyRow, s: &[u8], start: usize, out: &mut [u8])
+    ensures { λ r. ⌜ RowPut (tableRow place) (now (s .entry)) start (now (out .entry)) (now (out .exit)) ⌝ }
 {
     match place {
-        PropertyPlace::Publish => {
+        PropertyRow::Publish => {
             put_ordered(
                 place,
                 b"\x01\x02\x23\x08\x09\x26\x0b\x03",
@@ -147,9 +140,9 @@ fn put_block(place: PropertyPlace, s: &[u8], start: usize, out: &mut [u8])
                 &mut *out,
             )
         }
-        PropertyPlace::Subscribe => put_ordered(place, b"\x0b\x26", s, start, &mut *out),
-        PropertyPlace::Ack => put_ordered(place, b"\x1f\x26", s, start, &mut *out),
-        PropertyPlace::Unsubscribe => put_ordered(place, b"\x26", s, start, &mut *out),
+        PropertyRow::Subscribe => put_ordered(place, b"\x0b\x26", s, start, &mut *out),
+        PropertyRow::Ack => put_ordered(place, b"\x1f\x26", s, start, &mut *out),
+        PropertyRow::Unsubscribe => put_ordered(place, b"\x26", s, start, &mut *out),
     }
 }
 
@@ -201,9 +194,9 @@ fn give(b: &[u8], n: usize, out: &mut [u8]) -> Tidied
 }
 
 // Puts the first byte, what stands before the properties, and these.
-fn put_front(place: PropertyPlace, first: u8, s: &[u8], start: usize, end: usize, out: &mut [u8])
+fn put_front(place: PropertyRow, first: u8, s: &[u8], start: usize, end: usize, out: &mut [u8])
     requires { ⌜ 1 ≤ start ⌝ }
-    ensures { λ r. ⌜ FrontPut (placeOf place) first (now (s .entry)) start end (now (out .entry)) (now (out .exit)) ⌝ }
+    ensures { λ r. ⌜ FrontPut (tableRow place) first (now (s .entry)) start end (now (out .entry)) (now (out .exit)) ⌝ }
 {
     put_byte(&mut *out, 0, first);
     put_bytes(&mut *out, 1, run::piece(s, 1, start - 1));
@@ -212,7 +205,7 @@ fn put_front(place: PropertyPlace, first: u8, s: &[u8], start: usize, end: usize
 
 // A frame whose tidy form has its length: what stands behind the properties is copied.
 fn tidy_block(
-    place: PropertyPlace,
+    place: PropertyRow,
     first: u8,
     s: &[u8],
     start: usize,
@@ -220,7 +213,7 @@ fn tidy_block(
     out: &mut [u8],
 ) -> Tidied
     requires { ⌜ 1 ≤ start ⌝ }
-    ensures { λ r. ⌜ LaidGiven (placeOf place) AsIs first (now (s .entry)) start end (now (out .entry)) (now (out .exit)) r ⌝ }
+    ensures { λ r. ⌜ LaidGiven (tableRow place) AsIs first (now (s .entry)) start end (now (out .entry)) (now (out .exit)) r ⌝ }
 {
     let size = s.len();
     if out.len() < size {
@@ -234,13 +227,13 @@ fn tidy_block(
 // A Subscribe.
 fn tidy_subscribe(first: u8, s: &[u8], start: usize, end: usize, out: &mut [u8]) -> Tidied
     requires { ⌜ 1 ≤ start ⌝ }
-    ensures { λ r. ⌜ LaidGiven subscribePlace Masked first (now (s .entry)) start end (now (out .entry)) (now (out .exit)) r ⌝ }
+    ensures { λ r. ⌜ LaidGiven subscribeRow Masked first (now (s .entry)) start end (now (out .entry)) (now (out .exit)) r ⌝ }
 {
     let size = s.len();
     if out.len() < size {
         return Tidied::Refused(Error::NoRoom(size), 0);
     }
-    put_front(PropertyPlace::Subscribe, first, s, start, end, &mut *out);
+    put_front(PropertyRow::Subscribe, first, s, start, end, &mut *out);
     put_filters(s, end, &mut *out);
     Tidied::Put(size, size)
 }
@@ -279,7 +272,7 @@ fn tidy_ping(first: u8, n: usize, out: &mut [u8]) -> Tidied
 // How the tidy form of a frame is put, with its first byte.
 enum Way {
     // it has the frame's length: a block of this place
-    Block(PropertyPlace, u8),
+    Block(PropertyRow, u8),
     // the same of a Subscribe
     Filters(u8),
     // an acknowledgement of a publish with no properties
@@ -295,16 +288,16 @@ fn way_of(byte1: u8, bare: bool) -> Way
 {
     let first = first_byte(byte1 / 16);
     match kind_of(byte1 / 16) {
-        Kind::Publish => return Way::Block(PropertyPlace::Publish, byte1),
+        Kind::Publish => return Way::Block(PropertyRow::Publish, byte1),
         Kind::Ack(_) => {
             if bare {
                 return Way::Short(first);
             }
-            return Way::Block(PropertyPlace::Ack, first);
+            return Way::Block(PropertyRow::Ack, first);
         }
         Kind::Subscribe => return Way::Filters(first),
-        Kind::Reply(_) => return Way::Block(PropertyPlace::Ack, first),
-        Kind::Unsubscribe => return Way::Block(PropertyPlace::Unsubscribe, first),
+        Kind::Reply(_) => return Way::Block(PropertyRow::Ack, first),
+        Kind::Unsubscribe => return Way::Block(PropertyRow::Unsubscribe, first),
         Kind::PingReq => return Way::Ping(first),
         Kind::PingResp => return Way::Ping(first),
         Kind::Reserved(_) => return Way::No,

@@ -7,7 +7,7 @@ use native.Mathlib.Omega.{arith}
 use lib.ListN.{length}
 use lib.Seq.{sets}
 use Rattle.grammar.specs.Choice.{isEmpty}
-use Rattle.grammar.specs.Tables.{pair, unsubscribePlace, firstOf}
+use Rattle.grammar.specs.Tables.{pair, unsubscribeRow, firstOf}
 use Rattle.reading.specs.Refusal.{nr}
 use Rattle.reading.specs.Reader.{Fit, _>>_, guard}
 use Rattle.writing.specs.Lists.{flat}
@@ -19,19 +19,19 @@ use Rattle.writing.specs.Write.{firstByte, frameBytes}
 use Rattle.writing.proofs.ForCode.{judgeAll, unsubscribe-belongs, unsubscribe-tests, unsubscribe-sum, unsubscribe-frame, cap-small, cap-length}
 use Rattle.writing.proofs.Pins.{unsubscribe-props}
 use Rattle.writing.proofs.Says.{length-wide}
-use Rattle.row_sizes.proofs.Laws.{cap-left, cap-both}
-use Rattle.row_puts.specs.Put.{Put}
-use Rattle.row_puts.specs.Behind.{Behind}
-use Rattle.row_puts.proofs.Laws.{store-next, put-next, next-last, next-then}
-use Rattle.settle.specs.Found.{earlyOf, lateOf}
-use Rattle.settle.proofs.Laws.{early-fields}
+use Rattle.write_sizes.proofs.Laws.{cap-left, cap-both}
+use Rattle.write_properties.specs.Put.{Put}
+use Rattle.write_properties.specs.Behind.{Behind}
+use Rattle.write_properties.proofs.Laws.{store-next, put-next, next-last, next-then}
+use Rattle.write_order.specs.Found.{beforeSize, afterLimit}
+use Rattle.write_order.proofs.Laws.{before-size-fields}
 
 first-byte : (h : UnsubscribeHanded) → firstByte (unsubscribe h) ≡ firstOf 10
 unfolding firstByte
 first-byte h = refl
 
 -- L of the user properties alone
-block-length : (u : Run) (l : ℕ) → l ≡ cap (givenSize pair (pairs u)) → l ≡ cap (propsSize unsubscribePlace (unsubscribeGiven u))
+block-length : (u : Run) (l : ℕ) → l ≡ cap (givenSize pair (pairs u)) → l ≡ cap (propsSize unsubscribeRow (unsubscribeGiven u))
 block-length u l e =
     let i : givenSize pair (pairs u) ≡ givenSize pair (pairs u) + 0 = omega arith in
     e ∙ ap cap (i ∙ sym (unsubscribe-sum u))
@@ -48,7 +48,7 @@ module _ (h : UnsubscribeHanded) where
       → a ≡ cap (w + f) → r ≡ cap (a + 2) → r ≡ cap (restIs (unsubscribe h))
   unfolding restIs
   unsubscribe-rest l w f a r e g i j k =
-      let n : ℕ = propsSize unsubscribePlace (unsubscribeGiven (h .user)) in
+      let n : ℕ = propsSize unsubscribeRow (unsubscribeGiven (h .user)) in
       let t : ℕ = topicsSize (h .topics) in
       let p : w ≡ cap (withLength n) = g ∙ rw (block-length (h .user) l e) (cap-length n) in
       let q : withLength n + t + 2 ≡ 2 + (withLength n + t) = omega arith in
@@ -56,29 +56,29 @@ module _ (h : UnsubscribeHanded) where
 
   -- ---- 20 and the fields
 
-  pub early-all : {b : Bool} {x y r : Fit (Unit {0})} → b ≡ belongs (unsubscribe h) → b ≡ true → x ≡ judgeAll (h .user) → y ≡ judgeAll (h .topics) → r ≡ (x >> y) → r ≡ earlyOf (unsubscribe h)
-  early-all {b} e f i j k = k ∙ rw (i, j) (sym (unsubscribe-tests h)) ∙ early-fields (unsubscribe h) b e f
+  pub before-size-all : {b : Bool} {x y r : Fit (Unit {0})} → b ≡ belongs (unsubscribe h) → b ≡ true → x ≡ judgeAll (h .user) → y ≡ judgeAll (h .topics) → r ≡ (x >> y) → r ≡ beforeSize (unsubscribe h)
+  before-size-all {b} e f i j k = k ∙ rw (i, j) (sym (unsubscribe-tests h)) ∙ before-size-fields (unsubscribe h) b e f
 
   -- ---- 13
 
-  pub late-all : {x : Fit (Unit {0})} → x ≡ guard (not (isEmpty (strings (h .topics)))) (nr 13 []) → x ≡ lateOf (unsubscribe h)
+  pub after-limit-all : {x : Fit (Unit {0})} → x ≡ guard (not (isEmpty (strings (h .topics)))) (nr 13 []) → x ≡ afterLimit (unsubscribe h)
   unfolding judge
-  late-all e = e
+  after-limit-all e = e
 
   -- ---- the bytes
 
   abbrev pub block : List ℕ
-  block = short (propsSize unsubscribePlace (unsubscribeGiven (h .user))) ++ propsBytes unsubscribePlace (unsubscribeGiven (h .user))
+  block = short (propsSize unsubscribeRow (unsubscribeGiven (h .user))) ++ propsBytes unsubscribeRow (unsubscribeGiven (h .user))
 
   -- a block in a frame that is not too long is not too long
-  length-small : restIs (unsubscribe h) ≤ most → propsSize unsubscribePlace (unsubscribeGiven (h .user)) ≤ most
+  length-small : restIs (unsubscribe h) ≤ most → propsSize unsubscribeRow (unsubscribeGiven (h .user)) ≤ most
   unfolding restIs
   length-small s = omega arith
 
   pub put-frame : (before out₁ out₂ out₃ out₄ : List ℕ) (len n first second third j : ℕ) → len ≡ cap (restIs (unsubscribe h))
       → Put before 0 (firstOf 10 ∷ short len) out₁ n → first ≡ min (0 + n) (length out₁)
       → out₂ ≡ sets out₁ first (wide 2 (h .ident)) → second ≡ min (first + 2) (length out₂)
-      → (propsSize unsubscribePlace (unsubscribeGiven (h .user)) ≤ most → Behind out₂ second block out₃ third)
+      → (propsSize unsubscribeRow (unsubscribeGiven (h .user)) ≤ most → Behind out₂ second block out₃ third)
       → Put out₃ third (flat string (strings (h .topics))) out₄ j
       → belongs (unsubscribe h) ≡ true → restIs (unsubscribe h) ≤ most → out₄ ≡ sets before 0 (frameBytes (unsubscribe h))
   put-frame before out₁ out₂ out₃ out₄ len n first second third j l p₁ m₁ q₂ m₂ p₃ p₄ e s =
@@ -90,14 +90,14 @@ module _ (h : UnsubscribeHanded) where
       ∙ ap (sets before 0) (sym (spelt i e))
     where
       spelt : len ≡ restIs (unsubscribe h) → belongs (unsubscribe h) ≡ true → frameBytes (unsubscribe h) ≡ (firstOf 10 ∷ short len) ++ (wide 2 (h .ident) ++ (block ++ flat string (strings (h .topics))))
-      spelt i e = unsubscribe-frame h e ∙ rw (i, append-assoc (short (propsSize unsubscribePlace (unsubscribeGiven (h .user)))) (propsBytes unsubscribePlace (unsubscribeGiven (h .user))) (flat string (strings (h .topics))), first-byte h)
+      spelt i e = unsubscribe-frame h e ∙ rw (i, append-assoc (short (propsSize unsubscribeRow (unsubscribeGiven (h .user)))) (propsBytes unsubscribeRow (unsubscribeGiven (h .user))) (flat string (strings (h .topics))), first-byte h)
 
 pub put-rows : (u : Run) (before out₁ out₂ : List ℕ) (at len n first j second : ℕ) → len ≡ cap (givenSize pair (pairs u))
     → (out₁ ≡ sets before at (short len)) × (n ≡ length (short len)) → first ≡ min (at + n) (length out₁)
     → Put out₁ first (rowBytes (38, pair) (pairs u)) out₂ j → second ≡ min (first + j) (length out₂)
-    → propsSize unsubscribePlace (unsubscribeGiven u) ≤ most
-    → Behind before at (short (propsSize unsubscribePlace (unsubscribeGiven u)) ++ propsBytes unsubscribePlace (unsubscribeGiven u)) out₂ second
+    → propsSize unsubscribeRow (unsubscribeGiven u) ≤ most
+    → Behind before at (short (propsSize unsubscribeRow (unsubscribeGiven u)) ++ propsBytes unsubscribeRow (unsubscribeGiven u)) out₂ second
 put-rows u before out₁ out₂ at len n first j second l (q₁, c₁) m₁ p₂ m₂ s =
-    let i : len ≡ propsSize unsubscribePlace (unsubscribeGiven u) = block-length u len l ∙ cap-small (propsSize unsubscribePlace (unsubscribeGiven u)) s in
+    let i : len ≡ propsSize unsubscribeRow (unsubscribeGiven u) = block-length u len l ∙ cap-small (propsSize unsubscribeRow (unsubscribeGiven u)) s in
     let r : List ℕ = rowBytes (38, pair) (pairs u) in
     rw (← i, unsubscribe-props u, append-nil r) (next-then (store-next (short len) q₁ c₁ m₁) (put-next p₂ m₂))

@@ -15,10 +15,10 @@ use Rattle.writing.specs.Spell.{string}
 use Rattle.writing.specs.Size.{topicsSize, cap}
 use Rattle.writing.proofs.Sizes.{length-string}
 use Rattle.writing.proofs.ForCode.{runFrom, stringAt, strings-done}
-use Rattle.rows.specs.Given.{run}
-use Rattle.rows.proofs.Laws.Run.{strings-cut}
-use Rattle.row_sizes.proofs.Laws.{cap-left}
-use Rattle.row_puts.specs.Put.{Put}
+use Rattle.write_runs.specs.Given.{run}
+use Rattle.write_runs.proofs.Laws.Run.{strings-cut}
+use Rattle.write_sizes.proofs.Laws.{cap-left}
+use Rattle.write_properties.specs.Put.{Put}
 
 -- ---- the i-th topic, its text at index p of the run; the rest of the run is from index q on
 

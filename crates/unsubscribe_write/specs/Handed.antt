@@ -2,7 +2,7 @@
 use mathlib.Core.List.{List}
 use Prim.Native.Nat.{ℕ}
 use Rattle.writing.specs.Handed.{UnsubscribeHanded}
-use Rattle.rows.specs.Given.{run}
+use Rattle.write_runs.specs.Given.{run}
 use Rattle.unsubscribe_write.specs.declared.UnsubscribeHead.{UnsubscribeHead}
 
 -- 02, P1: Unsubscribe: the numbers and presence, the user properties and their lengths, the topics and their lengths

@@ -3,31 +3,31 @@
 mod topic;
 
 use kinds;
-use length_puts::put_length;
-use number_puts::fixed;
 use records::answer::Limit;
 use records::answer::Sized;
 use records::answer::Written;
 use records::error::Error;
-use row_belongs;
-use row_tests::Tested;
-use rows::run;
+use write_belongs;
+use write_lengths::put_length;
+use write_numbers::fixed;
+use write_runs::run;
+use write_tests::Tested;
 ghost use mathlib.Core.Path.{_≡_};
 ghost use mathlib.Core.Bool.{true};
 ghost use mathlib.Core.List.{_++_};
 ghost use Prim.Native.Nat.{_≤_};
 ghost use lib.Seq.{sets};
-ghost use Rattle.grammar.specs.Tables.{unsubscribePlace};
+ghost use Rattle.grammar.specs.Tables.{unsubscribeRow};
 ghost use Rattle.writing.specs.Handed.{unsubscribe, unsubscribeGiven, belongs as belongsOf};
 ghost use Rattle.writing.specs.Spell.{short, propsBytes};
 ghost use Rattle.writing.specs.Size.{most, propsSize, restIs, cap};
 ghost use Rattle.writing.specs.Write.{frameBytes, sizeOf, Written as WrittenOf};
 ghost use Rattle.records.specs.AsNumbers.{limitOf};
 ghost use Rattle.records.specs.Answered.{toldSized, toldWritten};
-ghost use Rattle.rows.specs.Given.{run as runOf};
-ghost use Rattle.row_tests.specs.Tested.{toldTested};
-ghost use Rattle.row_puts.specs.Behind.{Behind};
-ghost use Rattle.settle.specs.Found.{earlyOf};
+ghost use Rattle.write_runs.specs.Given.{run as runOf};
+ghost use Rattle.write_tests.specs.Tested.{toldTested};
+ghost use Rattle.write_properties.specs.Behind.{Behind};
+ghost use Rattle.write_order.specs.Found.{beforeSize};
 ghost use Rattle.unsubscribe_write.specs.Handed.{handed};
 
 // What is handed over by value; the user properties and the topics are lent beside it.
@@ -47,8 +47,8 @@ fn belongs(
 ) -> bool
     ensures { λ r. ⌜ r ≡ belongsOf (unsubscribe (handed m (now (user .entry)) (now («user_lengths» .entry)) (now (topics .entry)) (now («topic_lengths» .entry)))) ⌝ }
 {
-    row_belongs::both(
-        row_belongs::pairs_belong(m.block, user, user_lengths),
+    write_belongs::both(
+        write_belongs::pairs_belong(m.block, user, user_lengths),
         run::adds_up(topics, topic_lengths),
     )
 }
@@ -63,9 +63,9 @@ fn rest(
 ) -> usize
     ensures { λ r. ⌜ r ≡ cap (restIs (unsubscribe (handed m (now (user .entry)) (now («user_lengths» .entry)) (now (topics .entry)) (now («topic_lengths» .entry))))) ⌝ }
 {
-    let block = row_sizes::with_length(row_sizes::pairs_size(user, user_lengths));
-    row_sizes::add(
-        row_sizes::add(block, topic::topics_size(topics, topic_lengths)),
+    let block = write_sizes::with_length(write_sizes::pairs_size(user, user_lengths));
+    write_sizes::add(
+        write_sizes::add(block, topic::topics_size(topics, topic_lengths)),
         2,
     )
 }
@@ -80,39 +80,39 @@ pub fn size(
 ) -> Sized
     ensures { λ r. ⌜ toldSized r ≡ sizeOf (unsubscribe (handed m (now (user .entry)) (now («user_lengths» .entry)) (now (topics .entry)) (now («topic_lengths» .entry)))) ⌝ }
 {
-    settle::size(
+    write_order::size(
         belongs(m, user, user_lengths, topics, topic_lengths),
         rest(m, user, user_lengths, topics, topic_lengths),
     )
 }
 
 // 20, then the fields.
-fn early(
+fn before_size(
     m: UnsubscribeHead,
     user: &[u8],
     user_lengths: &[usize],
     topics: &[u8],
     topic_lengths: &[usize],
 ) -> Tested
-    ensures { λ r. ⌜ toldTested r ≡ earlyOf (unsubscribe (handed m (now (user .entry)) (now («user_lengths» .entry)) (now (topics .entry)) (now («topic_lengths» .entry)))) ⌝ }
+    ensures { λ r. ⌜ toldTested r ≡ beforeSize (unsubscribe (handed m (now (user .entry)) (now («user_lengths» .entry)) (now (topics .entry)) (now («topic_lengths» .entry)))) ⌝ }
 {
     if !belongs(m, user, user_lengths, topics, topic_lengths) {
         return Tested::Refused(Error::ListMismatch);
     }
-    row_tests::then(
-        row_tests::test_words(user, user_lengths),
-        row_tests::test_words(topics, topic_lengths),
+    write_tests::then(
+        write_tests::test_words(user, user_lengths),
+        write_tests::test_words(topics, topic_lengths),
     )
 }
 
 // L and the properties; gives the index behind them.
 fn put_block(out: &mut [u8], at: usize, user: &[u8], user_lengths: &[usize]) -> usize
-    ensures { λ r. ⌜ (propsSize unsubscribePlace (unsubscribeGiven (runOf (now (user .entry)) (now («user_lengths» .entry)))) ≤ most → Behind (now (out .entry)) at (short (propsSize unsubscribePlace (unsubscribeGiven (runOf (now (user .entry)) (now («user_lengths» .entry))))) ++ propsBytes unsubscribePlace (unsubscribeGiven (runOf (now (user .entry)) (now («user_lengths» .entry))))) (now (out .exit)) r) ⌝ }
+    ensures { λ r. ⌜ (propsSize unsubscribeRow (unsubscribeGiven (runOf (now (user .entry)) (now («user_lengths» .entry)))) ≤ most → Behind (now (out .entry)) at (short (propsSize unsubscribeRow (unsubscribeGiven (runOf (now (user .entry)) (now («user_lengths» .entry))))) ++ propsBytes unsubscribeRow (unsubscribeGiven (runOf (now (user .entry)) (now («user_lengths» .entry))))) (now (out .exit)) r) ⌝ }
 {
-    let len = row_sizes::pairs_size(user, user_lengths);
+    let len = write_sizes::pairs_size(user, user_lengths);
     let n = put_length(&mut *out, at, len);
     let first = run::after(out.len(), at, n);
-    let j = list_puts::put_pairs(&mut *out, first, user, user_lengths);
+    let j = write_lists::put_pairs(&mut *out, first, user, user_lengths);
     run::after(out.len(), first, j)
 }
 
@@ -129,7 +129,7 @@ fn put(
 {
     let len = rest(m, user, user_lengths, topics, topic_lengths);
     let byte1 = kinds::first_byte(10);
-    let n = row_puts::put_header(&mut *out, byte1, len);
+    let n = write_properties::put_header(&mut *out, byte1, len);
     let first = run::after(out.len(), 0, n);
     fixed::put_u16(&mut *out, first, m.pkid);
     let second = run::after(out.len(), first, 2);
@@ -149,10 +149,10 @@ pub fn write(
 ) -> Written
     ensures { λ r. ⌜ WrittenOf (limitOf limit) (unsubscribe (handed m (now (user .entry)) (now («user_lengths» .entry)) (now (topics .entry)) (now («topic_lengths» .entry)))) (now (out .entry)) (now (out .exit)) (toldWritten r) ⌝ }
 {
-    let fields = early(m, user, user_lengths, topics, topic_lengths);
+    let fields = before_size(m, user, user_lengths, topics, topic_lengths);
     let len = rest(m, user, user_lengths, topics, topic_lengths);
     let end = topic::test_asked(topic_lengths);
-    match settle::settle(fields, len, limit, end, out.len()) {
+    match write_order::settle(fields, len, limit, end, out.len()) {
         Written::Refused(e) => Written::Refused(e),
         Written::Size(n) => {
             put(&mut *out, m, user, user_lengths, topics, topic_lengths);

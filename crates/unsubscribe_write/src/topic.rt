@@ -1,9 +1,9 @@
 // The topics of an Unsubscribe as they are written, after unsubscribe.rs: their size, whether there is one, and their bytes. Their tests
-// are those of user properties (`row_tests`).
+// are those of user properties (`write_tests`).
 use records::error::Error;
-use row_tests::Tested;
-use rows::run;
-use string_puts::put_string;
+use write_runs::run;
+use write_strings::put_string;
+use write_tests::Tested;
 ghost use mathlib.Core.Path.{_≡_};
 ghost use mathlib.Core.Bool.{not};
 ghost use mathlib.Core.List.{List, []};
@@ -15,16 +15,16 @@ ghost use Rattle.writing.specs.Lists.{flat};
 ghost use Rattle.writing.specs.Handed.{strings};
 ghost use Rattle.writing.specs.Spell.{string};
 ghost use Rattle.writing.specs.Size.{topicsSize, cap};
-ghost use Rattle.rows.specs.Given.{run as runOf};
-ghost use Rattle.row_tests.specs.Tested.{toldTested};
-ghost use Rattle.row_puts.specs.Put.{Put};
+ghost use Rattle.write_runs.specs.Given.{run as runOf};
+ghost use Rattle.write_tests.specs.Tested.{toldTested};
+ghost use Rattle.write_properties.specs.Put.{Put};
 
 // Their bytes, cut off where they are too many: a topic has two bytes of length.
 pub fn topics_size(bytes: &[u8], lengths: &[usize]) -> usize
     ensures { λ r. ⌜ r ≡ cap (topicsSize (runOf (now (bytes .entry)) (now (lengths .entry)))) ⌝ }
 {
     let n = lengths.len();
-    row_sizes::add(row_sizes::add(n, n), bytes.len())
+    write_sizes::add(write_sizes::add(n, n), bytes.len())
 }
 
 // 13 if there is no topic.

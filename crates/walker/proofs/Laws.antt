@@ -6,7 +6,7 @@ use Prim.Native.Nat.{ℕ, _+_, _≤_, _<_}
 use native.Mathlib.Omega.{arith}
 use lib.ListN.{length, drop, drop-of-length-le}
 use Rattle.grammar.specs.Record.{Val}
-use Rattle.grammar.specs.Tables.{Form, pair, Place, formAt}
+use Rattle.grammar.specs.Tables.{Form, pair, Row, formAt}
 use Rattle.reading.specs.Refusal.{Refusal, cut}
 use Rattle.reading.specs.Reader.{Fit, got, bad}
 use Rattle.reading.specs.Read.{propertyOf}
@@ -29,16 +29,16 @@ some-inj : {A : Type 0} {a b : A} → some a ≡ some b → a ≡ b
 some-inj e = cc
 
 -- what comes next from index i on comes next from `at` on
-pub record Behind (row : Place) (s : List ℕ) (at i : ℕ) : Type 0 where
+pub record Behind (row : Row) (s : List ℕ) (at i : ℕ) : Type 0 where
   pub goes : (o : Fit (Val Span)) (m : ℕ) → Next row s i o m → Next row s at o m
 
-pub behind-start : {row : Place} {s : List ℕ} {at : ℕ} → Behind row s at at
+pub behind-start : {row : Row} {s : List ℕ} {at : ℕ} → Behind row s at at
 behind-start = record { goes = λ o m w. w }
 
-pub behind-ahead : {row : Place} {s : List ℕ} {i k n : ℕ} {v : Value} → PropertyRead row s i (Found k v n) → i < n
+pub behind-ahead : {row : Row} {s : List ℕ} {i k n : ℕ} {v : Value} → PropertyRead row s i (Found k v n) → i < n
 behind-ahead {row = row} {s = s} {i = i} {k = k} {n = n} {v = v} r = property-ahead row s i (k, toldValue v) n (r .says)
 
-module _ {row : Place} {s : List ℕ} {at i : ℕ} (B : Behind row s at i) where
+module _ {row : Row} {s : List ℕ} {at i : ℕ} (B : Behind row s at i) where
   pub behind-other : {k n : ℕ} {v : Value} → PropertyRead row s i (Found k v n) → (k ≡ 38 → ⊥) → Behind row s at n
   behind-other r h = record { goes = λ o m w. B .goes o m (other (sym (r .says)) h w) }
 
@@ -56,7 +56,7 @@ module _ {row : Place} {s : List ℕ} {at i : ℕ} (B : Behind row s at i) where
   next-end h = B .goes (bad noItem) i (done {k = cut} (rw (drop-of-length-le s h)))
 
 -- where a user property comes next, the walk stands further on then
-pub next-ahead : {row : Place} {s : List ℕ} {at m : ℕ} {v : Val Span} → Next row s at (got v) m → at < m
+pub next-ahead : {row : Row} {s : List ℕ} {at m : ℕ} {v : Val Span} → Next row s at (got v) m → at < m
 next-ahead {row = row} {s = s} w = go w refl
   where
     go : {at m : ℕ} {v : Val Span} {o : Fit (Val Span)} → Next row s at o m → o ≡ got v → at < m

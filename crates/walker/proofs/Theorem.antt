@@ -10,7 +10,7 @@ use lib.ListN.{length, take, drop, drop-of-length-le}
 use lib.Seq.{length-take-le}
 use borrow.Author.Tests.{leb-false, le-leb, ne-eqb}
 use Rattle.grammar.specs.Record.{Val, PropOf, allOf}
-use Rattle.grammar.specs.Tables.{Place, publishPlace}
+use Rattle.grammar.specs.Tables.{Row, publishRow}
 use Rattle.reading.specs.Refusal.{Refusal, cut}
 use Rattle.reading.specs.Reader.{Fit, got, bad, Reader, _>>=_, manyFit}
 use Rattle.reading.specs.Read.{propertyOf, propertiesFit}
@@ -22,8 +22,8 @@ use Rattle.positions.proofs.At.{part-slice}
 use Rattle.positions.proofs.Less.{property-less, once-many}
 use Rattle.positions.proofs.Run.{none-passed, passed-end, passed-bad, passed-next}
 use Rattle.positions.proofs.Trails.{trails-property}
-use Rattle.tables.specs.Property.{placeOf}
-use Rattle.tables.specs.declared.property.PropertyPlace.{PropertyPlace}
+use Rattle.tables.specs.Property.{tableRow}
+use Rattle.tables.specs.declared.property.PropertyRow.{PropertyRow}
 use Rattle.walker.specs.Walk.{propertyAt, Next, here, other, done, blockOf, spread, Begins, Yields, first, later, userIn}
 use Rattle.walker.proofs.Lies.{again-got, read-block}
 
@@ -32,7 +32,7 @@ pub data Takes : Fit (Val Span) → List (Val Span) → List (Val Span) → Type
   took : {v : Val Span} {ws : List (Val Span)} → Takes (got v) (v ∷ ws) ws
   ended : Takes (bad noItem) [] []
 
-module _ (row : Place) (t : List ℕ) where
+module _ (row : Row) (t : List ℕ) where
   abbrev pub P : Reader (PropOf Span)
   P = propertyOf asPlaces row (length t)
 
@@ -104,14 +104,14 @@ front-is s end h =
     rw (e, le-leb end (length s) h)
 
 module _ (s : List ℕ) where
-  over-none : (k : ℕ) (o : Fit (Val Span)) → Yields publishPlace (front s 0) 0 k o → o ≡ bad noItem
+  over-none : (k : ℕ) (o : Fit (Val Span)) → Yields publishRow (front s 0) 0 k o → o ≡ bad noItem
   unfolding allOf
   over-none k o y =
       let t : List ℕ = front s 0 in
-      let L = property-less publishPlace (length t) in
-      yields-nth publishPlace t y [] (passed-end t L (none-passed t L 0) (omega (arith, ap length (front-is s 0 (omega arith)))))
+      let L = property-less publishRow (length t) in
+      yields-nth publishRow t y [] (passed-end t L (none-passed t L 0) (omega (arith, ap length (front-is s 0 (omega arith)))))
 
-  over-block : (row : Place) (p : Span) (ps : List (PropOf Span)) → again (propertiesFit asPlaces row) s p ≡ got ps
+  over-block : (row : Row) (p : Span) (ps : List (PropOf Span)) → again (propertiesFit asPlaces row) s p ≡ got ps
       → (k : ℕ) (o : Fit (Val Span)) → Yields row (front s (p .start + p .len)) (p .start) k o → o ≡ userAt asPlaces s p row k
   unfolding userAt valuesAt propertiesFit
   over-block row p ps j k o y =
@@ -122,20 +122,20 @@ module _ (s : List ℕ) where
       yields-nth row (take end s) (subst (λ (t : List ℕ). Yields row t (p .start) k o) (front-is s end h) y) ps g ∙ rw j
 
 -- 02, P7: "yields user properties one after another", "nothing on a frame the reader refuses": the k-th answer of a walker over the frame at the start of s is its record's k-th user property; then 21 for ever
-pub walker-yields : (s : List ℕ) (at end : ℕ) (place : PropertyPlace) → Begins s at end place
-    → (k : ℕ) (o : Fit (Val Span)) → Yields (placeOf place) (front s end) at k o → o ≡ userIn s (blockOf (readPlacedOf none s)) k
-walker-yields s at end place b k o = go (blockOf (readPlacedOf none s)) refl b
+pub walker-yields : (s : List ℕ) (at end : ℕ) (which : PropertyRow) → Begins s at end which
+    → (k : ℕ) (o : Fit (Val Span)) → Yields (tableRow which) (front s end) at k o → o ≡ userIn s (blockOf (readPlacedOf none s)) k
+walker-yields s at end which b k o = go (blockOf (readPlacedOf none s)) refl b
   where
-    go : (u : Option (Place × Span)) → blockOf (readPlacedOf none s) ≡ u → (at, (end, placeOf place)) ≡ spread u → Yields (placeOf place) (front s end) at k o → o ≡ userIn s u k
-    go none i e y = over-none s k o (subst (λ (z : ℕ × (ℕ × Place)). Yields (z .1 .1) (front s (z .1 .0)) (z .0) k o) e y)
+    go : (u : Option (Row × Span)) → blockOf (readPlacedOf none s) ≡ u → (at, (end, tableRow which)) ≡ spread u → Yields (tableRow which) (front s end) at k o → o ≡ userIn s u k
+    go none i e y = over-none s k o (subst (λ (z : ℕ × (ℕ × Row)). Yields (z .1 .1) (front s (z .1 .0)) (z .0) k o) e y)
     go (some (row, p)) i e y =
         let (ps, j) = read-block s (readPlacedOf none s) refl row p i in
-        over-block s row p ps j k o (subst (λ (z : ℕ × (ℕ × Place)). Yields (z .1 .1) (front s (z .1 .0)) (z .0) k o) e y)
+        over-block s row p ps j k o (subst (λ (z : ℕ × (ℕ × Row)). Yields (z .1 .1) (front s (z .1 .0)) (z .0) k o) e y)
 
 -- ---- one answer only
 
 -- from an index on one answer comes next, and the walk stands at one index then
-pub next-one : {row : Place} {s : List ℕ} {at m m′ : ℕ} {o o′ : Fit (Val Span)} → Next row s at o m → Next row s at o′ m′ → (o ≡ o′) × (m ≡ m′)
+pub next-one : {row : Row} {s : List ℕ} {at m m′ : ℕ} {o o′ : Fit (Val Span)} → Next row s at o m → Next row s at o′ m′ → (o ≡ o′) × (m ≡ m′)
 next-one (here e) (here e′) =
     let q = got-inj (sym e ∙ e′) in
     (ap (λ (z : PropOf Span × ℕ). got (z .0 .1)) q, ap (λ (z : PropOf Span × ℕ). z .1) q)

@@ -3,7 +3,7 @@ use mathlib.Core.Option.{Option, none, some}
 use mathlib.Core.List.{List, [], _∷_}
 use Prim.Native.Nat.{ℕ, zero, suc}
 use Rattle.grammar.specs.Record.{Val}
-use Rattle.grammar.specs.Tables.{Place}
+use Rattle.grammar.specs.Tables.{Row}
 use Rattle.reading.specs.Reader.{Fit, got, bad}
 use Rattle.reading.specs.Place.{Span, asPlaces, noItem, valuesAt}
 use Rattle.records.specs.declared.answer.UserItem.{UserItem}
@@ -22,6 +22,6 @@ answersOf (suc k) [] = bad noItem ∷ answersOf k []
 answersOf (suc k) (v ∷ vs) = got v ∷ answersOf k vs
 
 -- the user properties of a record in the bytes s, whose block stands in a row at a place; none where there is no block
-abbrev pub usersIn : List ℕ → Option (Place × Span) → Fit (List (Val Span))
+abbrev pub usersIn : List ℕ → Option (Row × Span) → Fit (List (Val Span))
 usersIn s none = got []
 usersIn s (some (row, p)) = valuesAt asPlaces s p row 38

@@ -4,7 +4,7 @@ use mathlib.Core.Option.{none}
 use mathlib.Core.List.{List, [], _∷_, map}
 use Prim.Native.Nat.{ℕ}
 use Rattle.grammar.specs.Text.{rows}
-use Rattle.grammar.specs.Tables.{publishPlace, subscribePlace, ackPlace, unsubscribePlace, reasons, releaseReasons, subAckReasons, unsubAckReasons, kinds}
+use Rattle.grammar.specs.Tables.{publishRow, subscribeRow, ackRow, unsubscribeRow, reasons, releaseReasons, subAckReasons, unsubAckReasons, kinds}
 use Rattle.grammar.specs.Record.{lastOf, allOf, publishProps, propsOf}
 use Rattle.reading.specs.Refusal.{nr, within, over}
 use Rattle.reading.specs.Reader.{Fit, got, bad, noneOf, neverOf, mapOf, onlyOf, onlyByOf, headOf, thenOf, sizedOf, isFit, mapFit, handFit, onlyFit, thenFit, exactFit, runFit, chainFit}
@@ -47,5 +47,5 @@ Stand =
     × (boundsOf none (0x82 ∷ 0x03 ∷ 0x00 ∷ 0x01 ∷ 0x00 ∷ []) ≡ bad (nr 13 []))
 
 pub stand : Stand
-unfolding rows publishPlace subscribePlace ackPlace unsubscribePlace reasons releaseReasons subAckReasons unsubAckReasons kinds lastOf allOf publishProps propsOf noneOf neverOf mapOf onlyOf onlyByOf headOf thenOf sizedOf isFit mapFit handFit onlyFit thenFit exactFit runFit chainFit byteOf followOf restOf charOf isText bigOf groupOf groupsOf numOf stringFit bytesOf textOf valueOf valueAt propertyOf onceOf propertiesFit blockOf ackBlockFit ackRestFit identOf reasonsFit filterOf filtersFit topicsFit messageFit fieldsFit layoutFit bodyFit within over frameOf bodyAnswer wholeAnswer frameAnswer readAs again valuesAt userAt subscriptionAt filterAt reasonAt topicAt fieldBounds frameBounds boundsOf
+unfolding rows publishRow subscribeRow ackRow unsubscribeRow reasons releaseReasons subAckReasons unsubAckReasons kinds lastOf allOf publishProps propsOf noneOf neverOf mapOf onlyOf onlyByOf headOf thenOf sizedOf isFit mapFit handFit onlyFit thenFit exactFit runFit chainFit byteOf followOf restOf charOf isText bigOf groupOf groupsOf numOf stringFit bytesOf textOf valueOf valueAt propertyOf onceOf propertiesFit blockOf ackBlockFit ackRestFit identOf reasonsFit filterOf filtersFit topicsFit messageFit fieldsFit layoutFit bodyFit within over frameOf bodyAnswer wholeAnswer frameAnswer readAs again valuesAt userAt subscriptionAt filterAt reasonAt topicAt fieldBounds frameBounds boundsOf
 stand = (refl, refl)

@@ -4,7 +4,7 @@ use mathlib.Core.Option.{Option, none, some}
 use mathlib.Core.List.{List, [], _∷_, _++_, map}
 use Prim.Native.Nat.{ℕ}
 use Rattle.grammar.specs.Text.{rows}
-use Rattle.grammar.specs.Tables.{publishPlace, subscribePlace, ackPlace, unsubscribePlace, reasons, releaseReasons, subAckReasons, unsubAckReasons, kinds}
+use Rattle.grammar.specs.Tables.{publishRow, subscribeRow, ackRow, unsubscribeRow, reasons, releaseReasons, subAckReasons, unsubAckReasons, kinds}
 use Rattle.grammar.specs.Record.{Val, num, str, duo, lastOf, allOf, PublishProps, publishProps, propsOf, Props, publish, ack, subscribe, reply, unsubscribe, ping}
 use Rattle.grammar.specs.Sentence.{Packet}
 use Rattle.reading.specs.Refusal.{nr, Answer, accepted, refused, within, over}
@@ -244,13 +244,13 @@ abbrev items : List (Fit (Val Span))
 items =
     subscriptionAt asPlaces three (span 6 6) 2
     ∷ subscriptionAt asPlaces three (span 6 6) 3
-    ∷ userAt asPlaces three (span 6 6) publishPlace 0
+    ∷ userAt asPlaces three (span 6 6) publishRow 0
     ∷ subscriptionAt asPlaces three (span 6 5) 0
     ∷ subscriptionAt asPlaces three (span 6 9) 0
-    ∷ userAt asPlaces acks (span 6 11) ackPlace 0
-    ∷ userAt asPlaces acks (span 6 11) subscribePlace 0
-    ∷ userAt asPlaces doubled (span 0 9) publishPlace 0
-    ∷ userAt asPlaces doubled (span 2 7) publishPlace 0
+    ∷ userAt asPlaces acks (span 6 11) ackRow 0
+    ∷ userAt asPlaces acks (span 6 11) subscribeRow 0
+    ∷ userAt asPlaces doubled (span 0 9) publishRow 0
+    ∷ userAt asPlaces doubled (span 2 7) publishRow 0
     ∷ []
 
 -- ---- the statement
@@ -268,5 +268,5 @@ Right =
     × (topicAt asPlaces (0x00 ∷ 0x01 ∷ 0x61 ∷ []) (span 0 3) 0 ≡ got (span 2 1))
 
 pub right : Right
-unfolding rows publishPlace subscribePlace ackPlace unsubscribePlace reasons releaseReasons subAckReasons unsubAckReasons kinds lastOf allOf publishProps propsOf noneOf neverOf mapOf onlyOf onlyByOf headOf thenOf sizedOf isFit mapFit handFit onlyFit thenFit exactFit runFit chainFit byteOf followOf restOf charOf isText bigOf groupOf groupsOf numOf stringFit bytesOf textOf valueOf valueAt propertyOf onceOf propertiesFit blockOf ackBlockFit ackRestFit identOf reasonsFit filterOf filtersFit topicsFit messageFit fieldsFit layoutFit bodyFit within over frameOf bodyAnswer wholeAnswer frameAnswer readAs again valuesAt userAt subscriptionAt filterAt reasonAt topicAt
+unfolding rows publishRow subscribeRow ackRow unsubscribeRow reasons releaseReasons subAckReasons unsubAckReasons kinds lastOf allOf publishProps propsOf noneOf neverOf mapOf onlyOf onlyByOf headOf thenOf sizedOf isFit mapFit handFit onlyFit thenFit exactFit runFit chainFit byteOf followOf restOf charOf isText bigOf groupOf groupsOf numOf stringFit bytesOf textOf valueOf valueAt propertyOf onceOf propertiesFit blockOf ackBlockFit ackRestFit identOf reasonsFit filterOf filtersFit topicsFit messageFit fieldsFit layoutFit bodyFit within over frameOf bodyAnswer wholeAnswer frameAnswer readAs again valuesAt userAt subscriptionAt filterAt reasonAt topicAt
 right = (refl, refl, refl, refl, refl, refl, refl, refl, refl)

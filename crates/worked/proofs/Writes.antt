@@ -7,7 +7,7 @@ use Prim.Native.Nat.{ℕ, _+_, _<_}
 use native.Mathlib.Omega.{arith}
 use lib.ListN.{replicate, length-replicate}
 use Rattle.grammar.specs.Text.{rows}
-use Rattle.grammar.specs.Tables.{publishPlace, subscribePlace, ackPlace, unsubscribePlace, reasons, releaseReasons, subAckReasons, unsubAckReasons, kinds, reasonsOf, firsts, firstOf}
+use Rattle.grammar.specs.Tables.{publishRow, subscribeRow, ackRow, unsubscribeRow, reasons, releaseReasons, subAckReasons, unsubAckReasons, kinds, reasonsOf, firsts, firstOf}
 use Rattle.grammar.specs.Octets.{Each, nil, _&_}
 use Rattle.reading.specs.Refusal.{nr}
 use Rattle.reading.specs.Reader.{Fit, got, bad, noneOf, neverOf, mapOf, onlyOf, thenOf, runFit, chainFit}
@@ -199,7 +199,7 @@ bench =
     ∷ []
 
 pub bench-right : map (λ (c : Case). writeOf (c .limit) (c .room) (c .handed)) bench ≡ map (λ (c : Case). c .answer) bench
-unfolding rows publishPlace subscribePlace ackPlace unsubscribePlace reasons releaseReasons subAckReasons unsubAckReasons kinds reasonsOf noneOf neverOf mapOf onlyOf thenOf runFit chainFit byteOf followOf restOf charOf isText spell spellStep publishGiven subscribeGiven ackGiven unsubscribeGiven filters blockBelongs filtersBelong belongs wide short string numeral value propsBytes counted block propsSize restIs sizeIs judge propsFields fieldsOf permit firsts firstOf firstByte bodyBytes frameBytes writeOf
+unfolding rows publishRow subscribeRow ackRow unsubscribeRow reasons releaseReasons subAckReasons unsubAckReasons kinds reasonsOf noneOf neverOf mapOf onlyOf thenOf runFit chainFit byteOf followOf restOf charOf isText spell spellStep publishGiven subscribeGiven ackGiven unsubscribeGiven filters blockBelongs filtersBelong belongs wide short string numeral value propsBytes counted block propsSize restIs sizeIs judge propsFields fieldsOf permit firsts firstOf firstByte bodyBytes frameBytes writeOf
 bench-right = refl
 
 -- ---- sizes, asked alone: no 18, 9, 14, 11, 12, 13, nor 17 for an identifier; 20 for what does not belong together
@@ -223,14 +223,14 @@ sizes =
     ∷ []
 
 pub sizes-right : map (λ (z : Handed × Fit ℕ). sizeOf (z .0)) sizes ≡ map (λ (z : Handed × Fit ℕ). z .1) sizes
-unfolding publishPlace subscribePlace ackPlace unsubscribePlace publishGiven subscribeGiven ackGiven unsubscribeGiven filters blockBelongs filtersBelong belongs propsSize restIs sizeIs sizeOf
+unfolding publishRow subscribeRow ackRow unsubscribeRow publishGiven subscribeGiven ackGiven unsubscribeGiven filters blockBelongs filtersBelong belongs propsSize restIs sizeIs sizeOf
 sizes-right = refl
 
 -- ---- outputs: the first size bytes are set and the rest is kept; a refused write leaves it as it stood
 
 pub out-right : map (λ (z : List ℕ × Handed). outOf none (z .0) (z .1)) ((1 ∷ 2 ∷ 3 ∷ [], ping 13) ∷ (1 ∷ [], ping 13) ∷ (7 ∷ 7 ∷ 7 ∷ 7 ∷ 7 ∷ [], acked 0 false no (run [] [])) ∷ [])
     ≡ (0xD0 ∷ 0x00 ∷ 3 ∷ []) ∷ (1 ∷ []) ∷ (0x40 ∷ 0x02 ∷ 0x00 ∷ 0x0A ∷ 7 ∷ []) ∷ []
-unfolding ackPlace reasonsOf kinds reasons ackGiven blockBelongs belongs spell spellStep wide short counted propsSize restIs sizeIs judge propsFields fieldsOf permit firsts firstOf firstByte bodyBytes frameBytes writeOf outOf
+unfolding ackRow reasonsOf kinds reasons ackGiven blockBelongs belongs spell spellStep wide short counted propsSize restIs sizeIs judge propsFields fieldsOf permit firsts firstOf firstByte bodyBytes frameBytes writeOf outOf
 out-right = refl
 
 -- ---- 17 for R: a payload too long to be counted here one by one
@@ -239,18 +239,18 @@ abbrev lengthy : ℕ → PublishHanded
 lengthy n = plain a (replicate n 0)
 
 lengthy-belongs : (n : ℕ) → belongs (publish (lengthy n)) ≡ true
-unfolding belongs blockBelongs publishPlace publishGiven
+unfolding belongs blockBelongs publishRow publishGiven
 lengthy-belongs n = refl
 
 lengthy-sound : (n : ℕ) → Each Writable (fieldsOf (publish (lengthy n)))
-unfolding fieldsOf propsFields publishPlace publishGiven
+unfolding fieldsOf propsFields publishRow publishGiven
 lengthy-sound n = topic & nil
   where
     topic : Writable (raw a)
     topic = omega arith
 
 lengthy-rest : (n : ℕ) → restIs (publish (lengthy n)) ≡ 4 + n
-unfolding restIs propsSize publishPlace publishGiven
+unfolding restIs propsSize publishRow publishGiven
 lengthy-rest n = omega (arith, length-replicate {A = ℕ} n 0)
 
 pub lengthy-refused : (limit : Option ℕ) (room n : ℕ) → most < 4 + n → writeOf limit room (publish (lengthy n)) ≡ bad (nr 17 [])

@@ -9,18 +9,18 @@ use lib.Dec.{eqb}
 use lib.ListN.{length}
 use borrow.Author.Tests.{eqb-true}
 use Rattle.grammar.specs.Choice.{isEmpty}
-use Rattle.grammar.specs.Tables.{Forms, Place, publishPlace, subscribePlace, ackPlace, unsubscribePlace}
+use Rattle.grammar.specs.Tables.{Forms, Row, publishRow, subscribeRow, ackRow, unsubscribeRow}
 use Rattle.grammar.specs.Octets.{Each, nil, _&_}
 use Rattle.writing.specs.Lists.{flat, sum}
-use Rattle.writing.specs.Handed.{AckHanded, Handed, publish, ack, subscribe, reply, unsubscribe, ping, Given, one, lent, pairs, several, Givens, publishGiven, subscribeGiven, ackGiven, unsubscribeGiven, strings, items, tag, entries, filters, addsUp, sorted, nothingGiven, blockBelongs, filtersBelong, belongs}
+use Rattle.writing.specs.Handed.{AckHanded, Handed, publish, ack, subscribe, reply, unsubscribe, ping, Given, one, lent, pairs, several, Givens, publishGiven, subscribeGiven, ackGiven, unsubscribeGiven, strings, items, tag, entries, filters, addsUp, coherent, nothingGiven, blockBelongs, filtersBelong, belongs}
 use Rattle.writing.specs.Size.{isPlain}
-use Rattle.writing.specs.Order.{named, asked}
-use Rattle.writing.specs.Refuse.{Sorted, NothingGiven, InBlock, Belongs, Unnamed, Unasked}
+use Rattle.writing.specs.Order.{hasIdent, hasEntries}
+use Rattle.writing.specs.Refuse.{Coherent, NothingGiven, InBlock, Belongs, LacksIdent, LacksEntries}
 use Rattle.writing.proofs.Tests.{and-when, or-when, not-when, nil-when, eq-when, eq-not, all-when}
 
 -- ---- what belongs together
 
-sorted-when : (g : Given) → (sorted g ≡ true) ↔ Sorted g
+sorted-when : (g : Given) → (coherent g ≡ true) ↔ Coherent g
 sorted-when (one o) = (λ _. tt, λ _. refl)
 sorted-when (lent l) = or-when (l .on) (isEmpty (l .bytes)) (nil-when (l .bytes))
 sorted-when (pairs r) =
@@ -34,21 +34,21 @@ nothing-when (lent l) = and-when (not (l .on)) (isEmpty (l .bytes)) (not-when (l
 nothing-when (pairs r) = and-when (isEmpty (r .bytes)) (isEmpty (r .lengths)) (nil-when (r .bytes)) (nil-when (r .lengths))
 nothing-when (several ns) = nil-when ns
 
-block-when : (place : Place) (block : Bool) (g : Givens) → (blockBelongs place block g ≡ true) ↔ Each (InBlock block g) (place .row)
+block-when : (row : Row) (block : Bool) (g : Givens) → (blockBelongs row block g ≡ true) ↔ Each (InBlock block g) (row .forms)
 unfolding blockBelongs
-block-when place block g = all-when _ (λ r. and-when (sorted (g (r .0))) (block || nothingGiven (g (r .0))) (sorted-when (g (r .0))) (or-when block (nothingGiven (g (r .0))) (nothing-when (g (r .0))))) (place .row)
+block-when row block g = all-when _ (λ r. and-when (coherent (g (r .0))) (block || nothingGiven (g (r .0))) (sorted-when (g (r .0))) (or-when block (nothingGiven (g (r .0))) (nothing-when (g (r .0))))) (row .forms)
 
 -- 01, row 20
 pub belongs-when : (h : Handed) → (belongs h ≡ true) ↔ Belongs h
 unfolding belongs filtersBelong
-belongs-when (publish h) = block-when publishPlace (h .block) (publishGiven h)
-belongs-when (ack k h) = block-when ackPlace (h .block) (ackGiven (h .text) (h .user))
+belongs-when (publish h) = block-when publishRow (h .block) (publishGiven h)
+belongs-when (ack k h) = block-when ackRow (h .block) (ackGiven (h .text) (h .user))
 belongs-when (subscribe h) =
-    and-when (blockBelongs subscribePlace (h .block) (subscribeGiven h)) (filtersBelong (h .filters) (h .options)) (block-when subscribePlace (h .block) (subscribeGiven h))
+    and-when (blockBelongs subscribeRow (h .block) (subscribeGiven h)) (filtersBelong (h .filters) (h .options)) (block-when subscribeRow (h .block) (subscribeGiven h))
     (and-when (addsUp (h .filters)) (eqb (length (h .filters .lengths)) (length (h .options))) (eq-when (sum (h .filters .lengths)) (length (h .filters .bytes))) (eq-when (length (h .filters .lengths)) (length (h .options))))
-belongs-when (reply k h) = block-when ackPlace (h .block) (ackGiven (h .text) (h .user))
+belongs-when (reply k h) = block-when ackRow (h .block) (ackGiven (h .text) (h .user))
 belongs-when (unsubscribe h) =
-    and-when (blockBelongs unsubscribePlace (h .block) (unsubscribeGiven (h .user))) (addsUp (h .topics)) (block-when unsubscribePlace (h .block) (unsubscribeGiven (h .user)))
+    and-when (blockBelongs unsubscribeRow (h .block) (unsubscribeGiven (h .user))) (addsUp (h .topics)) (block-when unsubscribeRow (h .block) (unsubscribeGiven (h .user)))
     (eq-when (sum (h .topics .lengths)) (length (h .topics .bytes)))
 belongs-when (ping k) = (λ _. tt, λ _. refl)
 
@@ -63,7 +63,7 @@ never : (true ≡ false) ↔ ⊥
 never = (λ e. false≢true (sym e), λ f. absurd f)
 
 -- 01, row 12
-pub unnamed-when : (h : Handed) → (named h ≡ false) ↔ Unnamed h
+pub unnamed-when : (h : Handed) → (hasIdent h ≡ false) ↔ LacksIdent h
 unnamed-when (publish h) =
     let w = unnamed (eqb (h .qos) 0) (eqb (h .ident) 0) in
     (λ e. let p = w .0 e in (eq-not (h .qos) 0 .0 (p .0), eqb-true (h .ident) 0 (p .1)), λ t. w .1 (eq-not (h .qos) 0 .1 (t .0), eq-when (h .ident) 0 .1 (t .1)))
@@ -78,7 +78,7 @@ none-when [] = (λ _. refl, λ _. refl)
 none-when (a ∷ l) = (λ e. absurd (false≢true (sym e)), λ e. cc)
 
 -- 01, row 13
-pub unasked-when : (h : Handed) → (asked h ≡ false) ↔ Unasked h
+pub unasked-when : (h : Handed) → (hasEntries h ≡ false) ↔ LacksEntries h
 unasked-when (publish h) = never
 unasked-when (ack k h) = never
 unasked-when (subscribe h) = none-when (filters h)
@@ -104,6 +104,6 @@ nothing-rows : {block : Bool} → block ≡ false → (g : Givens) {rs : Forms} 
 nothing-rows e g nil = refl
 nothing-rows e g (_&_ {a = r} p ps) = rw (nothing-items (g (r .0)) (p .1 e), nothing-rows e g ps)
 
-pub nothing-entries : (place : Place) (block : Bool) (g : Givens) → Each (InBlock block g) (place .row) → block ≡ false → entries place g ≡ []
+pub nothing-entries : (row : Row) (block : Bool) (g : Givens) → Each (InBlock block g) (row .forms) → block ≡ false → entries row g ≡ []
 unfolding entries
-nothing-entries place block g rows e = nothing-rows e g rows
+nothing-entries row block g rows e = nothing-rows e g rows

@@ -12,7 +12,7 @@ use lib.ListN.{length, drop, length-append, length-drop}
 use lib.Seq.{sets, sets-eq}
 use borrow.Author.Tests.{eqb-true}
 use Rattle.grammar.specs.Choice.{isEmpty}
-use Rattle.grammar.specs.Tables.{Place, publishPlace, subscribePlace, ackPlace, unsubscribePlace}
+use Rattle.grammar.specs.Tables.{Row, publishRow, subscribeRow, ackRow, unsubscribeRow}
 use Rattle.grammar.specs.Sentence.{Sentence}
 use Rattle.grammar.specs.Octets.{Each}
 use Rattle.reading.specs.Refusal.{Refusal, accepted}
@@ -66,23 +66,23 @@ ident-same q i f = go (eqb q 0) refl
     go true e = sym (f (eqb-true q 0 e))
     go false e = refl
 
-set-same : {A : Type 0} (place : Place) (block : Bool) (g : Givens) → Each (InBlock block g) (place .row) → Filled block (isEmpty (entries place g)) → (a : A)
-    → cond (isEmpty (entries place g)) none (some a) ≡ cond block (some a) none
-set-same place true g w f a = go (isEmpty (entries place g)) refl
+set-same : {A : Type 0} (row : Row) (block : Bool) (g : Givens) → Each (InBlock block g) (row .forms) → Filled block (isEmpty (entries row g)) → (a : A)
+    → cond (isEmpty (entries row g)) none (some a) ≡ cond block (some a) none
+set-same row true g w f a = go (isEmpty (entries row g)) refl
   where
-    go : (t : Bool) → isEmpty (entries place g) ≡ t → cond t none (some a) ≡ some a
+    go : (t : Bool) → isEmpty (entries row g) ≡ t → cond t none (some a) ≡ some a
     go true e = absurd (f refl e)
     go false e = refl
-set-same place false g w f a = rw (nothing-entries place false g w refl)
+set-same row false g w f a = rw (nothing-entries row false g w refl)
 
 -- 01, reading back: "QoS 0 has identifier 0, and no property set is present but empty"
 pub said-meant : (h : Handed) → Belongs h → Plain h → said h ≡ meant h
 unfolding said meant
-said-meant (publish h) w p = rw (ident-same (h .qos) (h .ident) (p .0), set-same publishPlace (h .block) (publishGiven h) w (p .1) (publishSet h))
-said-meant (ack k h) w p = rw (set-same ackPlace (h .block) (ackGiven (h .text) (h .user)) w p (ackSet (h .text) (h .user)))
-said-meant (subscribe h) w p = rw (set-same subscribePlace (h .block) (subscribeGiven h) (w .0) p (subscribeSet h))
-said-meant (reply k h) w p = rw (set-same ackPlace (h .block) (ackGiven (h .text) (h .user)) w p (ackSet (h .text) (h .user)))
-said-meant (unsubscribe h) w p = rw (set-same unsubscribePlace (h .block) (unsubscribeGiven (h .user)) (w .0) p (unsubscribeSet (h .user)))
+said-meant (publish h) w p = rw (ident-same (h .qos) (h .ident) (p .0), set-same publishRow (h .block) (publishGiven h) w (p .1) (publishSet h))
+said-meant (ack k h) w p = rw (set-same ackRow (h .block) (ackGiven (h .text) (h .user)) w p (ackSet (h .text) (h .user)))
+said-meant (subscribe h) w p = rw (set-same subscribeRow (h .block) (subscribeGiven h) (w .0) p (subscribeSet h))
+said-meant (reply k h) w p = rw (set-same ackRow (h .block) (ackGiven (h .text) (h .user)) w p (ackSet (h .text) (h .user)))
+said-meant (unsubscribe h) w p = rw (set-same unsubscribeRow (h .block) (unsubscribeGiven (h .user)) (w .0) p (unsubscribeSet (h .user)))
 said-meant (ping k) w p = refl
 
 -- the theorem: what is written is a sentence that says the record, and is read back, whatever follows
@@ -104,7 +104,7 @@ module _ (limit : Option ℕ) (room : ℕ) (b r : List ℕ) where
   unfolding said
   reads-no-ident h t f q e =
       reads-said limit room (publish h) b t e r
-      ∙ rw (set-same publishPlace (h .block) (publishGiven h) (accepts limit room (publish h) b e .countable .belongs) f (publishSet h), q)
+      ∙ rw (set-same publishRow (h .block) (publishGiven h) (accepts limit room (publish h) b e .countable .belongs) f (publishSet h), q)
 
   pub publish-no-set : (h : PublishHanded) → Typed (publish h) → nonePublish h ≡ true → writeOf limit room (publish h) ≡ got b
       → readOf none (b ++ r) ≡ accepted (thePublish h (cond (eqb (h .qos) 0) 0 (h .ident)) none) (length b)

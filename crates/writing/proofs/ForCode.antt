@@ -12,7 +12,7 @@ use lib.Dec.{eqb, leb}
 use lib.ListN.{length, take, drop, getD, drop-of-length-le}
 use lib.Seq.{drop-cons, drop-drop, sets}
 use borrow.Author.Tests.{le-leb, lt-leb, eqb-true}
-use Rattle.grammar.specs.Tables.{u8, u16, u32, number, text, bytes, pair, publishPlace, subscribePlace, ackPlace, unsubscribePlace, reasonsOf}
+use Rattle.grammar.specs.Tables.{u8, u16, u32, number, text, bytes, pair, publishRow, subscribeRow, ackRow, unsubscribeRow, reasonsOf}
 use Rattle.reading.specs.Refusal.{Refusal}
 use Rattle.reading.specs.Reader.{Fit, got, bad, _>>_}
 use Rattle.writing.specs.Lists.{flat, sum}
@@ -55,24 +55,24 @@ pub publish-belongs : (h : PublishHanded) → belongs (publish h)
     && (rowBelongs (h .block) (several (h .subscriptions))
     && (rowBelongs (h .block) (lent (h .content))
     && true))))))))
-unfolding belongs blockBelongs publishPlace publishGiven
+unfolding belongs blockBelongs publishRow publishGiven
 publish-belongs h = refl
 
 pub ack-belongs : (k : ℕ) (h : AckHanded) → belongs (ack k h) ≡ (rowBelongs (h .block) (lent (h .text)) && (rowBelongs (h .block) (pairs (h .user)) && true))
-unfolding belongs blockBelongs ackPlace ackGiven
+unfolding belongs blockBelongs ackRow ackGiven
 ack-belongs k h = refl
 
 pub reply-belongs : (k : ℕ) (h : ReplyHanded) → belongs (reply k h) ≡ (rowBelongs (h .block) (lent (h .text)) && (rowBelongs (h .block) (pairs (h .user)) && true))
-unfolding belongs blockBelongs ackPlace ackGiven
+unfolding belongs blockBelongs ackRow ackGiven
 reply-belongs k h = refl
 
 pub unsubscribe-belongs : (h : UnsubscribeHanded) → belongs (unsubscribe h) ≡ ((rowBelongs (h .block) (pairs (h .user)) && true) && addsUp (h .topics))
-unfolding belongs blockBelongs unsubscribePlace unsubscribeGiven
+unfolding belongs blockBelongs unsubscribeRow unsubscribeGiven
 unsubscribe-belongs h = refl
 
 pub subscribe-belongs : (h : SubscribeHanded) → belongs (subscribe h)
     ≡ ((rowBelongs (h .block) (one (h .subscription)) && (rowBelongs (h .block) (pairs (h .user)) && true)) && filtersBelong (h .filters) (h .options))
-unfolding belongs blockBelongs subscribePlace subscribeGiven
+unfolding belongs blockBelongs subscribeRow subscribeGiven
 subscribe-belongs h = refl
 
 -- ---- 18, 9, 14 and 11: the fields of each kind, one after the other
@@ -136,7 +136,7 @@ subscribe-tests h = rw (subscribe-order h, append-nil (map word (strings (h .use
 
 -- ---- L, for each kind
 
-pub publish-sum : (h : PublishHanded) → propsSize publishPlace (publishGiven h)
+pub publish-sum : (h : PublishHanded) → propsSize publishRow (publishGiven h)
     ≡ givenSize u8 (one (h .format))
     + (givenSize u32 (one (h .expiry))
     + (givenSize u16 (one (h .alias))
@@ -146,19 +146,19 @@ pub publish-sum : (h : PublishHanded) → propsSize publishPlace (publishGiven h
     + (givenSize number (several (h .subscriptions))
     + (givenSize text (lent (h .content))
     + 0)))))))
-unfolding propsSize publishPlace publishGiven
+unfolding propsSize publishRow publishGiven
 publish-sum h = refl
 
-pub ack-sum : (t : Lent) (u : Run) → propsSize ackPlace (ackGiven t u) ≡ givenSize text (lent t) + (givenSize pair (pairs u) + 0)
-unfolding propsSize ackPlace ackGiven
+pub ack-sum : (t : Lent) (u : Run) → propsSize ackRow (ackGiven t u) ≡ givenSize text (lent t) + (givenSize pair (pairs u) + 0)
+unfolding propsSize ackRow ackGiven
 ack-sum t u = refl
 
-pub unsubscribe-sum : (u : Run) → propsSize unsubscribePlace (unsubscribeGiven u) ≡ givenSize pair (pairs u) + 0
-unfolding propsSize unsubscribePlace unsubscribeGiven
+pub unsubscribe-sum : (u : Run) → propsSize unsubscribeRow (unsubscribeGiven u) ≡ givenSize pair (pairs u) + 0
+unfolding propsSize unsubscribeRow unsubscribeGiven
 unsubscribe-sum u = refl
 
-pub subscribe-sum : (h : SubscribeHanded) → propsSize subscribePlace (subscribeGiven h) ≡ givenSize number (one (h .subscription)) + (givenSize pair (pairs (h .user)) + 0)
-unfolding propsSize subscribePlace subscribeGiven
+pub subscribe-sum : (h : SubscribeHanded) → propsSize subscribeRow (subscribeGiven h) ≡ givenSize number (one (h .subscription)) + (givenSize pair (pairs (h .user)) + 0)
+unfolding propsSize subscribeRow subscribeGiven
 subscribe-sum h = refl
 
 -- ---- the bytes of each kind, one after the other, with R and L as sums
@@ -169,47 +169,47 @@ frame-sum h w = rw (length-body h w)
 
 pub publish-frame : (h : PublishHanded) → belongs (publish h) ≡ true → frameBytes (publish h)
     ≡ firstByte (publish h) ∷ (short (restIs (publish h)) ++ (string (h .topic) ++ (identBytes (h .qos) (h .ident)
-    ++ (short (propsSize publishPlace (publishGiven h)) ++ (propsBytes publishPlace (publishGiven h) ++ h .payload)))))
+    ++ (short (propsSize publishRow (publishGiven h)) ++ (propsBytes publishRow (publishGiven h) ++ h .payload)))))
 unfolding bodyBytes block counted
 publish-frame h e =
     let w : Belongs (publish h) = belongs-when (publish h) .0 e in
     frame-sum (publish h) w
-    ∙ rw (length-props publishPlace (h .block) (publishGiven h) w, append-assoc (short (propsSize publishPlace (publishGiven h))) (propsBytes publishPlace (publishGiven h)) (h .payload))
+    ∙ rw (length-props publishRow (h .block) (publishGiven h) w, append-assoc (short (propsSize publishRow (publishGiven h))) (propsBytes publishRow (publishGiven h)) (h .payload))
 
 pub ack-frame : (k : ℕ) (h : AckHanded) → belongs (ack k h) ≡ true → frameBytes (ack k h)
     ≡ firstByte (ack k h) ∷ (short (restIs (ack k h)) ++ (wide 2 (h .ident)
-    ++ cond (isPlain h) [] (h .reason ∷ (short (propsSize ackPlace (ackGiven (h .text) (h .user))) ++ propsBytes ackPlace (ackGiven (h .text) (h .user))))))
+    ++ cond (isPlain h) [] (h .reason ∷ (short (propsSize ackRow (ackGiven (h .text) (h .user))) ++ propsBytes ackRow (ackGiven (h .text) (h .user))))))
 unfolding bodyBytes block counted
 ack-frame k h e =
     let w : Belongs (ack k h) = belongs-when (ack k h) .0 e in
-    frame-sum (ack k h) w ∙ rw (length-props ackPlace (h .block) (ackGiven (h .text) (h .user)) w)
+    frame-sum (ack k h) w ∙ rw (length-props ackRow (h .block) (ackGiven (h .text) (h .user)) w)
 
 pub subscribe-frame : (h : SubscribeHanded) → belongs (subscribe h) ≡ true → frameBytes (subscribe h)
     ≡ firstByte (subscribe h) ∷ (short (restIs (subscribe h)) ++ (wide 2 (h .ident)
-    ++ (short (propsSize subscribePlace (subscribeGiven h)) ++ (propsBytes subscribePlace (subscribeGiven h) ++ flat filterBytes (filters h)))))
+    ++ (short (propsSize subscribeRow (subscribeGiven h)) ++ (propsBytes subscribeRow (subscribeGiven h) ++ flat filterBytes (filters h)))))
 unfolding bodyBytes block counted
 subscribe-frame h e =
     let w : Belongs (subscribe h) = belongs-when (subscribe h) .0 e in
     frame-sum (subscribe h) w
-    ∙ rw (length-props subscribePlace (h .block) (subscribeGiven h) (w .0), append-assoc (short (propsSize subscribePlace (subscribeGiven h))) (propsBytes subscribePlace (subscribeGiven h)) (flat filterBytes (filters h)))
+    ∙ rw (length-props subscribeRow (h .block) (subscribeGiven h) (w .0), append-assoc (short (propsSize subscribeRow (subscribeGiven h))) (propsBytes subscribeRow (subscribeGiven h)) (flat filterBytes (filters h)))
 
 pub reply-frame : (k : ℕ) (h : ReplyHanded) → belongs (reply k h) ≡ true → frameBytes (reply k h)
     ≡ firstByte (reply k h) ∷ (short (restIs (reply k h)) ++ (wide 2 (h .ident)
-    ++ (short (propsSize ackPlace (ackGiven (h .text) (h .user))) ++ (propsBytes ackPlace (ackGiven (h .text) (h .user)) ++ h .reasons))))
+    ++ (short (propsSize ackRow (ackGiven (h .text) (h .user))) ++ (propsBytes ackRow (ackGiven (h .text) (h .user)) ++ h .reasons))))
 unfolding bodyBytes block counted
 reply-frame k h e =
     let w : Belongs (reply k h) = belongs-when (reply k h) .0 e in
     frame-sum (reply k h) w
-    ∙ rw (length-props ackPlace (h .block) (ackGiven (h .text) (h .user)) w, append-assoc (short (propsSize ackPlace (ackGiven (h .text) (h .user)))) (propsBytes ackPlace (ackGiven (h .text) (h .user))) (h .reasons))
+    ∙ rw (length-props ackRow (h .block) (ackGiven (h .text) (h .user)) w, append-assoc (short (propsSize ackRow (ackGiven (h .text) (h .user)))) (propsBytes ackRow (ackGiven (h .text) (h .user))) (h .reasons))
 
 pub unsubscribe-frame : (h : UnsubscribeHanded) → belongs (unsubscribe h) ≡ true → frameBytes (unsubscribe h)
     ≡ firstByte (unsubscribe h) ∷ (short (restIs (unsubscribe h)) ++ (wide 2 (h .ident)
-    ++ (short (propsSize unsubscribePlace (unsubscribeGiven (h .user))) ++ (propsBytes unsubscribePlace (unsubscribeGiven (h .user)) ++ flat string (strings (h .topics))))))
+    ++ (short (propsSize unsubscribeRow (unsubscribeGiven (h .user))) ++ (propsBytes unsubscribeRow (unsubscribeGiven (h .user)) ++ flat string (strings (h .topics))))))
 unfolding bodyBytes block counted
 unsubscribe-frame h e =
     let w : Belongs (unsubscribe h) = belongs-when (unsubscribe h) .0 e in
     frame-sum (unsubscribe h) w
-    ∙ rw (length-props unsubscribePlace (h .block) (unsubscribeGiven (h .user)) (w .0), append-assoc (short (propsSize unsubscribePlace (unsubscribeGiven (h .user)))) (propsBytes unsubscribePlace (unsubscribeGiven (h .user))) (flat string (strings (h .topics))))
+    ∙ rw (length-props unsubscribeRow (h .block) (unsubscribeGiven (h .user)) (w .0), append-assoc (short (propsSize unsubscribeRow (unsubscribeGiven (h .user)))) (propsBytes unsubscribeRow (unsubscribeGiven (h .user))) (flat string (strings (h .topics))))
 
 pub ping-frame : (k : ℕ) → frameBytes (ping k) ≡ firstByte (ping k) ∷ (short 0 ++ [])
 unfolding frameBytes bodyBytes counted

@@ -8,7 +8,7 @@ use lib.ListN.{length}
 use Rattle.grammar.specs.Gram.{mapped, only, both, Sized, sized, Is, is}
 use Rattle.grammar.specs.Number.{byte, bigFrom, Big, big}
 use Rattle.grammar.specs.Octets.{nil, _&_, Octets}
-use Rattle.grammar.specs.Tables.{Form, u8, u16, u32, number, text, bytes, pair, Place, formAt}
+use Rattle.grammar.specs.Tables.{Form, u8, u16, u32, number, text, bytes, pair, Row, formAt}
 use Rattle.grammar.specs.Sentence.{Value, Prop, Spelt, Property, property}
 use Rattle.writing.specs.Spell.{wide, string, numeral, value}
 use Rattle.writing.proofs.Each.{each-left, each-right, each-tail}
@@ -65,5 +65,5 @@ value-once bytes _ _ (mapped g) o = string-once g o
 value-once pair _ _ (mapped (both {b = b} {d = d} g h)) o = rw (string-once g (each-left b d o), string-once h (each-right b d o))
 
 -- and so has a property
-pub property-once : {place : Place} {p : Prop} {b : List ℕ} → Property place p b → Octets b → (f : Form) × (formAt place (p .0) ≡ some f) × (b ≡ p .0 ∷ value f (p .1))
+pub property-once : {row : Row} {p : Prop} {b : List ℕ} → Property row p b → Octets b → (f : Form) × (formAt row (p .0) ≡ some f) × (b ≡ p .0 ∷ value f (p .1))
 property-once (property {i = i} {f = f} {v = v} {b = b} e g) o = (f, e, ap (λ (l : List ℕ). i ∷ l) (value-once f v b g (each-tail o)))

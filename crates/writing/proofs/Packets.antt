@@ -11,7 +11,7 @@ use borrow.Author.Tests.{lt-ltb, eqb-true}
 use Rattle.grammar.specs.Choice.{isIn, lookup, isEmpty}
 use Rattle.grammar.specs.Gram.{Only, both, sized, is}
 use Rattle.grammar.specs.Number.{byte, Big}
-use Rattle.grammar.specs.Tables.{publishPlace, subscribePlace, ackPlace, unsubscribePlace, Layout, aPublish, anAck, aSubscribe, aReply, anUnsubscribe, aPing, kinds, reasonsOf, firsts, firstOf}
+use Rattle.grammar.specs.Tables.{publishRow, subscribeRow, ackRow, unsubscribeRow, Layout, aPublish, anAck, aSubscribe, aReply, anUnsubscribe, aPing, kinds, reasonsOf, firsts, firstOf}
 use Rattle.grammar.specs.Record.{kindOf, flagQos, mkPublish, mkAck, mkFilter, mkSubscribe, mkReply, mkUnsubscribe, mkPing}
 use Rattle.grammar.specs.Sentence.{Any, Block, publishOf, propsIf, notThree, notZero, Ident, publishGood, someOf, AckRest, plain, full, Packet, Fields, body, framed, Sentence}
 use Rattle.grammar.specs.Octets.{Each, nil, _&_, Octet, Octets}
@@ -20,7 +20,7 @@ use Rattle.writing.specs.Lists.{flat, beside}
 use Rattle.writing.specs.Handed.{Lent, Run, PublishHanded, SubscribeHanded, AckHanded, ReplyHanded, UnsubscribeHanded, Handed, publish, ack, subscribe, reply, unsubscribe, ping, publishGiven, subscribeGiven, ackGiven, unsubscribeGiven, strings, propOf, entries, filters}
 use Rattle.writing.specs.Spell.{wide, propsBytes, counted, block}
 use Rattle.writing.specs.Size.{most, isPlain}
-use Rattle.writing.specs.Order.{Field, word, code, givenFields, propsFields, filterField, fieldsOf, numbersOf, named, asked}
+use Rattle.writing.specs.Order.{Field, word, code, givenFields, propsFields, filterField, fieldsOf, numbersOf, hasIdent, hasEntries}
 use Rattle.writing.specs.Write.{firstByte, identBytes, bodyBytes, frameBytes}
 use Rattle.writing.specs.Refuse.{InBlock, Belongs, Writable, Fine, Accepts}
 use Rattle.writing.specs.Meant.{said, PublishTyped, AckTyped, SubscribeTyped, ReplyTyped, UnsubscribeTyped, Typed}
@@ -85,27 +85,27 @@ block-fits b h = omega (arith, simp length-append at h)
 
 -- ---- no place has an identifier twice
 
-publish-apart : Apart [] (publishPlace .row)
-unfolding publishPlace
+publish-apart : Apart [] (publishRow .forms)
+unfolding publishRow
 publish-apart = (refl, (refl, (refl, (refl, (refl, (refl, (refl, (refl, tt))))))))
 
-subscribe-apart : Apart [] (subscribePlace .row)
-unfolding subscribePlace
+subscribe-apart : Apart [] (subscribeRow .forms)
+unfolding subscribeRow
 subscribe-apart = (refl, (refl, tt))
 
-ack-apart : Apart [] (ackPlace .row)
-unfolding ackPlace
+ack-apart : Apart [] (ackRow .forms)
+unfolding ackRow
 ack-apart = (refl, (refl, tt))
 
-unsubscribe-apart : Apart [] (unsubscribePlace .row)
-unfolding unsubscribePlace
+unsubscribe-apart : Apart [] (unsubscribeRow .forms)
+unfolding unsubscribeRow
 unsubscribe-apart = (refl, tt)
 
 -- ---- Publish
 
-publish-rows : (h : PublishHanded) → PublishTyped h → Each (λ r. Each Writable (givenFields (r .1) (publishGiven h (r .0)))) (publishPlace .row) → Each Fine (h .subscriptions) → Each (RightRow publishPlace (publishGiven h)) (publishPlace .row)
-unfolding publishPlace publishGiven
-publish-rows h t (_ & (_ & (_ & (a & (b & (c & (_ & (d & nil)))))))) q = rows-of (RightRow publishPlace (publishGiven h)) (publishPlace .row)
+publish-rows : (h : PublishHanded) → PublishTyped h → Each (λ r. Each Writable (givenFields (r .1) (publishGiven h (r .0)))) (publishRow .forms) → Each Fine (h .subscriptions) → Each (RightRow publishRow (publishGiven h)) (publishRow .forms)
+unfolding publishRow publishGiven
+publish-rows h t (_ & (_ & (_ & (a & (b & (c & (_ & (d & nil)))))))) q = rows-of (RightRow publishRow (publishGiven h)) (publishRow .forms)
     (record { known = refl; small = omega arith; suits = one-suits _ (λ n b. an-u8 b) (h .format) (below-each 256 (h .format) (t .format)); once = λ _. one-once (h .format) }
     & (record { known = refl; small = omega arith; suits = one-suits _ (λ n b. an-u32 b) (h .expiry) (below-each 4294967296 (h .expiry) (t .expiry)); once = λ _. one-once (h .expiry) }
     & (record { known = refl; small = omega arith; suits = one-suits _ (λ n b. an-u16 b) (h .alias) (below-each 65536 (h .alias) (t .alias)); once = λ _. one-once (h .alias) }
@@ -148,7 +148,7 @@ module _ (d q r : ℕ) (hd : d < 2) (hq : q < 3) (hr : r < 2) where
   flags-retain : flags % 2 ≡ r
   flags-retain = omega arith
 
-publish-fields : (h : PublishHanded) → PublishTyped h → Each Writable (fieldsOf (publish h)) → named (publish h) ≡ true → Each Fine (h .subscriptions) → length (bodyBytes (publish h)) ≤ most
+publish-fields : (h : PublishHanded) → PublishTyped h → Each Writable (fieldsOf (publish h)) → hasIdent (publish h) ≡ true → Each Fine (h .subscriptions) → length (bodyBytes (publish h)) ≤ most
     → Says (Fields aPublish (firstByte (publish h))) (said (publish h)) (bodyBytes (publish h))
 unfolding firstByte bodyBytes fieldsOf propsFields said block
 publish-fields h t p i q l =
@@ -157,10 +157,10 @@ publish-fields h t p i q l =
     let eq : flagQos x ≡ h .qos = flags-qos (h .dup) (h .qos) (h .retain) (t .dup) (t .qos) (t .retain) in
     let s₁ = says-bytes (t .topic) (each-head p) in
     let s₂ : Says (Ident (flagQos x)) j (identBytes (h .qos) (h .ident)) = rw eq (says-ident (h .qos) (h .ident) (t .ident) i) in
-    let m : length (counted (propsBytes publishPlace (publishGiven h))) ≤ most = omega (arith, simp length-append at l) in
-    let s₃ = says-block publishPlace publishOf (publishGiven h) publish-apart (publish-rows h t (each-flat _ (publishPlace .row) (each-tail p)) q) (block-fits (propsBytes publishPlace (publishGiven h)) m) in
+    let m : length (counted (propsBytes publishRow (publishGiven h))) ≤ most = omega (arith, simp length-append at l) in
+    let s₃ = says-block publishRow publishOf (publishGiven h) publish-apart (publish-rows h t (each-flat _ (publishRow .forms) (each-tail p)) q) (block-fits (propsBytes publishRow (publishGiven h)) m) in
     let s₄ = says-is Any (h .payload) tt (t .payload) in
-    let same : mkPublish x (h .topic, (j, (publishOf (map propOf (entries publishPlace (publishGiven h))), h .payload))) ≡ said (publish h) =
+    let same : mkPublish x (h .topic, (j, (publishOf (map propOf (entries publishRow (publishGiven h))), h .payload))) ≡ said (publish h) =
     rw (
       flags-dup (h .dup) (h .qos) (h .retain) (t .dup) (t .qos) (t .retain),
       eq,
@@ -176,26 +176,26 @@ publish-kind h t = (rw (flags-kind (h .dup) (h .qos) (h .retain) (t .dup) (t .qo
 
 -- ---- acknowledgements
 
-ack-rows : (t : Lent) (u : Run) → Octets (t .bytes) → Octets (u .bytes) → Each (λ r. Each Writable (givenFields (r .1) (ackGiven t u (r .0)))) (ackPlace .row) → Each (RightRow ackPlace (ackGiven t u)) (ackPlace .row)
-unfolding ackPlace ackGiven
-ack-rows t u o o′ (a & (b & nil)) = rows-of (RightRow ackPlace (ackGiven t u)) (ackPlace .row)
+ack-rows : (t : Lent) (u : Run) → Octets (t .bytes) → Octets (u .bytes) → Each (λ r. Each Writable (givenFields (r .1) (ackGiven t u (r .0)))) (ackRow .forms) → Each (RightRow ackRow (ackGiven t u)) (ackRow .forms)
+unfolding ackRow ackGiven
+ack-rows t u o o′ (a & (b & nil)) = rows-of (RightRow ackRow (ackGiven t u)) (ackRow .forms)
     (record { known = refl; small = omega arith; suits = lent-suits t (a-text o) a; once = λ _. lent-once t }
     & (record { known = refl; small = omega arith; suits = pairs-suit u o′ b; once = λ e. absurd (false≢true (sym e)) }
     & nil))
 
 -- the block of every acknowledgement
-ack-block : (t : Lent) (u : Run) → Octets (t .bytes) → Octets (u .bytes) → Each Writable (propsFields ackPlace (ackGiven t u)) → length (block ackPlace (ackGiven t u)) ≤ most
-    → Says (Block ackPlace propsIf) (propsIf (map propOf (entries ackPlace (ackGiven t u)))) (block ackPlace (ackGiven t u))
+ack-block : (t : Lent) (u : Run) → Octets (t .bytes) → Octets (u .bytes) → Each Writable (propsFields ackRow (ackGiven t u)) → length (block ackRow (ackGiven t u)) ≤ most
+    → Says (Block ackRow propsIf) (propsIf (map propOf (entries ackRow (ackGiven t u)))) (block ackRow (ackGiven t u))
 unfolding propsFields block
-ack-block t u o o′ p l = says-block ackPlace propsIf (ackGiven t u) ack-apart (ack-rows t u o o′ (each-flat _ (ackPlace .row) p)) (block-fits (propsBytes ackPlace (ackGiven t u)) l)
+ack-block t u o o′ p l = says-block ackRow propsIf (ackGiven t u) ack-apart (ack-rows t u o o′ (each-flat _ (ackRow .forms) p)) (block-fits (propsBytes ackRow (ackGiven t u)) l)
 
-ack-rest : (k : ℕ) (h : AckHanded) (t : AckTyped k h) → Each (InBlock (h .block) (ackGiven (h .text) (h .user))) (ackPlace .row) → isIn (h .reason) (reasonsOf k) ≡ true
-    → Each Writable (propsFields ackPlace (ackGiven (h .text) (h .user)))
-    → (b : Bool) → isPlain h ≡ b → length (cond b [] (h .reason ∷ block ackPlace (ackGiven (h .text) (h .user)))) ≤ most
-    → Says (AckRest (reasonsOf k)) (h .reason, propsIf (map propOf (entries ackPlace (ackGiven (h .text) (h .user))))) (cond b [] (h .reason ∷ block ackPlace (ackGiven (h .text) (h .user))))
+ack-rest : (k : ℕ) (h : AckHanded) (t : AckTyped k h) → Each (InBlock (h .block) (ackGiven (h .text) (h .user))) (ackRow .forms) → isIn (h .reason) (reasonsOf k) ≡ true
+    → Each Writable (propsFields ackRow (ackGiven (h .text) (h .user)))
+    → (b : Bool) → isPlain h ≡ b → length (cond b [] (h .reason ∷ block ackRow (ackGiven (h .text) (h .user)))) ≤ most
+    → Says (AckRest (reasonsOf k)) (h .reason, propsIf (map propOf (entries ackRow (ackGiven (h .text) (h .user))))) (cond b [] (h .reason ∷ block ackRow (ackGiven (h .text) (h .user))))
 ack-rest k h t w c p true e l =
     let (success, absent) = plain-when h .0 e in
-    rw (nothing-entries ackPlace (h .block) (ackGiven (h .text) (h .user)) w absent, success) (record { spelled = plain; octets = nil })
+    rw (nothing-entries ackRow (h .block) (ackGiven (h .text) (h .user)) w absent, success) (record { spelled = plain; octets = nil })
 ack-rest k h t w c p false e l =
     let s = ack-block (h .text) (h .user) (t .text) (t .user) p (omega arith) in
     record { spelled = full c (s .spelled); octets = t .reason & s .octets }
@@ -204,47 +204,47 @@ ack-fields : (k : ℕ) (h : AckHanded) (t : AckTyped k h) → First k → Belong
     → Says (Fields (anAck (reasonsOf k)) (firstOf k)) (said (ack k h)) (bodyBytes (ack k h))
 unfolding fieldsOf bodyBytes said
 ack-fields k h t f w p l =
-    let m : length (cond (isPlain h) [] (h .reason ∷ block ackPlace (ackGiven (h .text) (h .user)))) ≤ most = omega (arith, simp length-append at l) in
-    let same : mkAck (firstOf k) (h .ident, (h .reason, propsIf (map propOf (entries ackPlace (ackGiven (h .text) (h .user)))))) ≡ said (ack k h) = rw (f .kind, ack-says (h .text) (h .user)) in
+    let m : length (cond (isPlain h) [] (h .reason ∷ block ackRow (ackGiven (h .text) (h .user)))) ≤ most = omega (arith, simp length-append at l) in
+    let same : mkAck (firstOf k) (h .ident, (h .reason, propsIf (map propOf (entries ackRow (ackGiven (h .text) (h .user)))))) ≡ said (ack k h) = rw (f .kind, ack-says (h .text) (h .user)) in
     rw (← same) (says-map (mkAck (firstOf k)) (says-then (says-wide 2 (h .ident) (omega (arith, t .ident))) (ack-rest k h t w (each-head p) (each-tail p) (isPlain h) refl m)))
 
 -- ---- replies
 
-reply-fields : (k : ℕ) (h : ReplyHanded) (t : ReplyTyped k h) → First k → Each Writable (fieldsOf (reply k h)) → asked (reply k h) ≡ true → length (bodyBytes (reply k h)) ≤ most
+reply-fields : (k : ℕ) (h : ReplyHanded) (t : ReplyTyped k h) → First k → Each Writable (fieldsOf (reply k h)) → hasEntries (reply k h) ≡ true → length (bodyBytes (reply k h)) ≤ most
     → Says (Fields (aReply (reasonsOf k)) (firstOf k)) (said (reply k h)) (bodyBytes (reply k h))
 unfolding fieldsOf bodyBytes said
 reply-fields k h t f p a l =
-    let ps : List Field = propsFields ackPlace (ackGiven (h .text) (h .user)) in
-    let m : length (block ackPlace (ackGiven (h .text) (h .user))) ≤ most = omega (arith, simp length-append at l) in
+    let ps : List Field = propsFields ackRow (ackGiven (h .text) (h .user)) in
+    let m : length (block ackRow (ackGiven (h .text) (h .user))) ≤ most = omega (arith, simp length-append at l) in
     let s₂ = ack-block (h .text) (h .user) (t .text) (t .user) (each-left ps (map (code (reasonsOf k)) (h .reasons)) p) m in
     let s₃ = says-reasons (reasonsOf k) (h .reasons) (t .reasons) (each-right ps (map (code (reasonsOf k)) (h .reasons)) p) in
-    let same : mkReply (firstOf k) (h .ident, (propsIf (map propOf (entries ackPlace (ackGiven (h .text) (h .user)))), h .reasons)) ≡ said (reply k h) = rw (f .kind, ack-says (h .text) (h .user)) in
+    let same : mkReply (firstOf k) (h .ident, (propsIf (map propOf (entries ackRow (ackGiven (h .text) (h .user)))), h .reasons)) ≡ said (reply k h) = rw (f .kind, ack-says (h .text) (h .user)) in
     rw (← same) (says-map (mkReply (firstOf k)) (says-then (says-wide 2 (h .ident) (omega (arith, t .ident))) (says-then s₂ (says-only someOf a s₃))))
 
 -- ---- Unsubscribe
 
-unsubscribe-rows : (u : Run) → Octets (u .bytes) → Each (λ r. Each Writable (givenFields (r .1) (unsubscribeGiven u (r .0)))) (unsubscribePlace .row) → Each (RightRow unsubscribePlace (unsubscribeGiven u)) (unsubscribePlace .row)
-unfolding unsubscribePlace unsubscribeGiven
-unsubscribe-rows u o (b & nil) = rows-of (RightRow unsubscribePlace (unsubscribeGiven u)) (unsubscribePlace .row)
+unsubscribe-rows : (u : Run) → Octets (u .bytes) → Each (λ r. Each Writable (givenFields (r .1) (unsubscribeGiven u (r .0)))) (unsubscribeRow .forms) → Each (RightRow unsubscribeRow (unsubscribeGiven u)) (unsubscribeRow .forms)
+unfolding unsubscribeRow unsubscribeGiven
+unsubscribe-rows u o (b & nil) = rows-of (RightRow unsubscribeRow (unsubscribeGiven u)) (unsubscribeRow .forms)
     (record { known = refl; small = omega arith; suits = pairs-suit u o b; once = λ e. absurd (false≢true (sym e)) } & nil)
 
-unsubscribe-fields : (h : UnsubscribeHanded) → UnsubscribeTyped h → Each Writable (fieldsOf (unsubscribe h)) → asked (unsubscribe h) ≡ true → length (bodyBytes (unsubscribe h)) ≤ most
+unsubscribe-fields : (h : UnsubscribeHanded) → UnsubscribeTyped h → Each Writable (fieldsOf (unsubscribe h)) → hasEntries (unsubscribe h) ≡ true → length (bodyBytes (unsubscribe h)) ≤ most
     → Says (Fields anUnsubscribe (firstOf 10)) (said (unsubscribe h)) (bodyBytes (unsubscribe h))
 unfolding fieldsOf propsFields bodyBytes said block
 unsubscribe-fields h t p a l =
-    let ps : List Field = flat (λ r. givenFields (r .1) (unsubscribeGiven (h .user) (r .0))) (unsubscribePlace .row) in
-    let m : length (counted (propsBytes unsubscribePlace (unsubscribeGiven (h .user)))) ≤ most = omega (arith, simp length-append at l) in
-    let s₂ = says-block unsubscribePlace propsIf (unsubscribeGiven (h .user)) unsubscribe-apart (unsubscribe-rows (h .user) (t .user) (each-flat _ (unsubscribePlace .row) (each-left ps (map word (strings (h .topics))) p)))
-    (block-fits (propsBytes unsubscribePlace (unsubscribeGiven (h .user))) m) in
+    let ps : List Field = flat (λ r. givenFields (r .1) (unsubscribeGiven (h .user) (r .0))) (unsubscribeRow .forms) in
+    let m : length (counted (propsBytes unsubscribeRow (unsubscribeGiven (h .user)))) ≤ most = omega (arith, simp length-append at l) in
+    let s₂ = says-block unsubscribeRow propsIf (unsubscribeGiven (h .user)) unsubscribe-apart (unsubscribe-rows (h .user) (t .user) (each-flat _ (unsubscribeRow .forms) (each-left ps (map word (strings (h .topics))) p)))
+    (block-fits (propsBytes unsubscribeRow (unsubscribeGiven (h .user))) m) in
     let s₃ = says-topics (strings (h .topics)) (each-piece (h .topics .lengths) (t .topics)) (each-right ps (map word (strings (h .topics))) p) in
-    let same : mkUnsubscribe (h .ident, (propsIf (map propOf (entries unsubscribePlace (unsubscribeGiven (h .user)))), strings (h .topics))) ≡ said (unsubscribe h) = rw (unsubscribe-says (h .user)) in
+    let same : mkUnsubscribe (h .ident, (propsIf (map propOf (entries unsubscribeRow (unsubscribeGiven (h .user)))), strings (h .topics))) ≡ said (unsubscribe h) = rw (unsubscribe-says (h .user)) in
     rw (← same) (says-map mkUnsubscribe (says-then (says-wide 2 (h .ident) (omega (arith, t .ident))) (says-then s₂ (says-only someOf a s₃))))
 
 -- ---- Subscribe
 
-subscribe-rows : (h : SubscribeHanded) → SubscribeTyped h → Each (λ r. Each Writable (givenFields (r .1) (subscribeGiven h (r .0)))) (subscribePlace .row) → Each Fine (numbersOf (subscribe h)) → Each (RightRow subscribePlace (subscribeGiven h)) (subscribePlace .row)
-unfolding subscribePlace subscribeGiven
-subscribe-rows h t (_ & (b & nil)) q = rows-of (RightRow subscribePlace (subscribeGiven h)) (subscribePlace .row)
+subscribe-rows : (h : SubscribeHanded) → SubscribeTyped h → Each (λ r. Each Writable (givenFields (r .1) (subscribeGiven h (r .0)))) (subscribeRow .forms) → Each Fine (numbersOf (subscribe h)) → Each (RightRow subscribeRow (subscribeGiven h)) (subscribeRow .forms)
+unfolding subscribeRow subscribeGiven
+subscribe-rows h t (_ & (b & nil)) q = rows-of (RightRow subscribeRow (subscribeGiven h)) (subscribeRow .forms)
     (record { known = refl; small = omega arith; suits = one-suits Fine (λ n s. a-number s) (h .subscription) q; once = λ _. one-once (h .subscription) }
     & (record { known = refl; small = omega arith; suits = pairs-suit (h .user) (t .user) b; once = λ e. absurd (false≢true (sym e)) }
     & nil))
@@ -258,17 +258,17 @@ some-mapped : (fs : List (List ℕ × ℕ)) → not (isEmpty fs) ≡ true → so
 some-mapped [] e = e
 some-mapped (f ∷ fs) e = refl
 
-subscribe-fields : (h : SubscribeHanded) → SubscribeTyped h → Each Writable (fieldsOf (subscribe h)) → Each Fine (numbersOf (subscribe h)) → asked (subscribe h) ≡ true → length (bodyBytes (subscribe h)) ≤ most
+subscribe-fields : (h : SubscribeHanded) → SubscribeTyped h → Each Writable (fieldsOf (subscribe h)) → Each Fine (numbersOf (subscribe h)) → hasEntries (subscribe h) ≡ true → length (bodyBytes (subscribe h)) ≤ most
     → Says (Fields aSubscribe (firstOf 8)) (said (subscribe h)) (bodyBytes (subscribe h))
 unfolding fieldsOf propsFields bodyBytes said filters block
 subscribe-fields h t p q a l =
     let fs : List (List ℕ × ℕ) = beside (strings (h .filters)) (h .options) in
-    let ps : List Field = flat (λ r. givenFields (r .1) (subscribeGiven h (r .0))) (subscribePlace .row) in
-    let m : length (counted (propsBytes subscribePlace (subscribeGiven h))) ≤ most = omega (arith, simp length-append at l) in
+    let ps : List Field = flat (λ r. givenFields (r .1) (subscribeGiven h (r .0))) (subscribeRow .forms) in
+    let m : length (counted (propsBytes subscribeRow (subscribeGiven h))) ≤ most = omega (arith, simp length-append at l) in
     let s₁ = says-wide 2 (h .ident) (omega (arith, t .ident)) in
-    let s₂ = says-block subscribePlace propsIf (subscribeGiven h) subscribe-apart (subscribe-rows h t (each-flat _ (subscribePlace .row) (each-left ps (map filterField fs) p)) q) (block-fits (propsBytes subscribePlace (subscribeGiven h)) m) in
+    let s₂ = says-block subscribeRow propsIf (subscribeGiven h) subscribe-apart (subscribe-rows h t (each-flat _ (subscribeRow .forms) (each-left ps (map filterField fs) p)) q) (block-fits (propsBytes subscribeRow (subscribeGiven h)) m) in
     let s₃ = says-filters fs (each-beside (h .options) (each-piece (h .filters .lengths) (t .filters))) (each-right ps (map filterField fs) p) in
-    let same : mkSubscribe (h .ident, (propsIf (map propOf (entries subscribePlace (subscribeGiven h))), map mkFilter fs)) ≡ said (subscribe h) = rw (subscribe-says h) in
+    let same : mkSubscribe (h .ident, (propsIf (map propOf (entries subscribeRow (subscribeGiven h))), map mkFilter fs)) ≡ said (subscribe h) = rw (subscribe-says h) in
     rw (← same) (says-map mkSubscribe (says-then s₁ (says-then s₂ (says-only someOf (some-mapped fs a) s₃))))
 
 -- ---- all
@@ -277,20 +277,20 @@ frame-says : (limit : Option ℕ) (room : ℕ) (h : Handed) → Typed h → Acce
 unfolding firstByte bodyBytes said kinds
 frame-says limit room (publish h) t p l =
     let (e, b) = publish-kind h t in
-    let n = passes-when (named (publish h)) (unnamed-when (publish h)) .1 (p .named) in
+    let n = passes-when (hasIdent (publish h)) (unnamed-when (publish h)) .1 (p .hasIdent) in
     says-frame aPublish (firstByte (publish h)) e b l (publish-fields h t (p .countable .fields) n (p .numbers) l)
 frame-says limit room (ack k h) t p l =
     let f : First k = first-of k (kinds-fine k (anAck (reasonsOf k)) (t .kind)) in
     says-first (anAck (reasonsOf k)) k (t .kind) f l (ack-fields k h t f (p .countable .belongs) (p .countable .fields) l)
 frame-says limit room (subscribe h) t p l =
-    let a = passes-when (asked (subscribe h)) (unasked-when (subscribe h)) .1 (p .asked) in
+    let a = passes-when (hasEntries (subscribe h)) (unasked-when (subscribe h)) .1 (p .hasEntries) in
     says-first aSubscribe 8 refl (first-of 8 (kinds-fine 8 aSubscribe refl)) l (subscribe-fields h t (p .countable .fields) (p .numbers) a l)
 frame-says limit room (reply k h) t p l =
     let f : First k = first-of k (kinds-fine k (aReply (reasonsOf k)) (t .kind)) in
-    let a = passes-when (asked (reply k h)) (unasked-when (reply k h)) .1 (p .asked) in
+    let a = passes-when (hasEntries (reply k h)) (unasked-when (reply k h)) .1 (p .hasEntries) in
     says-first (aReply (reasonsOf k)) k (t .kind) f l (reply-fields k h t f (p .countable .fields) a l)
 frame-says limit room (unsubscribe h) t p l =
-    let a = passes-when (asked (unsubscribe h)) (unasked-when (unsubscribe h)) .1 (p .asked) in
+    let a = passes-when (hasEntries (unsubscribe h)) (unasked-when (unsubscribe h)) .1 (p .hasEntries) in
     says-first anUnsubscribe 10 refl (first-of 10 (kinds-fine 10 anUnsubscribe refl)) l (unsubscribe-fields h t (p .countable .fields) a l)
 frame-says limit room (ping k) t p l =
     let f : First k = first-of k (kinds-fine k aPing t) in

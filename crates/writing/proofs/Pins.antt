@@ -6,7 +6,7 @@ use mathlib.Core.Option.{Option}
 use mathlib.Core.List.{List, [], _∷_, _++_, map}
 use Prim.Native.Nat.{ℕ, _+_, _*_, _%_}
 use native.Mathlib.Omega.{arith}
-use Rattle.grammar.specs.Tables.{u8, u16, u32, number, text, bytes, pair, publishPlace, subscribePlace, ackPlace, unsubscribePlace, reasonsOf, firsts, firstOf}
+use Rattle.grammar.specs.Tables.{u8, u16, u32, number, text, bytes, pair, publishRow, subscribeRow, ackRow, unsubscribeRow, reasonsOf, firsts, firstOf}
 use Rattle.reading.specs.Reader.{got}
 use Rattle.writing.specs.Lists.{flat}
 use Rattle.writing.specs.Handed.{Lent, Run, PublishHanded, SubscribeHanded, AckHanded, ReplyHanded, UnsubscribeHanded, publish, ack, subscribe, reply, unsubscribe, ping, one, lent, pairs, several, publishGiven, subscribeGiven, ackGiven, unsubscribeGiven, strings, filters}
@@ -19,7 +19,7 @@ use Rattle.writing.proofs.Verdict.{written}
 -- ---- the order of properties, and each row
 
 -- 01, table of properties, row Publish: 1, 2, 35, 8, 9, 38, 11, 3
-pub publish-props : (h : PublishHanded) → propsBytes publishPlace (publishGiven h)
+pub publish-props : (h : PublishHanded) → propsBytes publishRow (publishGiven h)
     ≡ rowBytes (1, u8) (one (h .format))
     ++ (rowBytes (2, u32) (one (h .expiry))
     ++ (rowBytes (35, u16) (one (h .alias))
@@ -29,22 +29,22 @@ pub publish-props : (h : PublishHanded) → propsBytes publishPlace (publishGive
     ++ (rowBytes (11, number) (several (h .subscriptions))
     ++ (rowBytes (3, text) (lent (h .content))
     ++ [])))))))
-unfolding propsBytes publishPlace publishGiven
+unfolding propsBytes publishRow publishGiven
 publish-props h = refl
 
 -- 01, table of properties, row Subscribe: 11, 38
-pub subscribe-props : (h : SubscribeHanded) → propsBytes subscribePlace (subscribeGiven h) ≡ rowBytes (11, number) (one (h .subscription)) ++ (rowBytes (38, pair) (pairs (h .user)) ++ [])
-unfolding propsBytes subscribePlace subscribeGiven
+pub subscribe-props : (h : SubscribeHanded) → propsBytes subscribeRow (subscribeGiven h) ≡ rowBytes (11, number) (one (h .subscription)) ++ (rowBytes (38, pair) (pairs (h .user)) ++ [])
+unfolding propsBytes subscribeRow subscribeGiven
 subscribe-props h = refl
 
 -- 01, table of properties, row PubAck, and 02, P1: "31 is written before 38"
-pub ack-props : (t : Lent) (u : Run) → propsBytes ackPlace (ackGiven t u) ≡ rowBytes (31, text) (lent t) ++ (rowBytes (38, pair) (pairs u) ++ [])
-unfolding propsBytes ackPlace ackGiven
+pub ack-props : (t : Lent) (u : Run) → propsBytes ackRow (ackGiven t u) ≡ rowBytes (31, text) (lent t) ++ (rowBytes (38, pair) (pairs u) ++ [])
+unfolding propsBytes ackRow ackGiven
 ack-props t u = refl
 
 -- 02, P1: row Unsubscribe: 38
-pub unsubscribe-props : (u : Run) → propsBytes unsubscribePlace (unsubscribeGiven u) ≡ rowBytes (38, pair) (pairs u) ++ []
-unfolding propsBytes unsubscribePlace unsubscribeGiven
+pub unsubscribe-props : (u : Run) → propsBytes unsubscribeRow (unsubscribeGiven u) ≡ rowBytes (38, pair) (pairs u) ++ []
+unfolding propsBytes unsubscribeRow unsubscribeGiven
 unsubscribe-props u = refl
 
 -- ---- the fields that are tested, in the order in which they are written
@@ -57,27 +57,27 @@ pub publish-order : (h : PublishHanded) → fieldsOf (publish h)
     ++ (map word (strings (h .user))
     ++ (cond (h .content .on) (word (h .content .bytes) ∷ []) []
     ++ []))))
-unfolding fieldsOf propsFields publishPlace publishGiven
+unfolding fieldsOf propsFields publishRow publishGiven
 publish-order h = refl
 
 -- 01, writing order: pairs, then each filter's text and options
 pub subscribe-order : (h : SubscribeHanded) → fieldsOf (subscribe h) ≡ (map word (strings (h .user)) ++ []) ++ map filterField (filters h)
-unfolding fieldsOf propsFields subscribePlace subscribeGiven
+unfolding fieldsOf propsFields subscribeRow subscribeGiven
 subscribe-order h = refl
 
 -- 02, P1, the written 15 "where 14 stands": the reason; then 31, pairs
 pub ack-order : (k : ℕ) (h : AckHanded) → fieldsOf (ack k h) ≡ code (reasonsOf k) (h .reason) ∷ (cond (h .text .on) (word (h .text .bytes) ∷ []) [] ++ (map word (strings (h .user)) ++ []))
-unfolding fieldsOf propsFields ackPlace ackGiven
+unfolding fieldsOf propsFields ackRow ackGiven
 ack-order k h = refl
 
 -- 02, P1: 31, pairs, then each reason
 pub reply-order : (k : ℕ) (h : ReplyHanded) → fieldsOf (reply k h) ≡ (cond (h .text .on) (word (h .text .bytes) ∷ []) [] ++ (map word (strings (h .user)) ++ [])) ++ map (code (reasonsOf k)) (h .reasons)
-unfolding fieldsOf propsFields ackPlace ackGiven
+unfolding fieldsOf propsFields ackRow ackGiven
 reply-order k h = refl
 
 -- 02, P1: pairs, then each topic
 pub unsubscribe-order : (h : UnsubscribeHanded) → fieldsOf (unsubscribe h) ≡ (map word (strings (h .user)) ++ []) ++ map word (strings (h .topics))
-unfolding fieldsOf propsFields unsubscribePlace unsubscribeGiven
+unfolding fieldsOf propsFields unsubscribeRow unsubscribeGiven
 unsubscribe-order h = refl
 
 -- ---- whole frames
@@ -85,25 +85,25 @@ unsubscribe-order h = refl
 module _ (limit : Option ℕ) (room : ℕ) (b : List ℕ) where
   -- 01, grammar, Publish: dup (8), QoS (6), retain (1); the length, topic, identifier, block, payload
   pub publish-bytes : (h : PublishHanded) → writeOf limit room (publish h) ≡ got b
-      → b ≡ (0x30 + (8 * h .dup + (2 * h .qos + h .retain))) ∷ counted (string (h .topic) ++ (identBytes (h .qos) (h .ident) ++ (counted (propsBytes publishPlace (publishGiven h)) ++ h .payload)))
+      → b ≡ (0x30 + (8 * h .dup + (2 * h .qos + h .retain))) ∷ counted (string (h .topic) ++ (identBytes (h .qos) (h .ident) ++ (counted (propsBytes publishRow (publishGiven h)) ++ h .payload)))
   unfolding frameBytes firstByte bodyBytes block
   publish-bytes h e = written limit room (publish h) b e
 
   -- 01, grammar: "first byte 0x82 for Subscribe"
   pub subscribe-bytes : (h : SubscribeHanded) → writeOf limit room (subscribe h) ≡ got b
-      → b ≡ 0x82 ∷ counted (wide 2 (h .ident) ++ (counted (propsBytes subscribePlace (subscribeGiven h)) ++ flat filterBytes (filters h)))
+      → b ≡ 0x82 ∷ counted (wide 2 (h .ident) ++ (counted (propsBytes subscribeRow (subscribeGiven h)) ++ flat filterBytes (filters h)))
   unfolding frameBytes firstByte firstOf firsts bodyBytes block
   subscribe-bytes h e = written limit room (subscribe h) b e
 
   -- 02, P1: SubAck and UnsubAck
   pub reply-bytes : (k : ℕ) (h : ReplyHanded) → writeOf limit room (reply k h) ≡ got b
-      → b ≡ firstOf k ∷ counted (wide 2 (h .ident) ++ (counted (propsBytes ackPlace (ackGiven (h .text) (h .user))) ++ h .reasons))
+      → b ≡ firstOf k ∷ counted (wide 2 (h .ident) ++ (counted (propsBytes ackRow (ackGiven (h .text) (h .user))) ++ h .reasons))
   unfolding frameBytes firstByte bodyBytes block
   reply-bytes k h e = written limit room (reply k h) b e
 
   -- 02, P1: Unsubscribe
   pub unsubscribe-bytes : (h : UnsubscribeHanded) → writeOf limit room (unsubscribe h) ≡ got b
-      → b ≡ 0xA2 ∷ counted (wide 2 (h .ident) ++ (counted (propsBytes unsubscribePlace (unsubscribeGiven (h .user))) ++ flat string (strings (h .topics))))
+      → b ≡ 0xA2 ∷ counted (wide 2 (h .ident) ++ (counted (propsBytes unsubscribeRow (unsubscribeGiven (h .user))) ++ flat string (strings (h .topics))))
   unfolding frameBytes firstByte firstOf firsts bodyBytes block
   unsubscribe-bytes h e = written limit room (unsubscribe h) b e
 
@@ -114,7 +114,7 @@ module _ (limit : Option ℕ) (room : ℕ) (b : List ℕ) where
 
   -- 01, grammar: "any other writes reason and block"
   pub ack-full : (k : ℕ) (h : AckHanded) → isPlain h ≡ false → writeOf limit room (ack k h) ≡ got b
-      → b ≡ firstOf k ∷ counted (wide 2 (h .ident) ++ (h .reason ∷ counted (propsBytes ackPlace (ackGiven (h .text) (h .user)))))
+      → b ≡ firstOf k ∷ counted (wide 2 (h .ident) ++ (h .reason ∷ counted (propsBytes ackRow (ackGiven (h .text) (h .user)))))
   unfolding frameBytes firstByte bodyBytes block
   ack-full k h p e = written limit room (ack k h) b e ∙ rw p
 

@@ -6,7 +6,7 @@ use mathlib.Core.List.{List, [], _∷_, _++_, map, append-nil}
 use Prim.Native.Nat.{ℕ}
 use lib.Dec.{eqb}
 use Rattle.grammar.specs.Choice.{isEmpty}
-use Rattle.grammar.specs.Tables.{Form, Forms, Place, publishPlace, subscribePlace, ackPlace, unsubscribePlace}
+use Rattle.grammar.specs.Tables.{Form, Forms, Row, publishRow, subscribeRow, ackRow, unsubscribeRow}
 use Rattle.grammar.specs.Record.{str, lastFrom, lastOf, allOf, unlessEmpty, publishProps, propsOf}
 use Rattle.grammar.specs.Sentence.{Value, Prop, asList, publishOf, propsIf}
 use Rattle.writing.specs.Lists.{flat}
@@ -42,9 +42,9 @@ last-rows i g o (r ∷ rs) =
     last-tag r i (eqb (r .0) i) refl o (items (g (r .0))) (flat (λ r. tag r (items (g (r .0)))) rs)
     ∙ last-rows i g (cond (eqb (r .0) i) (lastVal o (items (g (r .0)))) o) rs
 
-last-entries : (i : ℕ) (place : Place) (g : Givens) → lastOf i (map propOf (entries place g)) ≡ lastRow none i (place .row) g
+last-entries : (i : ℕ) (row : Row) (g : Givens) → lastOf i (map propOf (entries row g)) ≡ lastRow none i (row .forms) g
 unfolding lastOf entries
-last-entries i place g = last-rows i g none (place .row)
+last-entries i row g = last-rows i g none (row .forms)
 
 all-tag : (r : ℕ × Form) (i : ℕ) (t : Bool) → eqb (r .0) i ≡ t → (vs : List Value) (es : List Entry)
     → allOf i (map propOf (tag r vs ++ es)) ≡ cond t vs [] ++ allOf i (map propOf es)
@@ -61,9 +61,9 @@ all-rows i g (r ∷ rs) =
     all-tag r i (eqb (r .0) i) refl (items (g (r .0))) (flat (λ r. tag r (items (g (r .0)))) rs)
     ∙ ap (λ (l : List Value). cond (eqb (r .0) i) (items (g (r .0))) [] ++ l) (all-rows i g rs)
 
-all-entries : (i : ℕ) (place : Place) (g : Givens) → allOf i (map propOf (entries place g)) ≡ allRow i (place .row) g
+all-entries : (i : ℕ) (row : Row) (g : Givens) → allOf i (map propOf (entries row g)) ≡ allRow i (row .forms) g
 unfolding entries
-all-entries i place g = all-rows i g (place .row)
+all-entries i row g = all-rows i g (row .forms)
 
 -- ---- a row with one value at most
 
@@ -80,8 +80,8 @@ last-lent l = go (l .on)
 
 -- ---- each place
 
-publish-set : (h : PublishHanded) → publishProps (List ℕ) List asList (map propOf (entries publishPlace (publishGiven h))) ≡ publishSet h
-unfolding publishProps publishPlace publishGiven
+publish-set : (h : PublishHanded) → publishProps (List ℕ) List asList (map propOf (entries publishRow (publishGiven h))) ≡ publishSet h
+unfolding publishProps publishRow publishGiven
 publish-set h = rw (
   last 1 ∙ last-one (h .format),
   last 2 ∙ last-one (h .expiry),
@@ -93,30 +93,30 @@ publish-set h = rw (
   last 3 ∙ last-lent (h .content),
 )
   where
-    last : (i : ℕ) → lastOf i (map propOf (entries publishPlace (publishGiven h))) ≡ lastRow none i (publishPlace .row) (publishGiven h)
-    last i = last-entries i publishPlace (publishGiven h)
+    last : (i : ℕ) → lastOf i (map propOf (entries publishRow (publishGiven h))) ≡ lastRow none i (publishRow .forms) (publishGiven h)
+    last i = last-entries i publishRow (publishGiven h)
 
-    every : (i : ℕ) → allOf i (map propOf (entries publishPlace (publishGiven h))) ≡ allRow i (publishPlace .row) (publishGiven h)
-    every i = all-entries i publishPlace (publishGiven h)
+    every : (i : ℕ) → allOf i (map propOf (entries publishRow (publishGiven h))) ≡ allRow i (publishRow .forms) (publishGiven h)
+    every i = all-entries i publishRow (publishGiven h)
 
-ack-set : (t : Lent) (u : Run) → propsOf (List ℕ) List asList (map propOf (entries ackPlace (ackGiven t u))) ≡ ackSet t u
-unfolding propsOf ackPlace ackGiven
+ack-set : (t : Lent) (u : Run) → propsOf (List ℕ) List asList (map propOf (entries ackRow (ackGiven t u))) ≡ ackSet t u
+unfolding propsOf ackRow ackGiven
 ack-set t u = rw (
-  last-entries 31 ackPlace (ackGiven t u) ∙ last-lent t,
-  last-entries 11 ackPlace (ackGiven t u),
-  all-entries 38 ackPlace (ackGiven t u) ∙ append-nil (items (pairs u)),
+  last-entries 31 ackRow (ackGiven t u) ∙ last-lent t,
+  last-entries 11 ackRow (ackGiven t u),
+  all-entries 38 ackRow (ackGiven t u) ∙ append-nil (items (pairs u)),
 )
 
-unsubscribe-set : (u : Run) → propsOf (List ℕ) List asList (map propOf (entries unsubscribePlace (unsubscribeGiven u))) ≡ unsubscribeSet u
-unfolding propsOf unsubscribePlace unsubscribeGiven
-unsubscribe-set u = rw (last-entries 31 unsubscribePlace (unsubscribeGiven u), last-entries 11 unsubscribePlace (unsubscribeGiven u), all-entries 38 unsubscribePlace (unsubscribeGiven u) ∙ append-nil (items (pairs u)))
+unsubscribe-set : (u : Run) → propsOf (List ℕ) List asList (map propOf (entries unsubscribeRow (unsubscribeGiven u))) ≡ unsubscribeSet u
+unfolding propsOf unsubscribeRow unsubscribeGiven
+unsubscribe-set u = rw (last-entries 31 unsubscribeRow (unsubscribeGiven u), last-entries 11 unsubscribeRow (unsubscribeGiven u), all-entries 38 unsubscribeRow (unsubscribeGiven u) ∙ append-nil (items (pairs u)))
 
-subscribe-set : (h : SubscribeHanded) → propsOf (List ℕ) List asList (map propOf (entries subscribePlace (subscribeGiven h))) ≡ subscribeSet h
-unfolding propsOf subscribePlace subscribeGiven
+subscribe-set : (h : SubscribeHanded) → propsOf (List ℕ) List asList (map propOf (entries subscribeRow (subscribeGiven h))) ≡ subscribeSet h
+unfolding propsOf subscribeRow subscribeGiven
 subscribe-set h = rw (
-  last-entries 31 subscribePlace (subscribeGiven h),
-  last-entries 11 subscribePlace (subscribeGiven h) ∙ last-one (h .subscription),
-  all-entries 38 subscribePlace (subscribeGiven h) ∙ append-nil (items (pairs (h .user))),
+  last-entries 31 subscribeRow (subscribeGiven h),
+  last-entries 11 subscribeRow (subscribeGiven h) ∙ last-one (h .subscription),
+  all-entries 38 subscribeRow (subscribeGiven h) ∙ append-nil (items (pairs (h .user))),
 )
 
 -- a set that has nothing in it is said to be absent
@@ -124,14 +124,14 @@ unless-empty : {A : Type 0} (f : List Prop → A) (es : List Entry) (a : A) → 
 unless-empty f [] a e = refl
 unless-empty f (x ∷ es) a e = ap some e
 
-pub publish-says : (h : PublishHanded) → publishOf (map propOf (entries publishPlace (publishGiven h))) ≡ cond (nonePublish h) none (some (publishSet h))
-publish-says h = unless-empty (publishProps (List ℕ) List asList) (entries publishPlace (publishGiven h)) (publishSet h) (publish-set h)
+pub publish-says : (h : PublishHanded) → publishOf (map propOf (entries publishRow (publishGiven h))) ≡ cond (nonePublish h) none (some (publishSet h))
+publish-says h = unless-empty (publishProps (List ℕ) List asList) (entries publishRow (publishGiven h)) (publishSet h) (publish-set h)
 
-pub ack-says : (t : Lent) (u : Run) → propsIf (map propOf (entries ackPlace (ackGiven t u))) ≡ cond (noneAck t u) none (some (ackSet t u))
-ack-says t u = unless-empty (propsOf (List ℕ) List asList) (entries ackPlace (ackGiven t u)) (ackSet t u) (ack-set t u)
+pub ack-says : (t : Lent) (u : Run) → propsIf (map propOf (entries ackRow (ackGiven t u))) ≡ cond (noneAck t u) none (some (ackSet t u))
+ack-says t u = unless-empty (propsOf (List ℕ) List asList) (entries ackRow (ackGiven t u)) (ackSet t u) (ack-set t u)
 
-pub unsubscribe-says : (u : Run) → propsIf (map propOf (entries unsubscribePlace (unsubscribeGiven u))) ≡ cond (noneUnsubscribe u) none (some (unsubscribeSet u))
-unsubscribe-says u = unless-empty (propsOf (List ℕ) List asList) (entries unsubscribePlace (unsubscribeGiven u)) (unsubscribeSet u) (unsubscribe-set u)
+pub unsubscribe-says : (u : Run) → propsIf (map propOf (entries unsubscribeRow (unsubscribeGiven u))) ≡ cond (noneUnsubscribe u) none (some (unsubscribeSet u))
+unsubscribe-says u = unless-empty (propsOf (List ℕ) List asList) (entries unsubscribeRow (unsubscribeGiven u)) (unsubscribeSet u) (unsubscribe-set u)
 
-pub subscribe-says : (h : SubscribeHanded) → propsIf (map propOf (entries subscribePlace (subscribeGiven h))) ≡ cond (noneSubscribe h) none (some (subscribeSet h))
-subscribe-says h = unless-empty (propsOf (List ℕ) List asList) (entries subscribePlace (subscribeGiven h)) (subscribeSet h) (subscribe-set h)
+pub subscribe-says : (h : SubscribeHanded) → propsIf (map propOf (entries subscribeRow (subscribeGiven h))) ≡ cond (noneSubscribe h) none (some (subscribeSet h))
+subscribe-says h = unless-empty (propsOf (List ℕ) List asList) (entries subscribeRow (subscribeGiven h)) (subscribeSet h) (subscribe-set h)

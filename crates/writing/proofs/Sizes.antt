@@ -9,7 +9,7 @@ use lib.Dec.{eqb, ltb, ltb→lt}
 use lib.ListN.{length, take, drop, length-append, length-drop}
 use lib.Seq.{length-take-le}
 use borrow.Author.Tests.{lt-ltb, ltb-false, le-ltb}
-use Rattle.grammar.specs.Tables.{Form, u8, u16, u32, number, text, bytes, pair, Forms, Place, publishPlace, subscribePlace, ackPlace, unsubscribePlace}
+use Rattle.grammar.specs.Tables.{Form, u8, u16, u32, number, text, bytes, pair, Forms, Row, publishRow, subscribeRow, ackRow, unsubscribeRow}
 use Rattle.grammar.specs.Record.{str}
 use Rattle.grammar.specs.Sentence.{Value}
 use Rattle.grammar.specs.Octets.{Each, nil, _&_}
@@ -19,7 +19,7 @@ use Rattle.writing.specs.Handed.{Run, SubscribeHanded, Handed, publish, 
 use Rattle.writing.specs.Spell.{wide, spellStep, spell, short, string, numeral, value, entry, rowBytes, propsBytes, counted, block, filterBytes}
 use Rattle.writing.specs.Size.{lenLen, withLength, numSize, givenSize, propsSize, noIdent, identSize, isPlain, filtersSize, topicsSize, restIs, sizeIs}
 use Rattle.writing.specs.Write.{identBytes, bodyBytes, frameBytes}
-use Rattle.writing.specs.Refuse.{AddsUp, Sorted, InBlock, Belongs}
+use Rattle.writing.specs.Refuse.{AddsUp, Coherent, InBlock, Belongs}
 use Rattle.writing.proofs.Says.{length-wide}
 
 -- ---- numbers and strings
@@ -114,7 +114,7 @@ unfolding value
 weigh-several f [] = refl
 weigh-several f (n ∷ ns) = rw (length-numeral f n, weigh-several f ns) (omega arith)
 
-pub weigh-given : (f : Form) (g : Given) → Sorted g → weigh f (items g) ≡ givenSize f g
+pub weigh-given : (f : Form) (g : Given) → Coherent g → weigh f (items g) ≡ givenSize f g
 unfolding value
 weigh-given f (one none) w = refl
 weigh-given f (one (some n)) w = rw (length-numeral f n) (omega arith)
@@ -138,13 +138,13 @@ length-rows g (_&_ {a = r} {l = rs} p ps) =
     omega (arith, length-append (rowBytes r (g (r .0))) (flat (λ r. rowBytes r (g (r .0))) rs))
 
 -- L
-pub length-props : (place : Place) (b : Bool) (g : Givens) → Each (InBlock b g) (place .row) → length (propsBytes place g) ≡ propsSize place g
+pub length-props : (row : Row) (b : Bool) (g : Givens) → Each (InBlock b g) (row .forms) → length (propsBytes row g) ≡ propsSize row g
 unfolding propsBytes propsSize
-length-props place b g rows = length-rows g rows
+length-props row b g rows = length-rows g rows
 
-length-block : (place : Place) (b : Bool) (g : Givens) → Each (InBlock b g) (place .row) → length (block place g) ≡ withLength (propsSize place g)
+length-block : (row : Row) (b : Bool) (g : Givens) → Each (InBlock b g) (row .forms) → length (block row g) ≡ withLength (propsSize row g)
 unfolding block
-length-block place b g rows = length-counted (propsBytes place g) ∙ ap withLength (length-props place b g rows)
+length-block row b g rows = length-counted (propsBytes row g) ∙ ap withLength (length-props row b g rows)
 
 -- ---- identifiers and filters
 
@@ -193,25 +193,25 @@ length-topics r a = length-strings (strings r) ∙ let t = pieces-total 2 (r .le
 pub length-body : (h : Handed) → Belongs h → length (bodyBytes h) ≡ restIs h
 unfolding bodyBytes restIs
 length-body (publish h) w =
-    let e = length-block publishPlace (h .block) (publishGiven h) w in
+    let e = length-block publishRow (h .block) (publishGiven h) w in
     simp (length-append, length-string, length-ident) (omega arith)
 length-body (ack k h) w =
-    let e = length-block ackPlace (h .block) (ackGiven (h .text) (h .user)) w in
+    let e = length-block ackRow (h .block) (ackGiven (h .text) (h .user)) w in
     simp (length-append, length-wide) (go (isPlain h) e)
   where
-    go : (t : Bool) → length (block ackPlace (ackGiven (h .text) (h .user))) ≡ withLength (propsSize ackPlace (ackGiven (h .text) (h .user)))
-        → 2 + length (cond t [] (h .reason ∷ block ackPlace (ackGiven (h .text) (h .user)))) ≡ cond t 2 (3 + withLength (propsSize ackPlace (ackGiven (h .text) (h .user))))
+    go : (t : Bool) → length (block ackRow (ackGiven (h .text) (h .user))) ≡ withLength (propsSize ackRow (ackGiven (h .text) (h .user)))
+        → 2 + length (cond t [] (h .reason ∷ block ackRow (ackGiven (h .text) (h .user)))) ≡ cond t 2 (3 + withLength (propsSize ackRow (ackGiven (h .text) (h .user))))
     go true e = refl
     go false e = omega arith
 length-body (subscribe h) (w, (a, n)) =
-    let e = length-block subscribePlace (h .block) (subscribeGiven h) w in
+    let e = length-block subscribeRow (h .block) (subscribeGiven h) w in
     let f = length-filters h a n in
     simp (length-append, length-wide) (omega arith)
 length-body (reply k h) w =
-    let e = length-block ackPlace (h .block) (ackGiven (h .text) (h .user)) w in
+    let e = length-block ackRow (h .block) (ackGiven (h .text) (h .user)) w in
     simp (length-append, length-wide) (omega arith)
 length-body (unsubscribe h) (w, a) =
-    let e = length-block unsubscribePlace (h .block) (unsubscribeGiven (h .user)) w in
+    let e = length-block unsubscribeRow (h .block) (unsubscribeGiven (h .user)) w in
     let f = length-topics (h .topics) a in
     simp (length-append, length-wide) (omega arith)
 length-body (ping k) w = refl

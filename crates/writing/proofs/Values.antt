@@ -11,7 +11,7 @@ use Rattle.grammar.specs.Choice.{isIn}
 use Rattle.grammar.specs.Gram.{done, more, only, Sized, Many, allFrom, Is}
 use Rattle.grammar.specs.Number.{byte, Big}
 use Rattle.grammar.specs.Text.{Utf8}
-use Rattle.grammar.specs.Tables.{Form, u8, u16, u32, number, text, bytes, pair, Forms, Place, isList, formAt}
+use Rattle.grammar.specs.Tables.{Form, u8, u16, u32, number, text, bytes, pair, Forms, Row, isList, formAt}
 use Rattle.grammar.specs.Record.{num, str, duo, mkFilter}
 use Rattle.grammar.specs.Sentence.{Any, Bytes, Text, Value, Prop, duoOf, notZero, Spelt, Property, property, met, fresh, noneTwice, Block, qosFine, ruleFine, FilterOf, ReasonOf}
 use Rattle.grammar.specs.Octets.{Each, nil, _&_, Octets}
@@ -67,30 +67,30 @@ abbrev pub Apart : List ℕ → Forms → Type 0
 Apart σ [] = Unit {0}
 Apart σ (r ∷ rs) = (isIn (r .0) σ ≡ false) × Apart (r .0 ∷ σ) rs
 
-module _ (place : Place) where
+module _ (row : Row) where
   -- a row of the place, with a value that its form can write
   record Right (e : Entry) : Type 0 where
-    pub known : formAt place (e .0 .0) ≡ some (e .0 .1)
+    pub known : formAt row (e .0 .0) ≡ some (e .0 .1)
     pub small : e .0 .0 < 256
     pub suits : Suits (e .0 .1) (e .1)
 
-  says-entry : (e : Entry) → Right e → Says (Property place) (propOf e) (entry e)
+  says-entry : (e : Entry) → Right e → Says (Property row) (propOf e) (entry e)
   says-entry e r =
       let s = says-value (r .suits) in
       record { spelled = property (r .known) (s .spelled); octets = r .small & s .octets }
 
   -- what is handed over for a row
   pub record RightRow (g : Givens) (r : ℕ × Form) : Type 0 where
-    pub known : formAt place (r .0) ≡ some (r .1)
+    pub known : formAt row (r .0) ≡ some (r .1)
     pub small : r .0 < 256
     pub suits : Each (Suits (r .1)) (items (g (r .0)))
-    pub once : isList place (r .0) ≡ false → length (items (g (r .0))) ≤ 1
+    pub once : isList row (r .0) ≡ false → length (items (g (r .0))) ≤ 1
 
-  entries-right : (g : Givens) → Each (RightRow g) (place .row) → Each Right (entries place g)
+  entries-right : (g : Givens) → Each (RightRow g) (row .forms) → Each Right (entries row g)
   unfolding entries
   entries-right g rows = flat-each (λ r. tag r (items (g (r .0)))) (each-imp right-row rows)
     where
-      right-tag : (r : ℕ × Form) → formAt place (r .0) ≡ some (r .1) → r .0 < 256 → {vs : List Value} → Each (Suits (r .1)) vs → Each Right (tag r vs)
+      right-tag : (r : ℕ × Form) → formAt row (r .0) ≡ some (r .1) → r .0 < 256 → {vs : List Value} → Each (Suits (r .1)) vs → Each Right (tag r vs)
       right-tag r k h nil = nil
       right-tag r k h (s & ss) = record { known = k; small = h; suits = s } & right-tag r k h ss
 
@@ -109,9 +109,9 @@ module _ (place : Place) where
   Among σ ρ = (i : ℕ) → isIn i ρ ≡ false → isIn i σ ≡ false
 
   abbrev freshFrom : List ℕ → List Entry → Bool
-  freshFrom σ es = allFrom (met place) fresh σ (map propOf es)
+  freshFrom σ es = allFrom (met row) fresh σ (map propOf es)
 
-  tag-list : (r : ℕ × Form) (σ : List ℕ) → isList place (r .0) ≡ true → isIn (r .0) σ ≡ false → (vs : List Value) (es : List Entry) → freshFrom σ (tag r vs ++ es) ≡ freshFrom σ es
+  tag-list : (r : ℕ × Form) (σ : List ℕ) → isList row (r .0) ≡ true → isIn (r .0) σ ≡ false → (vs : List Value) (es : List Entry) → freshFrom σ (tag r vs ++ es) ≡ freshFrom σ es
   tag-list r σ h n [] es = refl
   tag-list r σ h n (v ∷ vs) es = rw (h, n) (tag-list r σ h n vs es)
 
@@ -129,7 +129,7 @@ module _ (place : Place) where
       go true e = absurd (false≢true (sym e))
       go false e = a i e
 
-  tag-one : (r : ℕ × Form) (σ ρ : List ℕ) → isList place (r .0) ≡ false → isIn (r .0) σ ≡ false → Among σ ρ → (vs : List Value) → length vs ≤ 1 → (es : List Entry)
+  tag-one : (r : ℕ × Form) (σ ρ : List ℕ) → isList row (r .0) ≡ false → isIn (r .0) σ ≡ false → Among σ ρ → (vs : List Value) → length vs ≤ 1 → (es : List Entry)
       → ((σ′ : List ℕ) → Among σ′ (r .0 ∷ ρ) → freshFrom σ′ es ≡ true) → freshFrom σ (tag r vs ++ es) ≡ true
   tag-one r σ ρ h n a [] l es k = k σ (among-more σ ρ (r .0) a)
   tag-one r σ ρ h n a (v ∷ []) l es k = rw (h, n) (k (r .0 ∷ σ) (among-both σ ρ (r .0) a))
@@ -137,20 +137,20 @@ module _ (place : Place) where
 
   rows-fresh : (g : Givens) (σ ρ : List ℕ) → Among σ ρ → {rs : Forms} → Apart ρ rs → Each (RightRow g) rs → freshFrom σ (flat (λ r. tag r (items (g (r .0)))) rs) ≡ true
   rows-fresh g σ ρ a d nil = refl
-  rows-fresh g σ ρ a (n, d) (_&_ {a = r} {l = rs} w ws) = go (isList place (r .0)) refl (λ σ′ a′. rows-fresh g σ′ (r .0 ∷ ρ) a′ d ws)
+  rows-fresh g σ ρ a (n, d) (_&_ {a = r} {l = rs} w ws) = go (isList row (r .0)) refl (λ σ′ a′. rows-fresh g σ′ (r .0 ∷ ρ) a′ d ws)
     where
-      go : (t : Bool) → isList place (r .0) ≡ t → ((σ′ : List ℕ) → Among σ′ (r .0 ∷ ρ) → freshFrom σ′ (flat (λ r. tag r (items (g (r .0)))) rs) ≡ true)
+      go : (t : Bool) → isList row (r .0) ≡ t → ((σ′ : List ℕ) → Among σ′ (r .0 ∷ ρ) → freshFrom σ′ (flat (λ r. tag r (items (g (r .0)))) rs) ≡ true)
           → freshFrom σ (flat (λ r. tag r (items (g (r .0)))) (r ∷ rs)) ≡ true
       go true h k = tag-list r σ h (a (r .0) n) (items (g (r .0))) _ ∙ k σ (among-more σ ρ (r .0) a)
       go false h k = tag-one r σ ρ h (a (r .0) n) a (items (g (r .0))) (w .once h) _ k
 
-  entries-once : (g : Givens) → Apart [] (place .row) → Each (RightRow g) (place .row) → noneTwice place (map propOf (entries place g)) ≡ true
+  entries-once : (g : Givens) → Apart [] (row .forms) → Each (RightRow g) (row .forms) → noneTwice row (map propOf (entries row g)) ≡ true
   unfolding entries
   entries-once g d ws = rows-fresh g [] [] (λ i e. e) d ws
 
-  pub says-block : {A : Type 0} (f : List Prop → A) (g : Givens) → Apart [] (place .row) → Each (RightRow g) (place .row) → length (propsBytes place g) ≤ most → Says (Block place f) (f (map propOf (entries place g))) (block place g)
+  pub says-block : {A : Type 0} (f : List Prop → A) (g : Givens) → Apart [] (row .forms) → Each (RightRow g) (row .forms) → length (propsBytes row g) ≤ most → Says (Block row f) (f (map propOf (entries row g))) (block row g)
   unfolding block propsBytes entries
-  says-block f g d rows h = says-counted h (rw (rows-entries g (place .row)) (says-map f (says-only (noneTwice place) (entries-once g d rows) (says-many propOf entry (entries place g) (each-imp says-entry (entries-right g rows))))))
+  says-block f g d rows h = says-counted h (rw (rows-entries g (row .forms)) (says-map f (says-only (noneTwice row) (entries-once g d rows) (says-many propOf entry (entries row g) (each-imp says-entry (entries-right g rows))))))
 
 -- ---- what is handed over can be written
 

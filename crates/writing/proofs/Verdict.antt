@@ -19,9 +19,9 @@ use Rattle.reading.proofs.Reading.{bad-got, got-inj}
 use Rattle.reading.proofs.Fields.{text-fine}
 use Rattle.writing.specs.Handed.{Handed, belongs}
 use Rattle.writing.specs.Size.{most, restIs, sizeIs}
-use Rattle.writing.specs.Order.{Field, raw, word, filter, code, fieldsOf, numbersOf, named, asked, permitSized, permit}
+use Rattle.writing.specs.Order.{Field, raw, word, filter, code, fieldsOf, numbersOf, hasIdent, hasEntries, permitSized, permit}
 use Rattle.writing.specs.Write.{frameBytes, sizeOf, writeOf, answerOf}
-use Rattle.writing.specs.Refuse.{Belongs, Short, Writable, Faulty, long-raw, long-word, long-filter, bad-word, bad-filter, bad-rule, bad-qos, unlisted, FirstFault, Small, Fine, Unfit, large, nought, FirstUnfit, Unnamed, Unasked, Within, Countable, Refuses, field, too-large, no-name, number, none-asked, no-room, Accepts, Unsized, HasSize}
+use Rattle.writing.specs.Refuse.{Belongs, Short, Writable, Faulty, long-raw, long-word, long-filter, bad-word, bad-filter, bad-rule, bad-qos, unlisted, FirstFault, Small, Fine, Unfit, large, nought, FirstUnfit, LacksIdent, LacksEntries, Within, Countable, Refuses, field, too-large, no-name, number, none-asked, no-room, Accepts, Unsized, HasSize}
 use Rattle.writing.proofs.Tests.{passes-when, fails-when, decide-by, le-or}
 use Rattle.writing.proofs.Belong.{belongs-when, unnamed-when, unasked-when}
 use Rattle.writing.proofs.Judge.{fields-pass, fields-fault, numbers-pass, numbers-fault, limit-pass, limit-fault}
@@ -114,12 +114,12 @@ decide-limit (some m) n = go (le-or n m)
 module _ (limit : Option ℕ) (room : ℕ) (h : Handed) where
   -- a row applies, or none does
   decide : Accepts limit room h ⊎ ((k : Refusal) × Refuses limit room h k)
-  decide = go (holds-or (belongs h) (belongs-when h)) (decide-fields (fieldsOf h)) (le-or (restIs h) most) (decide-limit limit (sizeIs h)) (fails-or (named h) (unnamed-when h))
-      (decide-numbers (numbersOf h)) (fails-or (asked h) (unasked-when h)) (le-or (sizeIs h) room)
+  decide = go (holds-or (belongs h) (belongs-when h)) (decide-fields (fieldsOf h)) (le-or (restIs h) most) (decide-limit limit (sizeIs h)) (fails-or (hasIdent h) (unnamed-when h))
+      (decide-numbers (numbersOf h)) (fails-or (hasEntries h) (unasked-when h)) (le-or (sizeIs h) room)
     where
       go : (Belongs h ⊎ (Belongs h → ⊥)) → (Each Writable (fieldsOf h) ⊎ ((k : Refusal) × FirstFault k (fieldsOf h))) → (Small (restIs h) ⊎ (most < restIs h))
-          → (Within limit (sizeIs h) ⊎ ((m : ℕ) × (limit ≡ some m) × (m < sizeIs h))) → ((Unnamed h → ⊥) ⊎ Unnamed h) → (Each Fine (numbersOf h) ⊎ ((k : Refusal) × FirstUnfit k (numbersOf h)))
-          → ((Unasked h → ⊥) ⊎ Unasked h) → ((sizeIs h ≤ room) ⊎ (room < sizeIs h)) → Accepts limit room h ⊎ ((k : Refusal) × Refuses limit room h k)
+          → (Within limit (sizeIs h) ⊎ ((m : ℕ) × (limit ≡ some m) × (m < sizeIs h))) → ((LacksIdent h → ⊥) ⊎ LacksIdent h) → (Each Fine (numbersOf h) ⊎ ((k : Refusal) × FirstUnfit k (numbersOf h)))
+          → ((LacksEntries h → ⊥) ⊎ LacksEntries h) → ((sizeIs h ≤ room) ⊎ (room < sizeIs h)) → Accepts limit room h ⊎ ((k : Refusal) × Refuses limit room h k)
       go (inr w) f l m i n s o = inr (nr 20 [], r.Refuses.mismatch w)
       go (inl w) (inr f) l m i n s o = inr (f .0, field w (f .1))
       go (inl w) (inl f) (inr l) m i n s o = inr (nr 17 [], r.Refuses.too-long w f l)
@@ -129,13 +129,13 @@ module _ (limit : Option ℕ) (room : ℕ) (h : Handed) where
       go (inl w) (inl f) (inl l) (inl m) (inl i) (inl n) (inr s) o = inr (nr 13 [], none-asked (record { belongs = w; fields = f; rest = l }) m i n s)
       go (inl w) (inl f) (inl l) (inl m) (inl i) (inl n) (inl s) (inr o) = inr (nr 19 (sizeIs h ∷ []), no-room (record { belongs = w; fields = f; rest = l }) m i n s o)
       go (inl w) (inl f) (inl l) (inl m) (inl i) (inl n) (inl s) (inl o) =
-          inl (record { countable = record { belongs = w; fields = f; rest = l }; within = m; named = i; numbers = n; asked = s; fits = o })
+          inl (record { countable = record { belongs = w; fields = f; rest = l }; within = m; hasIdent = i; numbers = n; hasEntries = s; fits = o })
 
-  unnamed-not : (Unnamed h → ⊥) → named h ≡ true
-  unnamed-not = passes-when (named h) (unnamed-when h) .1
+  unnamed-not : (LacksIdent h → ⊥) → hasIdent h ≡ true
+  unnamed-not = passes-when (hasIdent h) (unnamed-when h) .1
 
-  unasked-not : (Unasked h → ⊥) → asked h ≡ true
-  unasked-not = passes-when (asked h) (unasked-when h) .1
+  unasked-not : (LacksEntries h → ⊥) → hasEntries h ≡ true
+  unasked-not = passes-when (hasEntries h) (unasked-when h) .1
 
   go-on : Countable h → permit limit room h ≡ permitSized limit room h
   unfolding permit
@@ -144,7 +144,7 @@ module _ (limit : Option ℕ) (room : ℕ) (h : Handed) where
   accepts-got : Accepts limit room h → permit limit room h ≡ got tt
   accepts-got p =
       go-on (p .countable)
-      ∙ rw (limit-pass limit (sizeIs h) (p .within), unnamed-not (p .named), numbers-pass (p .numbers), unasked-not (p .asked), le-leb (sizeIs h) room (p .fits))
+      ∙ rw (limit-pass limit (sizeIs h) (p .within), unnamed-not (p .hasIdent), numbers-pass (p .numbers), unasked-not (p .hasEntries), le-leb (sizeIs h) room (p .fits))
 
   refuses-bad : (k : Refusal) → Refuses limit room h k → permit limit room h ≡ bad k
   unfolding permit

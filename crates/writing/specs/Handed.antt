@@ -7,7 +7,7 @@ use Prim.Native.Nat.{ℕ, _%_}
 use lib.Dec.{eqb}
 use lib.ListN.{length}
 use Rattle.grammar.specs.Choice.{lookup, isEmpty, all}
-use Rattle.grammar.specs.Tables.{Form, Place, publishPlace, subscribePlace, ackPlace, unsubscribePlace}
+use Rattle.grammar.specs.Tables.{Form, Row, publishRow, subscribeRow, ackRow, unsubscribeRow}
 use Rattle.grammar.specs.Record.{num, str, duo}
 use Rattle.grammar.specs.Sentence.{Value, Prop}
 use Rattle.writing.specs.Lists.{flat, sum, pieces, beside}
@@ -159,8 +159,8 @@ tag r [] = []
 tag r (v ∷ vs) = (r, v) ∷ tag r vs
 
 -- 01, table of properties: the properties of a block, row by row, and the values of a row in their order
-unfoldable pub entries : Place → Givens → List Entry
-entries place g = flat (λ r. tag r (items (g (r .0)))) (place .row)
+unfoldable pub entries : Row → Givens → List Entry
+entries row g = flat (λ r. tag r (items (g (r .0)))) (row .forms)
 
 -- 01, "What must change shape": "an options byte for each filter"
 abbrev pub filtersOf : Run → List ℕ → List (List ℕ × ℕ)
@@ -177,11 +177,11 @@ abbrev pub addsUp : Run → Bool
 addsUp r = eqb (sum (r .lengths)) (length (r .bytes))
 
 -- "pair lengths are odd in number"; "anything is handed over for an absent value"
-abbrev pub sorted : Given → Bool
-sorted (one o) = true
-sorted (lent l) = l .on || isEmpty (l .bytes)
-sorted (pairs r) = addsUp r && eqb (length (r .lengths) % 2) 0
-sorted (several ns) = true
+abbrev pub coherent : Given → Bool
+coherent (one o) = true
+coherent (lent l) = l .on || isEmpty (l .bytes)
+coherent (pairs r) = addsUp r && eqb (length (r .lengths) % 2) 0
+coherent (several ns) = true
 
 -- nothing at all
 abbrev pub nothingGiven : Given → Bool
@@ -193,11 +193,11 @@ nothingGiven (several ns) = isEmpty ns
 
 -- "anything is handed over for an absent .. block": what is handed over for a row, where the block is present or not
 abbrev pub rowBelongs : Bool → Given → Bool
-rowBelongs block g = sorted g && (block || nothingGiven g)
+rowBelongs block g = coherent g && (block || nothingGiven g)
 
 -- the rows of a block
-unfoldable pub blockBelongs : Place → Bool → Givens → Bool
-blockBelongs place block g = all (λ r. rowBelongs block (g (r .0))) (place .row)
+unfoldable pub blockBelongs : Row → Bool → Givens → Bool
+blockBelongs row block g = all (λ r. rowBelongs block (g (r .0))) (row .forms)
 
 -- "options bytes and filter lengths differ in number"
 unfoldable pub filtersBelong : Run → List ℕ → Bool
@@ -205,9 +205,9 @@ filtersBelong r os = addsUp r && eqb (length (r .lengths)) (length os)
 
 -- 01, row 20, of each kind
 unfoldable pub belongs : Handed → Bool
-belongs (publish h) = blockBelongs publishPlace (h .block) (publishGiven h)
-belongs (ack k h) = blockBelongs ackPlace (h .block) (ackGiven (h .text) (h .user))
-belongs (subscribe h) = blockBelongs subscribePlace (h .block) (subscribeGiven h) && filtersBelong (h .filters) (h .options)
-belongs (reply k h) = blockBelongs ackPlace (h .block) (ackGiven (h .text) (h .user))
-belongs (unsubscribe h) = blockBelongs unsubscribePlace (h .block) (unsubscribeGiven (h .user)) && addsUp (h .topics)
+belongs (publish h) = blockBelongs publishRow (h .block) (publishGiven h)
+belongs (ack k h) = blockBelongs ackRow (h .block) (ackGiven (h .text) (h .user))
+belongs (subscribe h) = blockBelongs subscribeRow (h .block) (subscribeGiven h) && filtersBelong (h .filters) (h .options)
+belongs (reply k h) = blockBelongs ackRow (h .block) (ackGiven (h .text) (h .user))
+belongs (unsubscribe h) = blockBelongs unsubscribeRow (h .block) (unsubscribeGiven (h .user)) && addsUp (h .topics)
 belongs (ping k) = true

@@ -6,7 +6,7 @@ use mathlib.Core.List.{List, map}
 use Prim.Native.Nat.{ℕ, _<_}
 use lib.Dec.{eqb}
 use Rattle.grammar.specs.Choice.{lookup, isEmpty}
-use Rattle.grammar.specs.Tables.{publishPlace, subscribePlace, ackPlace, unsubscribePlace, anAck, aReply, aPing, kinds, reasonsOf}
+use Rattle.grammar.specs.Tables.{publishRow, subscribeRow, ackRow, unsubscribeRow, anAck, aReply, aPing, kinds, reasonsOf}
 use Rattle.grammar.specs.Record.{num, str, PublishProps, Props, mkFilter}
 use Rattle.grammar.specs.Sentence.{Value, Packet}
 use Rattle.grammar.specs.Record as g
@@ -82,19 +82,19 @@ meant (ping k) = g.ping k
 
 -- a property set has nothing in it
 abbrev pub nonePublish : PublishHanded → Bool
-nonePublish h = isEmpty (entries publishPlace (publishGiven h))
+nonePublish h = isEmpty (entries publishRow (publishGiven h))
 
 -- the same of an acknowledgement
 abbrev pub noneAck : Lent → Run → Bool
-noneAck text user = isEmpty (entries ackPlace (ackGiven text user))
+noneAck text user = isEmpty (entries ackRow (ackGiven text user))
 
 -- the same of a Subscribe
 abbrev pub noneSubscribe : SubscribeHanded → Bool
-noneSubscribe h = isEmpty (entries subscribePlace (subscribeGiven h))
+noneSubscribe h = isEmpty (entries subscribeRow (subscribeGiven h))
 
 -- the same of an Unsubscribe
 abbrev pub noneUnsubscribe : Run → Bool
-noneUnsubscribe user = isEmpty (entries unsubscribePlace (unsubscribeGiven user))
+noneUnsubscribe user = isEmpty (entries unsubscribeRow (unsubscribeGiven user))
 
 -- what the bytes say: 01, grammar: "QoS 0 writes no identifier"; reading back: a set present but empty "writes length 0 and reads as absent"
 unfoldable pub said : Handed → Packet

@@ -6,7 +6,7 @@ use Prim.Native.Nat.{ℕ}
 use lib.Dec.{leb, eqb}
 use lib.ListN.{length}
 use Rattle.grammar.specs.Choice.{isIn, isEmpty}
-use Rattle.grammar.specs.Tables.{Form, u8, u16, u32, number, text, bytes, pair, Place, publishPlace, subscribePlace, ackPlace, unsubscribePlace, reasonsOf}
+use Rattle.grammar.specs.Tables.{Form, u8, u16, u32, number, text, bytes, pair, Row, publishRow, subscribeRow, ackRow, unsubscribeRow, reasonsOf}
 use Rattle.grammar.specs.Sentence.{notZero, qosFine, ruleFine}
 use Rattle.reading.specs.Refusal.{Refusal, nr}
 use Rattle.reading.specs.Reader.{Fit, got, _>>_, guard}
@@ -36,18 +36,18 @@ pub data Field : Type 0 where
   code : List ℕ → ℕ → Field
 
 -- 01, row 18: "written string above 65,535 bytes"
-abbrev pub fits : List ℕ → Test
-fits s = (leb (length s) 65535, nr 18 (length s ∷ []))
+abbrev pub lengthTest : List ℕ → Test
+lengthTest s = (leb (length s) 65535, nr 18 (length s ∷ []))
 
 -- 01, row 9: "text not UTF-8, read or written"
-abbrev pub reads : List ℕ → Test
-reads s = (isText s, nr 9 [])
+abbrev pub utf8Test : List ℕ → Test
+utf8Test s = (isText s, nr 9 [])
 
 -- 01, writing order: "18, and 9 for text, .. with 14 then 11 after a filter's text"
 abbrev pub fieldTests : Field → List Test
-fieldTests (raw s) = fits s ∷ []
-fieldTests (word s) = fits s ∷ reads s ∷ []
-fieldTests (filter s o) = fits s ∷ reads s ∷ (ruleFine o, nr 14 (3 ∷ [])) ∷ (qosFine o, nr 11 (3 ∷ [])) ∷ []
+fieldTests (raw s) = lengthTest s ∷ []
+fieldTests (word s) = lengthTest s ∷ utf8Test s ∷ []
+fieldTests (filter s o) = lengthTest s ∷ utf8Test s ∷ (ruleFine o, nr 14 (3 ∷ [])) ∷ (qosFine o, nr 11 (3 ∷ [])) ∷ []
 -- 02, P1: "an unlisted reason 15, .. the written one where 14 stands"
 fieldTests (code rs c) = (isIn c rs, nr 15 (c ∷ [])) ∷ []
 
@@ -69,8 +69,8 @@ givenFields f (pairs r) = map word (strings r)
 givenFields f (several ns) = []
 
 -- 01, writing order: "field by field as written": the rows of the table in their order
-unfoldable pub propsFields : Place → Givens → List Field
-propsFields place g = flat (λ r. givenFields (r .1) (g (r .0))) (place .row)
+unfoldable pub propsFields : Row → Givens → List Field
+propsFields row g = flat (λ r. givenFields (r .1) (g (r .0))) (row .forms)
 
 -- a filter's text and options byte
 abbrev pub filterField : List ℕ × ℕ → Field
@@ -78,22 +78,22 @@ filterField f = filter (f .0) (f .1)
 
 -- 01, writing order: the fields of each kind, in the order in which they are written
 unfoldable pub fieldsOf : Handed → List Field
-fieldsOf (publish h) = raw (h .topic) ∷ propsFields publishPlace (publishGiven h)
-fieldsOf (ack k h) = code (reasonsOf k) (h .reason) ∷ propsFields ackPlace (ackGiven (h .text) (h .user))
-fieldsOf (subscribe h) = propsFields subscribePlace (subscribeGiven h) ++ map filterField (filters h)
-fieldsOf (reply k h) = propsFields ackPlace (ackGiven (h .text) (h .user)) ++ map (code (reasonsOf k)) (h .reasons)
-fieldsOf (unsubscribe h) = propsFields unsubscribePlace (unsubscribeGiven (h .user)) ++ map word (strings (h .topics))
+fieldsOf (publish h) = raw (h .topic) ∷ propsFields publishRow (publishGiven h)
+fieldsOf (ack k h) = code (reasonsOf k) (h .reason) ∷ propsFields ackRow (ackGiven (h .text) (h .user))
+fieldsOf (subscribe h) = propsFields subscribeRow (subscribeGiven h) ++ map filterField (filters h)
+fieldsOf (reply k h) = propsFields ackRow (ackGiven (h .text) (h .user)) ++ map (code (reasonsOf k)) (h .reasons)
+fieldsOf (unsubscribe h) = propsFields unsubscribeRow (unsubscribeGiven (h .user)) ++ map word (strings (h .topics))
 fieldsOf (ping k) = []
 
 -- ---- the other tests
 
 -- 01, row 17: "written R, or a subscription identifier, above 268,435,455"
-abbrev pub small : ℕ → Test
-small n = (leb n most, nr 17 [])
+abbrev pub numberTest : ℕ → Test
+numberTest n = (leb n most, nr 17 [])
 
 -- 02, P9: "The writer also refuses a subscription identifier 0, in the place where 17 for identifiers stands"
 abbrev pub numberTests : ℕ → List Test
-numberTests n = small n ∷ (notZero n, nr 23 []) ∷ []
+numberTests n = numberTest n ∷ (notZero n, nr 23 []) ∷ []
 
 -- what is present, as a list
 abbrev pub orNone : {A : Type 0} → Option A → List A
@@ -110,22 +110,22 @@ numbersOf (unsubscribe h) = []
 numbersOf (ping k) = []
 
 -- 01, row 12: "Publish, QoS 1 or 2, identifier 0"
-abbrev pub named : Handed → Bool
-named (publish h) = eqb (h .qos) 0 || notZero (h .ident)
-named (ack k h) = true
-named (subscribe h) = true
-named (reply k h) = true
-named (unsubscribe h) = true
-named (ping k) = true
+abbrev pub hasIdent : Handed → Bool
+hasIdent (publish h) = eqb (h .qos) 0 || notZero (h .ident)
+hasIdent (ack k h) = true
+hasIdent (subscribe h) = true
+hasIdent (reply k h) = true
+hasIdent (unsubscribe h) = true
+hasIdent (ping k) = true
 
 -- 01, row 13: "no filters"; 02, P1: "with no entry gets 13, .. read or written"
-abbrev pub asked : Handed → Bool
-asked (publish h) = true
-asked (ack k h) = true
-asked (subscribe h) = not (isEmpty (filters h))
-asked (reply k h) = not (isEmpty (h .reasons))
-asked (unsubscribe h) = not (isEmpty (strings (h .topics)))
-asked (ping k) = true
+abbrev pub hasEntries : Handed → Bool
+hasEntries (publish h) = true
+hasEntries (ack k h) = true
+hasEntries (subscribe h) = not (isEmpty (filters h))
+hasEntries (reply k h) = not (isEmpty (h .reasons))
+hasEntries (unsubscribe h) = not (isEmpty (strings (h .topics)))
+hasEntries (ping k) = true
 
 -- 01, row 16: "write size above the limit"
 abbrev pub limitTests : Option ℕ → ℕ → List Test
@@ -136,9 +136,9 @@ limitTests (some m) n = (leb n m, nr 16 (n ∷ m ∷ [])) ∷ []
 abbrev pub permitSized : Option ℕ → ℕ → Handed → Fit (Unit {0})
 permitSized limit room h = do
   judge (limitTests limit (sizeIs h))
-  guard (named h) (nr 12 [])
+  guard (hasIdent h) (nr 12 [])
   judge (flat numberTests (numbersOf h))
-  guard (asked h) (nr 13 [])
+  guard (hasEntries h) (nr 13 [])
   guard (leb (sizeIs h) room) (nr 19 (sizeIs h ∷ []))
 
 -- 01, writing order: "20; then 18, and 9 for text, field by field as written, ..; 17 for R; .."

@@ -7,7 +7,7 @@ use Prim.Native.Nat.{ℕ, _%_, _≤_, _<_}
 use lib.ListN.{length}
 use Rattle.grammar.specs.Choice.{isIn}
 use Rattle.grammar.specs.Text.{Utf8}
-use Rattle.grammar.specs.Tables.{Form, publishPlace, subscribePlace, ackPlace, unsubscribePlace}
+use Rattle.grammar.specs.Tables.{Form, publishRow, subscribeRow, ackRow, unsubscribeRow}
 use Rattle.grammar.specs.Sentence.{notZero, qosFine, ruleFine}
 use Rattle.grammar.specs.Octets.{Each}
 use Rattle.reading.specs.Refusal.{Refusal, nr}
@@ -23,11 +23,11 @@ abbrev pub AddsUp : Run → Type 0
 AddsUp r = sum (r .lengths) ≡ length (r .bytes)
 
 -- what is handed over for a row: nothing for an absent value; lengths that add up, and an even number of them
-abbrev pub Sorted : Given → Type 0
-Sorted (one o) = Unit {0}
-Sorted (lent l) = l .on ≡ false → l .bytes ≡ []
-Sorted (pairs r) = AddsUp r × (length (r .lengths) % 2 ≡ 0)
-Sorted (several ns) = Unit {0}
+abbrev pub Coherent : Given → Type 0
+Coherent (one o) = Unit {0}
+Coherent (lent l) = l .on ≡ false → l .bytes ≡ []
+Coherent (pairs r) = AddsUp r × (length (r .lengths) % 2 ≡ 0)
+Coherent (several ns) = Unit {0}
 
 -- nothing at all
 abbrev pub NothingGiven : Given → Type 0
@@ -38,15 +38,15 @@ NothingGiven (several ns) = ns ≡ []
 
 -- nothing for an absent block
 abbrev pub InBlock : Bool → Givens → ℕ × Form → Type 0
-InBlock block g r = Sorted (g (r .0)) × (block ≡ false → NothingGiven (g (r .0)))
+InBlock block g r = Coherent (g (r .0)) × (block ≡ false → NothingGiven (g (r .0)))
 
 -- 01, row 20, does not apply
 abbrev pub Belongs : Handed → Type 0
-Belongs (publish h) = Each (InBlock (h .block) (publishGiven h)) (publishPlace .row)
-Belongs (ack k h) = Each (InBlock (h .block) (ackGiven (h .text) (h .user))) (ackPlace .row)
-Belongs (subscribe h) = Each (InBlock (h .block) (subscribeGiven h)) (subscribePlace .row) × (AddsUp (h .filters) × (length (h .filters .lengths) ≡ length (h .options)))
-Belongs (reply k h) = Each (InBlock (h .block) (ackGiven (h .text) (h .user))) (ackPlace .row)
-Belongs (unsubscribe h) = Each (InBlock (h .block) (unsubscribeGiven (h .user))) (unsubscribePlace .row) × AddsUp (h .topics)
+Belongs (publish h) = Each (InBlock (h .block) (publishGiven h)) (publishRow .forms)
+Belongs (ack k h) = Each (InBlock (h .block) (ackGiven (h .text) (h .user))) (ackRow .forms)
+Belongs (subscribe h) = Each (InBlock (h .block) (subscribeGiven h)) (subscribeRow .forms) × (AddsUp (h .filters) × (length (h .filters .lengths) ≡ length (h .options)))
+Belongs (reply k h) = Each (InBlock (h .block) (ackGiven (h .text) (h .user))) (ackRow .forms)
+Belongs (unsubscribe h) = Each (InBlock (h .block) (unsubscribeGiven (h .user))) (unsubscribeRow .forms) × AddsUp (h .topics)
 Belongs (ping k) = Unit {0}
 
 -- ---- one field (18, 9, 14, 11, 15)
@@ -99,22 +99,22 @@ pub data FirstUnfit (k : Refusal) : List ℕ → Type 0 where
   later : {n : ℕ} {ns : List ℕ} → Fine n → FirstUnfit k ns → FirstUnfit k (n ∷ ns)
 
 -- 01, row 12: "Publish, QoS 1 or 2, identifier 0"
-abbrev pub Unnamed : Handed → Type 0
-Unnamed (publish h) = (h .qos ≡ 0 → ⊥) × (h .ident ≡ 0)
-Unnamed (ack k h) = ⊥
-Unnamed (subscribe h) = ⊥
-Unnamed (reply k h) = ⊥
-Unnamed (unsubscribe h) = ⊥
-Unnamed (ping k) = ⊥
+abbrev pub LacksIdent : Handed → Type 0
+LacksIdent (publish h) = (h .qos ≡ 0 → ⊥) × (h .ident ≡ 0)
+LacksIdent (ack k h) = ⊥
+LacksIdent (subscribe h) = ⊥
+LacksIdent (reply k h) = ⊥
+LacksIdent (unsubscribe h) = ⊥
+LacksIdent (ping k) = ⊥
 
 -- 01, row 13: "no filters"; 02, P1: "no entry"
-abbrev pub Unasked : Handed → Type 0
-Unasked (publish h) = ⊥
-Unasked (ack k h) = ⊥
-Unasked (subscribe h) = filters h ≡ []
-Unasked (reply k h) = h .reasons ≡ []
-Unasked (unsubscribe h) = strings (h .topics) ≡ []
-Unasked (ping k) = ⊥
+abbrev pub LacksEntries : Handed → Type 0
+LacksEntries (publish h) = ⊥
+LacksEntries (ack k h) = ⊥
+LacksEntries (subscribe h) = filters h ≡ []
+LacksEntries (reply k h) = h .reasons ≡ []
+LacksEntries (unsubscribe h) = strings (h .topics) ≡ []
+LacksEntries (ping k) = ⊥
 
 -- 01, row 16, does not apply: at most the limit
 abbrev pub Within : Option ℕ → ℕ → Type 0
@@ -135,18 +135,18 @@ pub data Refuses (limit : Option ℕ) (room : ℕ) (h : Handed) : Refusal → Ty
   field : {k : Refusal} → Belongs h → FirstFault k (fieldsOf h) → Refuses limit room h k
   too-long : Belongs h → Each Writable (fieldsOf h) → most < restIs h → Refuses limit room h (nr 17 [])
   too-large : {m : ℕ} → Countable h → limit ≡ some m → m < sizeIs h → Refuses limit room h (nr 16 (sizeIs h ∷ m ∷ []))
-  no-name : Countable h → Within limit (sizeIs h) → Unnamed h → Refuses limit room h (nr 12 [])
-  number : {k : Refusal} → Countable h → Within limit (sizeIs h) → (Unnamed h → ⊥) → FirstUnfit k (numbersOf h) → Refuses limit room h k
-  none-asked : Countable h → Within limit (sizeIs h) → (Unnamed h → ⊥) → Each Fine (numbersOf h) → Unasked h → Refuses limit room h (nr 13 [])
-  no-room : Countable h → Within limit (sizeIs h) → (Unnamed h → ⊥) → Each Fine (numbersOf h) → (Unasked h → ⊥) → room < sizeIs h → Refuses limit room h (nr 19 (sizeIs h ∷ []))
+  no-name : Countable h → Within limit (sizeIs h) → LacksIdent h → Refuses limit room h (nr 12 [])
+  number : {k : Refusal} → Countable h → Within limit (sizeIs h) → (LacksIdent h → ⊥) → FirstUnfit k (numbersOf h) → Refuses limit room h k
+  none-asked : Countable h → Within limit (sizeIs h) → (LacksIdent h → ⊥) → Each Fine (numbersOf h) → LacksEntries h → Refuses limit room h (nr 13 [])
+  no-room : Countable h → Within limit (sizeIs h) → (LacksIdent h → ⊥) → Each Fine (numbersOf h) → (LacksEntries h → ⊥) → room < sizeIs h → Refuses limit room h (nr 19 (sizeIs h ∷ []))
 
 -- what is accepted: no row applies
 pub record Accepts (limit : Option ℕ) (room : ℕ) (h : Handed) : Type 0 where
   pub countable : Countable h
   pub within : Within limit (sizeIs h)
-  pub named : Unnamed h → ⊥
+  pub hasIdent : LacksIdent h → ⊥
   pub numbers : Each Fine (numbersOf h)
-  pub asked : Unasked h → ⊥
+  pub hasEntries : LacksEntries h → ⊥
   pub fits : sizeIs h ≤ room
 
 -- 01: "Asked alone, size refuses only with 20, then 17 for R"

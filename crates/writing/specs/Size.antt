@@ -5,7 +5,7 @@ use mathlib.Core.List.{List}
 use Prim.Native.Nat.{ℕ, _+_, _*_, _/_}
 use lib.Dec.{leb, ltb, eqb}
 use lib.ListN.{length}
-use Rattle.grammar.specs.Tables.{Form, u8, u16, u32, number, text, bytes, pair, Place, publishPlace, subscribePlace, ackPlace, unsubscribePlace}
+use Rattle.grammar.specs.Tables.{Form, u8, u16, u32, number, text, bytes, pair, Row, publishRow, subscribeRow, ackRow, unsubscribeRow}
 use Rattle.writing.specs.Lists.{total}
 use Rattle.writing.specs.Handed.{Run, AckHanded, Handed, publish, ack, subscribe, reply, unsubscribe, ping, Given, one, lent, pairs, several, Givens, publishGiven, subscribeGiven, ackGiven, unsubscribeGiven}
 
@@ -42,8 +42,8 @@ givenSize f (pairs r) = length (r .bytes) + 5 * (length (r .lengths) / 2)
 givenSize f (several ns) = total (λ n. 1 + numSize f n) ns
 
 -- L
-unfoldable pub propsSize : Place → Givens → ℕ
-propsSize place g = total (λ r. givenSize (r .1) (g (r .0))) (place .row)
+unfoldable pub propsSize : Row → Givens → ℕ
+propsSize row g = total (λ r. givenSize (r .1) (g (r .0))) (row .forms)
 
 -- ---- R
 
@@ -69,11 +69,11 @@ topicsSize r = length (r .bytes) + 2 * length (r .lengths)
 
 -- 01, grammar: R of each kind
 unfoldable pub restIs : Handed → ℕ
-restIs (publish h) = 2 + length (h .topic) + (identSize (h .qos) (h .ident) + (withLength (propsSize publishPlace (publishGiven h)) + length (h .payload)))
-restIs (ack k h) = cond (isPlain h) 2 (3 + withLength (propsSize ackPlace (ackGiven (h .text) (h .user))))
-restIs (subscribe h) = 2 + (withLength (propsSize subscribePlace (subscribeGiven h)) + filtersSize (h .filters .bytes) (h .options))
-restIs (reply k h) = 2 + (withLength (propsSize ackPlace (ackGiven (h .text) (h .user))) + length (h .reasons))
-restIs (unsubscribe h) = 2 + (withLength (propsSize unsubscribePlace (unsubscribeGiven (h .user))) + topicsSize (h .topics))
+restIs (publish h) = 2 + length (h .topic) + (identSize (h .qos) (h .ident) + (withLength (propsSize publishRow (publishGiven h)) + length (h .payload)))
+restIs (ack k h) = cond (isPlain h) 2 (3 + withLength (propsSize ackRow (ackGiven (h .text) (h .user))))
+restIs (subscribe h) = 2 + (withLength (propsSize subscribeRow (subscribeGiven h)) + filtersSize (h .filters .bytes) (h .options))
+restIs (reply k h) = 2 + (withLength (propsSize ackRow (ackGiven (h .text) (h .user))) + length (h .reasons))
+restIs (unsubscribe h) = 2 + (withLength (propsSize unsubscribeRow (unsubscribeGiven (h .user))) + topicsSize (h .topics))
 restIs (ping k) = 0
 
 -- 01, grammar: "A frame is one byte .., a variable length number R, then R bytes"

@@ -4,7 +4,7 @@ use mathlib.Core.List.{List, [], _∷_, _++_}
 use Prim.Native.Nat.{ℕ, zero, suc, _+_, _/_, _%_}
 use lib.Dec.{ltb}
 use lib.ListN.{length}
-use Rattle.grammar.specs.Tables.{Form, u8, u16, u32, number, text, bytes, pair, Place}
+use Rattle.grammar.specs.Tables.{Form, u8, u16, u32, number, text, bytes, pair, Row}
 use Rattle.grammar.specs.Record.{num, str, duo}
 use Rattle.grammar.specs.Sentence.{Value}
 use Rattle.writing.specs.Lists.{flat}
@@ -59,17 +59,17 @@ entry e = e .0 .0 ∷ value (e .0 .1) (e .1)
 abbrev pub rowBytes : ℕ × Form → Given → List ℕ
 rowBytes r g = flat entry (tag r (items g))
 
--- 01, grammar: "The writer emits the properties in the order of the table above": what fills a place's block
-unfoldable pub propsBytes : Place → Givens → List ℕ
-propsBytes place g = flat (λ r. rowBytes r (g (r .0))) (place .row)
+-- 01, grammar: "The writer emits the properties in the order of the table above": what fills a row's block
+unfoldable pub propsBytes : Row → Givens → List ℕ
+propsBytes row g = flat (λ r. rowBytes r (g (r .0))) (row .forms)
 
 -- the number of bytes, and the bytes: R and what fills a frame, L and what fills a block
 unfoldable pub counted : List ℕ → List ℕ
 counted b = short (length b) ++ b
 
 -- 01, grammar: "A property block is a variable length number L and L bytes"
-unfoldable pub block : Place → Givens → List ℕ
-block place g = counted (propsBytes place g)
+unfoldable pub block : Row → Givens → List ℕ
+block row g = counted (propsBytes row g)
 
 -- ---- filters
 

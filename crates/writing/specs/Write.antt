@@ -6,7 +6,7 @@ use mathlib.Core.List.{List, [], _∷_, _++_}
 use Prim.Native.Nat.{ℕ, _+_, _*_}
 use lib.Dec.{leb}
 use lib.ListN.{length, drop}
-use Rattle.grammar.specs.Tables.{publishPlace, subscribePlace, ackPlace, unsubscribePlace, firstOf}
+use Rattle.grammar.specs.Tables.{publishRow, subscribeRow, ackRow, unsubscribeRow, firstOf}
 use Rattle.reading.specs.Refusal.{nr}
 use Rattle.reading.specs.Reader.{Fit, got, bad, _>>_, _>>=_, guard}
 use Rattle.writing.specs.Lists.{flat}
@@ -34,11 +34,11 @@ identBytes q i = cond (noIdent q i) [] (wide 2 i)
 
 -- 01, grammar: each kind
 unfoldable pub bodyBytes : Handed → List ℕ
-bodyBytes (publish h) = string (h .topic) ++ (identBytes (h .qos) (h .ident) ++ (block publishPlace (publishGiven h) ++ h .payload))
-bodyBytes (ack k h) = wide 2 (h .ident) ++ cond (isPlain h) [] (h .reason ∷ block ackPlace (ackGiven (h .text) (h .user)))
-bodyBytes (subscribe h) = wide 2 (h .ident) ++ (block subscribePlace (subscribeGiven h) ++ flat filterBytes (filters h))
-bodyBytes (reply k h) = wide 2 (h .ident) ++ (block ackPlace (ackGiven (h .text) (h .user)) ++ h .reasons)
-bodyBytes (unsubscribe h) = wide 2 (h .ident) ++ (block unsubscribePlace (unsubscribeGiven (h .user)) ++ flat string (strings (h .topics)))
+bodyBytes (publish h) = string (h .topic) ++ (identBytes (h .qos) (h .ident) ++ (block publishRow (publishGiven h) ++ h .payload))
+bodyBytes (ack k h) = wide 2 (h .ident) ++ cond (isPlain h) [] (h .reason ∷ block ackRow (ackGiven (h .text) (h .user)))
+bodyBytes (subscribe h) = wide 2 (h .ident) ++ (block subscribeRow (subscribeGiven h) ++ flat filterBytes (filters h))
+bodyBytes (reply k h) = wide 2 (h .ident) ++ (block ackRow (ackGiven (h .text) (h .user)) ++ h .reasons)
+bodyBytes (unsubscribe h) = wide 2 (h .ident) ++ (block unsubscribeRow (unsubscribeGiven (h .user)) ++ flat string (strings (h .topics)))
 bodyBytes (ping k) = []
 
 -- 01, grammar: "A frame is one byte .., a variable length number R, then R bytes"

@@ -350,7 +350,7 @@ fn compare(count: u64, seed: u64, files: &[String]) {
     println!("no difference");
 }
 
-/// The tidy stream of a file by the model, to standard output: what the program tidy_stream has to write.
+/// The tidy stream of a file by the model, to standard output: what the program desk_tidy has to write.
 fn archive(file: &str) {
     use std::io::Write;
     let s = std::fs::read(file).unwrap();

@@ -1,6 +1,6 @@
 -- `ack_write::put_block` is right since the properties are put behind the reason. Assumes nothing.
 use borrow.Author.Needs.{needs}
-use Rattle.ack_rows.proofs.Laws.{rows-small}
+use Rattle.write_ack_properties.proofs.Laws.{rows-small}
 use denote.Ref.{now}
 use Rattle.records.specs.AsNumbers.{toldAckKind}
 use Rattle.ack_write.specs.Handed.{handed}

@@ -4,7 +4,7 @@ use native.Mathlib.Omega.{arith}
 use borrow.Author.Needs.{needs}
 use lib.Seq.{sets}
 use denote.Ref.{now}
-use Rattle.number_puts.proofs.Laws.Put.{wide-one}
+use Rattle.write_numbers.proofs.Laws.Put.{wide-one}
 use Rattle.ack_write.proofs.put_reason.Statement.{statement}
 use Rattle.ack_write.proofs.put_reason.Tie as tie
 

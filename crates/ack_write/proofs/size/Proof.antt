@@ -3,7 +3,7 @@ use mathlib.Core.Path.{_∙_}
 use borrow.Author.Needs.{needs}
 use denote.Ref.{now}
 use Rattle.writing.specs.Handed.{ack}
-use Rattle.settle.proofs.Laws.{sized-found}
+use Rattle.write_order.proofs.Laws.{sized-found}
 use Rattle.records.specs.AsNumbers.{toldAckKind}
 use Rattle.ack_write.specs.Handed.{handed}
 use Rattle.ack_write.proofs.size.Statement.{statement}

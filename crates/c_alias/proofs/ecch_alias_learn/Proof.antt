@@ -1,7 +1,7 @@
 -- `c_alias::ecch_alias_learn` is right since the topic is the part at the place, and the alias what the two numbers stand for. Assumes nothing.
 use borrow.Author.Needs.{needs}
 use mathlib.Core.Path.{ap, _∙_}
-use Rattle.layout.specs.Value.{fitNumber}
+use Rattle.c_layout.specs.Value.{fitNumber}
 use Rattle.alias.proofs.Laws.{learnt-as}
 use Rattle.c_alias.proofs.ecch_alias_learn.Statement.{statement}
 use Rattle.c_alias.proofs.ecch_alias_learn.Tie as tie

@@ -1,6 +1,6 @@
 -- `desk_summary::end` is right since its parts are put one behind the other. Assumes nothing.
 use borrow.Author.Needs.{needs}
-use Rattle.lines.proofs.Laws.{then}
+use Rattle.desk_lines.proofs.Laws.{then}
 use Rattle.desk_summary.proofs.end.Statement.{statement}
 use Rattle.desk_summary.proofs.end.Tie as tie
 

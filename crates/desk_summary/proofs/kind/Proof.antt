@@ -1,7 +1,7 @@
 -- `desk_summary::kind` is right since its parts are put one behind the other. Assumes nothing.
 use native.Mathlib.Omega.{arith}
 use borrow.Author.Needs.{needs}
-use Rattle.lines.proofs.Laws.{then}
+use Rattle.desk_lines.proofs.Laws.{then}
 use Rattle.desk_summary.proofs.kind.Statement.{statement}
 use Rattle.desk_summary.proofs.kind.Tie as tie
 

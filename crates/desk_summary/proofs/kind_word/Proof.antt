@@ -5,7 +5,7 @@ use native.Mathlib.Omega.{arith}
 use borrow.Author.Needs.{needs}
 use lib.ListN.{length}
 use Rattle.kinds.specs.Kinds.{wordOf}
-use Rattle.lines.proofs.Laws.{then, name-part}
+use Rattle.desk_lines.proofs.Laws.{then, name-part}
 use Rattle.desk_summary.proofs.Laws.{word-short}
 use Rattle.desk_summary.proofs.kind_word.Statement.{statement}
 use Rattle.desk_summary.proofs.kind_word.Tie as tie

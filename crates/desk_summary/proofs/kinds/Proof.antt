@@ -5,7 +5,7 @@ use native.Mathlib.Omega.{arith}
 use borrow.Author.Needs.{needs}
 use lib.ListN.{length}
 use denote.Ref.{now}
-use Rattle.lines.specs.Line.{PutAt}
+use Rattle.desk_lines.specs.Line.{PutAt}
 use Rattle.desk_summary.specs.Tally.{kindsTo}
 use Rattle.desk_summary.proofs.Laws.{kinds-none, kinds-next}
 use Rattle.desk_summary.proofs.kinds.Statement.{statement}

@@ -2,7 +2,7 @@
 use native.Mathlib.Omega.{arith}
 use borrow.Author.Needs.{needs}
 use borrow.Author.Tests.{ne-eqb}
-use Rattle.lines.proofs.Laws.{put-none, then}
+use Rattle.desk_lines.proofs.Laws.{put-none, then}
 use Rattle.desk_summary.proofs.pair.Statement.{statement}
 use Rattle.desk_summary.proofs.pair.Tie as tie
 

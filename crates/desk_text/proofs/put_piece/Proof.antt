@@ -1,4 +1,4 @@
--- `desk_text::put_piece` is right since the byte is put as it stands, or as `render` shows it. Assumes nothing.
+-- `desk_text::put_piece` is right since the byte is put as it stands, or as `desk_render` shows it. Assumes nothing.
 use mathlib.Core.Path.{sym, _∙_}
 use borrow.Author.Needs.{needs}
 use Rattle.desk_text.proofs.Laws.{put-byte, piece-plain, piece-stands, piece-shown}

@@ -1,12 +1,12 @@
 -- `items::is_single` meets its contract: 38 is a list at every place, 11 at that of a Publish. Assumes nothing.
 use borrow.Author.Needs.{needs}
-use Rattle.tables.specs.declared.property.PropertyPlace.the-variants.{Publish, Subscribe, Ack, Unsubscribe}
+use Rattle.tables.specs.declared.property.PropertyRow.the-variants.{Publish, Subscribe, Ack, Unsubscribe}
 use Rattle.items.proofs.Laws.{single-user, single-ident, single-other}
 use Rattle.items.proofs.is_single.Statement.{statement}
 use Rattle.items.proofs.is_single.Tie as tie
 
 returns : tie.Need-returns
-returns c = single-user (c .before .args .place) _ (c .if1 .taken)
+returns c = single-user (c .before .args .row) _ (c .if1 .taken)
 
 enum-told : tie.Need-enum-told
 enum-told c = search needs
@@ -33,7 +33,7 @@ returns-5 : tie.Need-returns-5
 returns-5 c = rw (c .enum-told4 .given .1) (single-ident Unsubscribe _ (c .before .before .if2 .taken))
 
 returns-6 : tie.Need-returns-6
-returns-6 c = single-other (c .before .before .args .place) _ (c .before .if1 .left) (c .if2 .left)
+returns-6 c = single-other (c .before .before .args .row) _ (c .before .if1 .left) (c .if2 .left)
 
 pub is-single-spec : {M : Type 1} → statement M
 is-single-spec =

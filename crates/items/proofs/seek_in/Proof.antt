@@ -3,16 +3,16 @@ use borrow.Author.Needs.{needs}
 use lib.ListN.{length}
 use native.Mathlib.Omega.{arith}
 use Prim.Native.Nat.{_-_}
-use Rattle.tables.specs.Property.{placeOf}
+use Rattle.tables.specs.Property.{tableRow}
 use Rattle.items.proofs.Laws.{Seeking, seeking-start, seeking-end, seeking-twice, seeking-bad, seeking-ahead, seeking-next}
 use Rattle.items.proofs.seek_in.Statement.{statement}
 use Rattle.items.proofs.seek_in.Tie as tie
 
 abbrev Inv-loop : tie.InvT-loop
-Inv-loop place id s start n seek₀ met₀ at₀ seek met at = Seeking (placeOf place) id s start n seek met at
+Inv-loop row id s start n seek₀ met₀ at₀ seek met at = Seeking (tableRow row) id s start n seek met at
 
 abbrev μ-loop : tie.MeasureT-loop
-μ-loop place id s start n seek₀ met₀ at₀ seek met at = length s - at
+μ-loop row id s start n seek₀ met₀ at₀ seek met at = length s - at
 
 loop-holds : tie.Need-loop-holds Inv-loop μ-loop
 loop-holds c = seeking-start _ _ _ _ _

@@ -1,7 +1,7 @@
 -- `items::subscription_identifier` is right since in the row of a Publish property 11 is a number. Assumes nothing.
 use mathlib.Core.List.{[], _∷_}
 use borrow.Author.Needs.{needs}
-use Rattle.grammar.specs.Tables.{number, publishPlace}
+use Rattle.grammar.specs.Tables.{number, publishRow}
 use Rattle.reading.specs.Place.{subscriptionAt}
 use Rattle.items.proofs.Laws.{not-other}
 use Rattle.items.proofs.subscription_identifier.Statement.{statement}
@@ -30,7 +30,7 @@ unfolding subscriptionAt
 returns-2 c = (rw (c .enum-told .given .1) at (c .before .before .nth-value .ensures)) .says
 
 returns-3 : tie.Need-returns-3
-unfolding publishPlace
+unfolding publishRow
 returns-3 c =
     let b = c .before .before in
     let r = rw (b .v .given .1) at (b .before .before .nth-value .ensures) in

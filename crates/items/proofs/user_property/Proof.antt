@@ -34,7 +34,7 @@ returns-3 : tie.Need-returns-3
 returns-3 c =
     let b = c .before .before in
     let r = rw (b .v .given .1) at (b .before .before .nth-value .ensures) in
-    absurd (not-other pair (0 ∷ 1 ∷ 2 ∷ 3 ∷ 4 ∷ 5 ∷ []) tt (b .v .given .0 .0) (user-form (b .before .before .before .before .args .place) ∙ r .formed) (c .match2 .keys2))
+    absurd (not-other pair (0 ∷ 1 ∷ 2 ∷ 3 ∷ 4 ∷ 5 ∷ []) tt (b .v .given .0 .0) (user-form (b .before .before .before .before .args .row) ∙ r .formed) (c .match2 .keys2))
 
 pub user-property-spec : {M : Type 1} → statement M
 user-property-spec =

@@ -3,8 +3,8 @@ use borrow.Author.Needs.{needs}
 use mathlib.Core.Path.{_∙_}
 use Prim.Native.Nat.{_-_}
 use lib.ListN.{length}
-use Rattle.names.specs.Names.{nameOf}
-use Rattle.lines.proofs.Laws.{name-part}
+use Rattle.refusal_names.specs.Names.{nameOf}
+use Rattle.desk_lines.proofs.Laws.{name-part}
 use Rattle.json_lines.proofs.name.Statement.{statement}
 use Rattle.json_lines.proofs.name.Tie as tie
 

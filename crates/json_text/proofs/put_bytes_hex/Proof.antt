@@ -4,7 +4,7 @@ use mathlib.Core.Path.{refl}
 use Prim.Native.Nat.{_-_}
 use native.Mathlib.Omega.{arith}
 use lib.ListN.{length}
-use Rattle.render.specs.Shown.{hexOf}
+use Rattle.desk_render.specs.Shown.{hexOf}
 use Rattle.json_text.proofs.Laws.{Putting, putting-start, putting-same, putting-full, putting-next, putting-end, past-end}
 use Rattle.json_text.proofs.put_bytes_hex.Statement.{statement}
 use Rattle.json_text.proofs.put_bytes_hex.Tie as tie

@@ -3,7 +3,7 @@ use borrow.Author.Needs.{needs}
 use mathlib.Core.Path.{refl}
 use mathlib.Core.List.{[], _∷_}
 use denote.Ref.{now}
-use Rattle.byte_puts.proofs.Laws.{sets-out}
+use Rattle.write_bytes.proofs.Laws.{sets-out}
 use Rattle.json_text.proofs.put_plain.Statement.{statement}
 use Rattle.json_text.proofs.put_plain.Tie as tie
 

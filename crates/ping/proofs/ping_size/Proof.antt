@@ -2,7 +2,7 @@
 use mathlib.Core.Path.{_∙_}
 use borrow.Author.Needs.{needs}
 use Rattle.writing.specs.Handed.{ping}
-use Rattle.settle.proofs.Laws.{sized-found}
+use Rattle.write_order.proofs.Laws.{sized-found}
 use Rattle.ping.proofs.Laws.{ping-belongs, ping-rest}
 use Rattle.ping.proofs.ping_size.Statement.{statement}
 use Rattle.ping.proofs.ping_size.Tie as tie

@@ -8,7 +8,7 @@ use denote.Ref.{now}
 use Rattle.writing.specs.Handed.{ping}
 use Rattle.records.specs.AsNumbers.{limitOf}
 use Rattle.records.specs.Answered.{toldWritten}
-use Rattle.settle.proofs.Laws.{settled-found, none-written, all-written}
+use Rattle.write_order.proofs.Laws.{settled-found, none-written, all-written}
 use Rattle.ping.proofs.Laws.{ping-found, ping-bytes}
 use Rattle.ping.proofs.write_ping.Statement.{statement}
 use Rattle.ping.proofs.write_ping.Tie as tie

@@ -16,7 +16,7 @@ use Rattle.positions.proofs.At.{sized-bad, sized-crossed, sized-at, span-at, pa
 use Rattle.positions.proofs.Behind.{Way, short, crosses, stands, way, Stands, read-stands}
 use Rattle.positions.proofs.Trails.{trails-num}
 use Rattle.positions.proofs.Position.{got-left, got-within, bad-left, left-bad}
-use Rattle.properties.specs.Block.{extentOf, Row, loopFrom, filledAt}
+use Rattle.properties.specs.Block.{extentOf, RowRecord, loopFrom, filledAt}
 use Rattle.properties.proofs.Laws.Fold.{Lawful, blockAs, loopOn, block-none, block-some}
 
 bad-inj : {A : Type 0} {k k′ : Refusal} → _≡_ {A = Fit A} (bad k) (bad k′) → k ≡ k′
@@ -92,21 +92,21 @@ module _ (s : List ℕ) (at : ℕ) where
 
   -- ---- the block there, of a row
 
-  module _ (w : Row) where
+  module _ (w : RowRecord) where
     abbrev pub blockAt : Fit (Option (w .Props) × ℕ)
-    blockAt = fromAt (blockOf asPlaces (w .place) (blockAs w) (length s)) s at
+    blockAt = fromAt (blockOf asPlaces (w .row) (blockAs w) (length s)) s at
 
     -- what has no room is no block
     pub block-bad : {k : Refusal} → bad k ≡ fromAt (extentOf (length s)) s at → bad k ≡ blockAt
     unfolding blockOf
     block-bad {k = k} e = go (way (lengthAt s at) (length s))
       where
-        go : Way (lengthAt s at) (length s) → bad k ≡ sizedAt (handFit (blockAs w) (propertiesFit asPlaces (w .place))) s at
-        go (short k′ v) = ap bad (bad-inj (e ∙ sym (room-short k′ v))) ∙ sized-short (handFit (blockAs w) (propertiesFit asPlaces (w .place))) s at k′ v
-        go (crosses l m v o) = ap bad (bad-inj (e ∙ sym (room-over l m v o))) ∙ sized-over (handFit (blockAs w) (propertiesFit asPlaces (w .place))) s at l m v o
+        go : Way (lengthAt s at) (length s) → bad k ≡ sizedAt (handFit (blockAs w) (propertiesFit asPlaces (w .row))) s at
+        go (short k′ v) = ap bad (bad-inj (e ∙ sym (room-short k′ v))) ∙ sized-short (handFit (blockAs w) (propertiesFit asPlaces (w .row))) s at k′ v
+        go (crosses l m v o) = ap bad (bad-inj (e ∙ sym (room-over l m v o))) ∙ sized-over (handFit (blockAs w) (propertiesFit asPlaces (w .row))) s at l m v o
         go (stands l m v o) = absurd (bad-got (e ∙ sym (room-within l m v o)))
 
-  module _ {w : Row} (W : Lawful w) {z : Span × ℕ} (r : got z ≡ fromAt (extentOf (length s)) s at) where
+  module _ {w : RowRecord} (W : Lawful w) {z : Span × ℕ} (r : got z ≡ fromAt (extentOf (length s)) s at) where
     h : Stands (lengthAt s at) (length s) z
     h = room-stands z r
 
@@ -116,7 +116,7 @@ module _ (s : List ℕ) (at : ℕ) where
     block-absent e =
         let i : z .0 .start + 0 ≡ z .1 = omega (arith, h .ends) in
         sym (
-        sized-within (handFit (blockAs w) (propertiesFit asPlaces (w .place))) s at (z .0 .len) (z .0 .start) (h .size) (omega (arith, h .ends, h .within))
+        sized-within (handFit (blockAs w) (propertiesFit asPlaces (w .row))) s at (z .0 .len) (z .0 .start) (h .size) (omega (arith, h .ends, h .within))
         ∙ rw (e, block-none w W (z .0 .start + 0), i)
         )
 
@@ -129,7 +129,7 @@ module _ (s : List ℕ) (at : ℕ) where
         let n : length (take (z .0 .start + z .0 .len) s) ≡ z .0 .start + z .0 .len = length-take-le (z .0 .start + z .0 .len) s o in
         let i : 0 < length (take (z .0 .len) (drop (z .0 .start) s)) = rw (length-take-le (z .0 .len) (drop (z .0 .start) s) (rw length-drop (omega arith))) pos in
         sym (
-        sized-within (handFit (blockAs w) (propertiesFit asPlaces (w .place))) s at (z .0 .len) (z .0 .start) (h .size) o
+        sized-within (handFit (blockAs w) (propertiesFit asPlaces (w .row))) s at (z .0 .len) (z .0 .start) (h .size) o
         ∙ rw (block-some w W (z .0 .start + z .0 .len) (take (z .0 .len) (drop (z .0 .start) s)) i, span-at s (z .0 .len) (z .0 .start) o, part-slice s (z .0 .len) (z .0 .start) o, h .ends, n)
         (then-end (z .0 .start + z .0 .len) (loopOn w (z .0 .start + z .0 .len) (w .made (z .0) []) [] (drop (z .0 .start) (take (z .0 .start + z .0 .len) s))))
         )

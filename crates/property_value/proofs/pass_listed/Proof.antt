@@ -38,7 +38,7 @@ returns-3 c =
 returns-4 : tie.Need-returns-4
 returns-4 c =
     let b = c .before .before in
-    past-out _ _ _ _ _ (rw (b .k .given .1) at (b .before .before .read-u8 .ensures)) (lookup-absent (publishLists .row) _ (c .match2 .rest))
+    past-out _ _ _ _ _ (rw (b .k .given .1) at (b .before .before .read-u8 .ensures)) (lookup-absent (publishLists .forms) _ (c .match2 .rest))
 
 pub pass-listed-spec : {M : Type 1} → statement M
 pass-listed-spec =

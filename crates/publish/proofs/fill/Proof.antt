@@ -7,7 +7,7 @@ use lib.ListN.{length}
 use borrow.Author.Needs.{needs}
 use Rattle.reading.specs.Reader.{got}
 use Rattle.records.specs.AsNumbers.{toldSpan}
-use Rattle.properties.specs.Block.{publishRow}
+use Rattle.properties.specs.Block.{publishRecord}
 use Rattle.publish.specs.Singles.{toldSingles}
 use Rattle.properties.proofs.Laws.Fold.{FillingBy, leftFrom, filling-start, filling-next, read-ahead, publish-lawful, filled-twice, filled-bad, filled-end}
 use Rattle.publish.proofs.BlockLaws.{filling-lists}
@@ -15,7 +15,7 @@ use Rattle.publish.proofs.fill.Statement.{statement}
 use Rattle.publish.proofs.fill.Tie as tie
 
 abbrev Inv-loop : tie.InvT-loop
-Inv-loop = FillingBy publishRow toldSingles
+Inv-loop = FillingBy publishRecord toldSingles
 
 abbrev μ-loop : tie.MeasureT-loop
 μ-loop = leftFrom
@@ -69,7 +69,7 @@ made-requires c κs = search needs
 returns-3 : tie.Need-returns-3 Inv-loop μ-loop
 returns-3 c =
     let a = c .before .before .before .before .before .before .args in
-    ap (λ (o : publishRow .Props). got (some o, length (a .s .now))) (c .made .ensures)
+    ap (λ (o : publishRecord .Props). got (some o, length (a .s .now))) (c .made .ensures)
     ∙ filled-end (toldSpan (a .block)) (c .before .before .before .before .none .ensures) (filling-lists (c .before .before .before .loop .inv) (c .before .before .pass-lists .ensures)) (c .before .if1 .taken)
 
 pub fill-spec : {M : Type 1} → statement M

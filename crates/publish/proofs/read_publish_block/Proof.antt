@@ -5,7 +5,7 @@ use native.Mathlib.Omega.{arith}
 use lib.Seq.{length-take-le}
 use borrow.Author.Needs.{needs}
 use denote.Ref.{now}
-use Rattle.properties.specs.Block.{publishRow}
+use Rattle.properties.specs.Block.{publishRecord}
 use Rattle.properties.proofs.Laws.Fold.{publish-lawful}
 use Rattle.properties.proofs.Laws.Block.{room-inside, block-bad, block-absent, block-present}
 use Rattle.publish.proofs.read_publish_block.Statement.{statement}
@@ -36,7 +36,7 @@ fill-requires c κs = search needs
 returns-2 : tie.Need-returns-2
 returns-2 c =
     let a = c .before .before .before .before .before .args in
-    block-bad (now (a .s)) (a .at) publishRow (rw (c .before .e .given .1) at (c .before .before .before .read-room .ensures))
+    block-bad (now (a .s)) (a .at) publishRecord (rw (c .before .e .given .1) at (c .before .before .before .read-room .ensures))
 
 returns-3 : tie.Need-returns-3
 returns-3 c = c .fill .ensures ∙ block-present _ _ publish-lawful (rw (c .before .before .before .before .before .block .given .1) at (c .before .before .before .before .before .before .before .read-room .ensures)) (c .before .before .if1 .left)

@@ -3,7 +3,7 @@ use mathlib.Core.Path.{_∙_}
 use borrow.Author.Needs.{needs}
 use denote.Ref.{now}
 use Rattle.writing.specs.Handed.{publish}
-use Rattle.settle.proofs.Laws.{sized-found}
+use Rattle.write_order.proofs.Laws.{sized-found}
 use Rattle.publish_plan.specs.Handed.{handed}
 use Rattle.publish_write.proofs.size.Statement.{statement}
 use Rattle.publish_write.proofs.size.Tie as tie

@@ -4,7 +4,7 @@ use denote.Ref.{now}
 use Rattle.writing.specs.Handed.{publish}
 use Rattle.records.specs.AsNumbers.{limitOf}
 use Rattle.records.specs.Answered.{toldWritten}
-use Rattle.settle.proofs.Laws.{settled-found, none-written, all-written}
+use Rattle.write_order.proofs.Laws.{settled-found, none-written, all-written}
 use Rattle.publish_plan.specs.Handed.{handed}
 use Rattle.publish_write.proofs.Laws.{put-frame, frame-fits}
 use Rattle.publish_write.proofs.Parts.{props-rows}
@@ -12,14 +12,14 @@ use borrow.Author.Needs.{needs}
 use Rattle.publish_write.proofs.write.Statement.{statement}
 use Rattle.publish_write.proofs.write.Tie as tie
 
-early-requires : tie.Need-early-requires
-early-requires c κs = search needs
+before-size-requires : tie.Need-before-size-requires
+before-size-requires c κs = search needs
 
 sizes-requires : tie.Need-sizes-requires
 sizes-requires c κs = search needs
 
-late-requires : tie.Need-late-requires
-late-requires c κs = search needs
+after-limit-requires : tie.Need-after-limit-requires
+after-limit-requires c κs = search needs
 
 settle-requires : tie.Need-settle-requires
 settle-requires c κs = search needs
@@ -37,9 +37,9 @@ lay-frame-requires c κs =
     handed (a .head) (now (a .topic)) (now (a .response-topic)) (now (a .correlation-data)) (now (a .user)) (now (a .user-lengths)) (now (a .subscription-identifiers))
     (now (a .content-type)) (now (a .payload)) in
     let f = settled-found (limitOf (a .limit)) _ (publish h) (record {
-      early = c .before .before .before .before .before .before .before .early .ensures (now (a .payload));
+      early = c .before .before .before .before .before .before .before .before-size .ensures (now (a .payload));
       rest = c .before .before .before .before .before .before .sizes .ensures .0;
-      late = c .before .before .before .before .before .late .ensures (now (a .topic)) (now (a .response-topic)) (now (a .correlation-data)) (now (a .user)) (now (a .user-lengths))
+      late = c .before .before .before .before .before .after-limit .ensures (now (a .topic)) (now (a .response-topic)) (now (a .correlation-data)) (now (a .user)) (now (a .user-lengths))
           (now (a .content-type)) (now (a .payload));
     }) in
     let g = props-rows (a .head) (now (a .topic)) (now (a .response-topic)) (now (a .correlation-data)) (now (a .user)) (now (a .user-lengths)) (now (a .subscription-identifiers))
@@ -54,9 +54,9 @@ returns c =
     handed (a .head) (now (a .topic)) (now (a .response-topic)) (now (a .correlation-data)) (now (a .user)) (now (a .user-lengths)) (now (a .subscription-identifiers))
     (now (a .content-type)) (now (a .payload)) in
     let f = settled-found (limitOf (a .limit)) _ (publish h) (record {
-      early = c .before .before .before .before .before .before .early .ensures (now (a .payload));
+      early = c .before .before .before .before .before .before .before-size .ensures (now (a .payload));
       rest = c .before .before .before .before .before .sizes .ensures .0;
-      late = c .before .before .before .before .late .ensures (now (a .topic)) (now (a .response-topic)) (now (a .correlation-data)) (now (a .user)) (now (a .user-lengths))
+      late = c .before .before .before .before .after-limit .ensures (now (a .topic)) (now (a .response-topic)) (now (a .correlation-data)) (now (a .user)) (now (a .user-lengths))
           (now (a .content-type)) (now (a .payload));
     }) in
     none-written (limitOf (a .limit)) (publish h) (now (a .out)) _ (sym (ap toldWritten (c .before .e .given .1)) ∙ c .before .before .before .settle .ensures ∙ f)
@@ -71,9 +71,9 @@ returns-2 c =
     handed (a .head) (now (a .topic)) (now (a .response-topic)) (now (a .correlation-data)) (now (a .user)) (now (a .user-lengths)) (now (a .subscription-identifiers))
     (now (a .content-type)) (now (a .payload)) in
     let f = settled-found (limitOf (a .limit)) _ (publish h) (record {
-      early = c .before .before .before .before .before .before .before .before .before .before .early .ensures (now (a .payload));
+      early = c .before .before .before .before .before .before .before .before .before .before .before-size .ensures (now (a .payload));
       rest = c .before .before .before .before .before .before .before .before .before .sizes .ensures .0;
-      late = c .before .before .before .before .before .before .before .before .late .ensures (now (a .topic)) (now (a .response-topic)) (now (a .correlation-data)) (now (a .user)) (now (a .user-lengths))
+      late = c .before .before .before .before .before .before .before .before .after-limit .ensures (now (a .topic)) (now (a .response-topic)) (now (a .correlation-data)) (now (a .user)) (now (a .user-lengths))
           (now (a .content-type)) (now (a .payload));
     }) in
     let g = props-rows (a .head) (now (a .topic)) (now (a .response-topic)) (now (a .correlation-data)) (now (a .user)) (now (a .user-lengths)) (now (a .subscription-identifiers))
@@ -87,9 +87,9 @@ pub write-spec : {M : Type 1} → statement M
 write-spec =
     tie.close
     (tie.spec
-    early-requires
+    before-size-requires
     sizes-requires
-    late-requires
+    after-limit-requires
     settle-requires
     enum-known-e
     enum-known-n

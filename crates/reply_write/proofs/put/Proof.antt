@@ -1,6 +1,6 @@
 -- `reply_write::put` is right since each field is put behind the one before it. Assumes nothing.
 use borrow.Author.Needs.{needs}
-use Rattle.ack_rows.proofs.Laws.{rows-small}
+use Rattle.write_ack_properties.proofs.Laws.{rows-small}
 use denote.Ref.{now}
 use Rattle.records.specs.AsNumbers.{toldReplyKind}
 use Rattle.reply_write.specs.Handed.{handed}

@@ -4,7 +4,7 @@ use mathlib.Core.Path.{_∙_}
 use denote.Ref.{now}
 use Rattle.records.specs.AsNumbers.{toldReplyKind}
 use Rattle.writing.specs.Handed.{reply}
-use Rattle.settle.proofs.Laws.{sized-found}
+use Rattle.write_order.proofs.Laws.{sized-found}
 use Rattle.reply_write.specs.Handed.{handed}
 use Rattle.reply_write.proofs.size.Statement.{statement}
 use Rattle.reply_write.proofs.size.Tie as tie

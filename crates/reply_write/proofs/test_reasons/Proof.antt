@@ -9,8 +9,8 @@ use denote.Ref.{now}
 use Rattle.grammar.specs.Tables.{reasonsOf}
 use Rattle.writing.specs.Order.{code}
 use Rattle.records.specs.AsNumbers.{toldReplyKind}
-use Rattle.row_tests.specs.Tested.{toldTested}
-use Rattle.row_tests.proofs.Laws.{Deciding, field-refused, field-passed, fields-done}
+use Rattle.write_tests.specs.Tested.{toldTested}
+use Rattle.write_tests.proofs.Laws.{Deciding, field-refused, field-passed, fields-done}
 use Rattle.reply_write.proofs.Laws.{reasons-cut, reasons-done}
 use Rattle.reply_write.proofs.test_reasons.Statement.{statement}
 use Rattle.reply_write.proofs.test_reasons.Tie as tie

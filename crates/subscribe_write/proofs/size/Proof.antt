@@ -3,7 +3,7 @@ use mathlib.Core.Path.{_∙_}
 use borrow.Author.Needs.{needs}
 use denote.Ref.{now}
 use Rattle.writing.specs.Handed.{subscribe}
-use Rattle.settle.proofs.Laws.{sized-found}
+use Rattle.write_order.proofs.Laws.{sized-found}
 use Rattle.subscribe_write.specs.Handed.{handed}
 use Rattle.subscribe_write.proofs.size.Statement.{statement}
 use Rattle.subscribe_write.proofs.size.Tie as tie

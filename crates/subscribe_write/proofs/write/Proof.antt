@@ -5,19 +5,19 @@ use denote.Ref.{now}
 use Rattle.writing.specs.Handed.{subscribe}
 use Rattle.records.specs.AsNumbers.{limitOf}
 use Rattle.records.specs.Answered.{toldWritten}
-use Rattle.settle.proofs.Laws.{settled-found, none-written, all-written}
+use Rattle.write_order.proofs.Laws.{settled-found, none-written, all-written}
 use Rattle.subscribe_write.specs.Handed.{handed}
 use Rattle.subscribe_write.proofs.write.Statement.{statement}
 use Rattle.subscribe_write.proofs.write.Tie as tie
 
-early-requires : tie.Need-early-requires
-early-requires c κs = search needs
+before-size-requires : tie.Need-before-size-requires
+before-size-requires c κs = search needs
 
 rest-requires : tie.Need-rest-requires
 rest-requires c κs = search needs
 
-late-requires : tie.Need-late-requires
-late-requires c κs = search needs
+after-limit-requires : tie.Need-after-limit-requires
+after-limit-requires c κs = search needs
 
 settle-requires : tie.Need-settle-requires
 settle-requires c κs = search needs
@@ -35,7 +35,7 @@ returns : tie.Need-returns
 returns c =
     let a = c .before .before .before .before .before .before .before .before .before .before .before .before .before .args in
     none-written (limitOf (a .limit)) (subscribe (handed (a .m) (now (a .user)) (now (a .user-lengths)) (now (a .filters)) (now (a .filter-lengths)) (now (a .options)))) (now (a .out)) _
-    (sym (ap toldWritten (c .before .e .given .1)) ∙ c .before .before .before .settle .ensures ∙ settled-found (limitOf (a .limit)) _ (subscribe (handed (a .m) (now (a .user)) (now (a .user-lengths)) (now (a .filters)) (now (a .filter-lengths)) (now (a .options)))) (record { early = c .before .before .before .before .before .before .early .ensures; rest = c .before .before .before .before .before .rest .ensures (now (a .filter-lengths)); late = c .before .before .before .before .late .ensures (now (a .user)) (now (a .user-lengths)) (now (a .filters)) }))
+    (sym (ap toldWritten (c .before .e .given .1)) ∙ c .before .before .before .settle .ensures ∙ settled-found (limitOf (a .limit)) _ (subscribe (handed (a .m) (now (a .user)) (now (a .user-lengths)) (now (a .filters)) (now (a .filter-lengths)) (now (a .options)))) (record { early = c .before .before .before .before .before .before .before-size .ensures; rest = c .before .before .before .before .before .rest .ensures (now (a .filter-lengths)); late = c .before .before .before .before .after-limit .ensures (now (a .user)) (now (a .user-lengths)) (now (a .filters)) }))
 
 same-length : tie.Need-same-length
 same-length c = search needs
@@ -44,15 +44,15 @@ returns-2 : tie.Need-returns-2
 returns-2 c =
     let a = c .before .before .before .before .before .before .before .before .before .before .before .before .before .before .before .before .before .args in
     all-written (limitOf (a .limit)) (subscribe (handed (a .m) (now (a .user)) (now (a .user-lengths)) (now (a .filters)) (now (a .filter-lengths)) (now (a .options)))) (now (a .out)) _
-    (sym (ap toldWritten (c .before .before .before .before .before .n .given .1)) ∙ c .before .before .before .before .before .before .before .settle .ensures ∙ settled-found (limitOf (a .limit)) _ (subscribe (handed (a .m) (now (a .user)) (now (a .user-lengths)) (now (a .filters)) (now (a .filter-lengths)) (now (a .options)))) (record { early = c .before .before .before .before .before .before .before .before .before .before .early .ensures; rest = c .before .before .before .before .before .before .before .before .before .rest .ensures (now (a .filter-lengths)); late = c .before .before .before .before .before .before .before .before .late .ensures (now (a .user)) (now (a .user-lengths)) (now (a .filters)) })) _ (c .before .before .put .ensures)
+    (sym (ap toldWritten (c .before .before .before .before .before .n .given .1)) ∙ c .before .before .before .before .before .before .before .settle .ensures ∙ settled-found (limitOf (a .limit)) _ (subscribe (handed (a .m) (now (a .user)) (now (a .user-lengths)) (now (a .filters)) (now (a .filter-lengths)) (now (a .options)))) (record { early = c .before .before .before .before .before .before .before .before .before .before .before-size .ensures; rest = c .before .before .before .before .before .before .before .before .before .rest .ensures (now (a .filter-lengths)); late = c .before .before .before .before .before .before .before .before .after-limit .ensures (now (a .user)) (now (a .user-lengths)) (now (a .filters)) })) _ (c .before .before .put .ensures)
 
 pub write-spec : {M : Type 1} → statement M
 write-spec =
     tie.close
     (tie.spec
-    early-requires
+    before-size-requires
     rest-requires
-    late-requires
+    after-limit-requires
     settle-requires
     enum-known-e
     enum-known-n

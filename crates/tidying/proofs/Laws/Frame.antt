@@ -11,7 +11,7 @@ use lib.Seq.{take-at}
 use borrow.Author.Tests.{leb-true, leb-false}
 use Rattle.grammar.specs.Choice.{lookup}
 use Rattle.grammar.specs.Octets.{Octets}
-use Rattle.grammar.specs.Tables.{Place, publishPlace, subscribePlace, ackPlace, unsubscribePlace, Layout, aPublish, anAck, aSubscribe, aReply, anUnsubscribe, aPing, kinds, firstOf}
+use Rattle.grammar.specs.Tables.{Row, publishRow, subscribeRow, ackRow, unsubscribeRow, Layout, aPublish, anAck, aSubscribe, aReply, anUnsubscribe, aPing, kinds, firstOf}
 use Rattle.grammar.specs.Record.{kindOf}
 use Rattle.grammar.specs.Sentence.{Packet, Sentence}
 use Rattle.reading.specs.Refusal.{Refusal, nr, Answer, accepted, refused, refusedAs}
@@ -26,14 +26,14 @@ use Rattle.writing.specs.Write.{frameBytes}
 use Rattle.records.specs.AsNumbers.{toldError}
 use Rattle.records.specs.declared.error.Error.{Error}
 use Rattle.kinds.specs.Kinds.{kindRow}
-use Rattle.tables.specs.Property.{placeOf}
-use Rattle.tables.specs.declared.property.PropertyPlace.{PropertyPlace}
-use Rattle.tables.specs.declared.property.PropertyPlace.the-variants as place-of
-use Rattle.tidy.specs.Tidy.{handedOf, rewrite, tidyOf}
-use Rattle.tidy.specs.Order.{AsIs, Masked, FrameLaid, shortAck}
-use Rattle.tidy.proofs.Tidy.{tidy-refused}
-use Rattle.tidy.proofs.Form.{never}
-use Rattle.tidy.proofs.Layouts.{bounds-alone, publish-frame, reply-frame, unsubscribe-frame, subscribe-frame, ping-frame, ack-frame, ack-short}
+use Rattle.tables.specs.Property.{tableRow}
+use Rattle.tables.specs.declared.property.PropertyRow.{PropertyRow}
+use Rattle.tables.specs.declared.property.PropertyRow.the-variants as place-of
+use Rattle.tidy_form.specs.Tidy.{handedOf, rewrite, tidyOf}
+use Rattle.tidy_form.specs.Order.{AsIs, Masked, FrameLaid, shortAck}
+use Rattle.tidy_form.proofs.Tidy.{tidy-refused}
+use Rattle.tidy_form.proofs.Form.{never}
+use Rattle.tidy_form.proofs.Layouts.{bounds-alone, publish-frame, reply-frame, unsubscribe-frame, subscribe-frame, ping-frame, ack-frame, ack-short}
 use Rattle.tidying.specs.Tidied.{roomFor, tidiedOf, sizeIn, standsIn, Tidies}
 use Rattle.tidying.specs.Copied.{Gives, LaidGiven, Accepted, FrameTidied}
 use Rattle.tidying.specs.Way.{ackWay, wayOf}
@@ -47,20 +47,20 @@ module _ {s : List ℕ} {start end : ℕ} (a : Accepted s start end) (o : Octets
   abbrev pub Kinded : Option Layout → Type 0
   Kinded l = l ≡ lookup kinds (kindOf (getD s 0 0))
 
-  pub publish-in : Kinded (some aPublish) → FrameLaid publishPlace AsIs (handedOf (a .packet)) (getD s 0 0) s start end
+  pub publish-in : Kinded (some aPublish) → FrameLaid publishRow AsIs (handedOf (a .packet)) (getD s 0 0) s start end
   publish-in e = publish-frame (a .packet) s (a .sentence) o start end (a .bounds) (sym e)
 
   module _ {first : ℕ} (i : first ≡ firstOf (kindOf (getD s 0 0))) where
-    pub reply-in : {rs : List ℕ} → Kinded (some (aReply rs)) → FrameLaid ackPlace AsIs (handedOf (a .packet)) first s start end
+    pub reply-in : {rs : List ℕ} → Kinded (some (aReply rs)) → FrameLaid ackRow AsIs (handedOf (a .packet)) first s start end
     reply-in {rs} e = rw i (reply-frame (a .packet) s (a .sentence) o start end (a .bounds) rs (sym e))
 
-    pub unsubscribe-in : Kinded (some anUnsubscribe) → FrameLaid unsubscribePlace AsIs (handedOf (a .packet)) first s start end
+    pub unsubscribe-in : Kinded (some anUnsubscribe) → FrameLaid unsubscribeRow AsIs (handedOf (a .packet)) first s start end
     unsubscribe-in e = rw i (unsubscribe-frame (a .packet) s (a .sentence) o start end (a .bounds) (sym e))
 
-    pub subscribe-in : Kinded (some aSubscribe) → FrameLaid subscribePlace Masked (handedOf (a .packet)) first s start end
+    pub subscribe-in : Kinded (some aSubscribe) → FrameLaid subscribeRow Masked (handedOf (a .packet)) first s start end
     subscribe-in e = rw i (subscribe-frame (a .packet) s (a .sentence) o start end (a .bounds) (sym e))
 
-    pub ack-in : {rs : List ℕ} → Kinded (some (anAck rs)) → start < end → FrameLaid ackPlace AsIs (handedOf (a .packet)) first s start end
+    pub ack-in : {rs : List ℕ} → Kinded (some (anAck rs)) → start < end → FrameLaid ackRow AsIs (handedOf (a .packet)) first s start end
     ack-in {rs} e h = rw i (ack-frame (a .packet) s (a .sentence) o start end (a .bounds) rs (sym e) h)
 
     -- an identifier stands behind the length
@@ -78,12 +78,12 @@ module _ {s : List ℕ} {start end : ℕ} (a : Accepted s start end) (o : Octets
         frame-tidied s start end before after r a o (rw f g)
 
   -- a frame with a block
-  pub laid-tidied : {place : Place} {T : List ℕ → List ℕ → Type 0} {first : ℕ} {before after : List ℕ} {r : Tidied} → FrameLaid place T (handedOf (a .packet)) first s start end
+  pub laid-tidied : {place : Row} {T : List ℕ → List ℕ → Type 0} {first : ℕ} {before after : List ℕ} {r : Tidied} → FrameLaid place T (handedOf (a .packet)) first s start end
       → LaidGiven place T first s start end before after r → FrameTidied s before after r
   laid-tidied {before = before} {after = after} {r = r} w g = frame-tidied s start end before after r a o (g (handedOf (a .packet)) w)
 
   -- its properties stand behind a byte at least
-  pub laid-start : {place : Place} {T : List ℕ → List ℕ → Type 0} {first : ℕ} → FrameLaid place T (handedOf (a .packet)) first s start end → 1 ≤ start
+  pub laid-start : {place : Row} {T : List ℕ → List ℕ → Type 0} {first : ℕ} → FrameLaid place T (handedOf (a .packet)) first s start end → 1 ≤ start
   laid-start w = omega (arith, w .starts)
 
   -- no kind that is not carried
@@ -141,17 +141,17 @@ module _ {s : List ℕ} {start end : ℕ} (a : Accepted s start end) (o : Octets
   abbrev pub Goes : Way → Type 0
   Goes w = w ≡ wayOf (lookup kinds (kindOf (getD s 0 0))) (getD s 0 0) (leb end start)
 
-  abbrev BlockLaid : PropertyPlace → ℕ → Type 0
-  BlockLaid w first = FrameLaid (placeOf w) AsIs (handedOf (a .packet)) first s start end
+  abbrev BlockLaid : PropertyRow → ℕ → Type 0
+  BlockLaid w first = FrameLaid (tableRow w) AsIs (handedOf (a .packet)) first s start end
 
-  ack-block : (w : PropertyPlace) (first : ℕ) (rs : List ℕ) (t : Bool) → leb end start ≡ t → Kinded a o (some (anAck rs)) → Way.Block w first ≡ ackWay (firstOf (kindOf (getD s 0 0))) t → BlockLaid w first
+  ack-block : (w : PropertyRow) (first : ℕ) (rs : List ℕ) (t : Bool) → leb end start ≡ t → Kinded a o (some (anAck rs)) → Way.Block w first ≡ ackWay (firstOf (kindOf (getD s 0 0))) t → BlockLaid w first
   ack-block w first rs true h k e = never (cc)
   ack-block w first rs false h k e =
       let p : w ≡ place-of.Ack = cc in
       let q : first ≡ firstOf (kindOf (getD s 0 0)) = cc in
       rw p (ack-in a o q k (leb-false end start h))
 
-  block-laid : (w : PropertyPlace) (first : ℕ) (l : Option Layout) → Kinded a o l → Way.Block w first ≡ wayOf l (getD s 0 0) (leb end start) → BlockLaid w first
+  block-laid : (w : PropertyRow) (first : ℕ) (l : Option Layout) → Kinded a o l → Way.Block w first ≡ wayOf l (getD s 0 0) (leb end start) → BlockLaid w first
   block-laid w first none k e = never (cc)
   block-laid w first (some aPublish) k e =
       let p : w ≡ place-of.Publish = cc in
@@ -170,10 +170,10 @@ module _ {s : List ℕ} {start end : ℕ} (a : Accepted s start end) (o : Octets
   block-laid w first (some aPing) k e = never (cc)
 
   -- a block of this place
-  pub way-block : {w : PropertyPlace} {first : ℕ} → Goes (Way.Block w first) → BlockLaid w first
+  pub way-block : {w : PropertyRow} {first : ℕ} → Goes (Way.Block w first) → BlockLaid w first
   way-block {w} {first} e = block-laid w first (lookup kinds (kindOf (getD s 0 0))) refl e
 
-  pub way-filters : {first : ℕ} → Goes (Way.Filters first) → FrameLaid subscribePlace Masked (handedOf (a .packet)) first s start end
+  pub way-filters : {first : ℕ} → Goes (Way.Filters first) → FrameLaid subscribeRow Masked (handedOf (a .packet)) first s start end
   way-filters {first} e = let (k, i) = filters-kind (lookup kinds (kindOf (getD s 0 0))) (getD s 0 0) first (leb end start) e in subscribe-in a o i (sym k)
 
   module _ {first : ℕ} (e : Goes (Way.Short first)) where

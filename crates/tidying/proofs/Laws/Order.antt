@@ -9,25 +9,25 @@ use lib.ListN.{length, take, drop, getD, length-append, length-drop, drop-of-len
 use lib.Seq.{sets, take-all, drop-cons, take-suc}
 use Rattle.grammar.specs.Gram.{done}
 use Rattle.grammar.specs.Octets.{nil, _&_}
-use Rattle.grammar.specs.Tables.{Place}
+use Rattle.grammar.specs.Tables.{Row}
 use Rattle.grammar.specs.Sentence.{Prop}
 use Rattle.writing.specs.Lists.{flat}
 use Rattle.writing.proofs.Each.{each-append, flat-append}
-use Rattle.row_puts.specs.Behind.{Behind}
-use Rattle.row_puts.proofs.Laws.{next-then}
-use Rattle.tables.specs.Property.{placeOf}
-use Rattle.tables.specs.declared.property.PropertyPlace.{PropertyPlace}
-use Rattle.tables.specs.declared.property.PropertyPlace.the-variants as place-of
-use Rattle.tidy.specs.Form.{propertyBytes}
-use Rattle.tidy.specs.Order.{ofId, idBytes, orderedBytes, idsOf, Runs, none-left, run}
-use Rattle.tidy.proofs.Order.{runs-ordered, rows-by-ids, exact-bytes}
-use Rattle.tidy.proofs.Layouts.{Table, publish-table, subscribe-table, ack-table, unsubscribe-table}
+use Rattle.write_properties.specs.Behind.{Behind}
+use Rattle.write_properties.proofs.Laws.{next-then}
+use Rattle.tables.specs.Property.{tableRow}
+use Rattle.tables.specs.declared.property.PropertyRow.{PropertyRow}
+use Rattle.tables.specs.declared.property.PropertyRow.the-variants as place-of
+use Rattle.tidy_form.specs.Form.{propertyBytes}
+use Rattle.tidy_form.specs.Order.{ofId, idBytes, orderedBytes, idsOf, Runs, none-left, run}
+use Rattle.tidy_form.proofs.Order.{runs-ordered, rows-by-ids, exact-bytes}
+use Rattle.tidy_form.proofs.Layouts.{Table, publish-table, subscribe-table, ack-table, unsubscribe-table}
 use Rattle.tidying.specs.Copied.{Stands, Between, Passed, RunPassed, IdPut, IdsPut, RowPut}
 use Rattle.tidying.proofs.Laws.Pass.{many-more, many-none}
 
 -- ---- where something is left, a property stands
 
-module _ (place : Place) (s : List ℕ) where
+module _ (place : Row) (s : List ℕ) where
   pub some-stands : {m : ℕ} (ps : List Prop) → m < length s → Stands place s m ps → (p : Prop) × (qs : List Prop) × (ps ≡ p ∷ qs)
   some-stands {m} [] h w = absurd (omega (arith, h, ap length (many-none w), length-drop m s))
   some-stands (p ∷ qs) h w = (p, qs, refl)
@@ -157,19 +157,19 @@ module _ (place : Place) (s : List ℕ) where
 -- ---- the order of the row
 
 -- the table of a place of the code
-pub table-of : (w : PropertyPlace) → Table (placeOf w)
+pub table-of : (w : PropertyRow) → Table (tableRow w)
 table-of place-of.Publish = publish-table
 table-of place-of.Subscribe = subscribe-table
 table-of place-of.Ack = ack-table
 table-of place-of.Unsubscribe = unsubscribe-table
 
-module _ (w : PropertyPlace) (is s : List ℕ) (start : ℕ) (before after : List ℕ) (e : is ≡ idsOf (placeOf w .row)) where
+module _ (w : PropertyRow) (is s : List ℕ) (start : ℕ) (before after : List ℕ) (e : is ≡ idsOf (tableRow w .forms)) where
   -- they stand in order, and are put as they stand
-  pub ordered-put : ((ps : List Prop) → Stands (placeOf w) s start ps → Runs is ps) → (l : List ℕ) → l ≡ drop start s → after ≡ sets before start l → RowPut (placeOf w) s start before after
+  pub ordered-put : ((ps : List Prop) → Stands (tableRow w) s start ps → Runs is ps) → (l : List ℕ) → l ≡ drop start s → after ≡ sets before start l → RowPut (tableRow w) s start before after
   ordered-put O l i j ps v =
-      let r : orderedBytes (placeOf w) ps ≡ flat (propertyBytes (placeOf w)) ps = runs-ordered (placeOf w) (placeOf w .row) (table-of w .distinct) (rw e at (O ps v)) in
-      j ∙ ap (sets before start) (i ∙ exact-bytes (placeOf w) v ∙ sym r)
+      let r : orderedBytes (tableRow w) ps ≡ flat (propertyBytes (tableRow w)) ps = runs-ordered (tableRow w) (tableRow w .forms) (table-of w .distinct) (rw e at (O ps v)) in
+      j ∙ ap (sets before start) (i ∙ exact-bytes (tableRow w) v ∙ sym r)
 
   -- they are put in order
-  pub rows-put : IdsPut (placeOf w) is s start before after → RowPut (placeOf w) s start before after
-  rows-put P ps v = P ps v ∙ ap (sets before start) (ap (flat (idBytes (placeOf w) ps)) e ∙ rows-by-ids (placeOf w) ps (placeOf w .row))
+  pub rows-put : IdsPut (tableRow w) is s start before after → RowPut (tableRow w) s start before after
+  rows-put P ps v = P ps v ∙ ap (sets before start) (ap (flat (idBytes (tableRow w) ps)) e ∙ rows-by-ids (tableRow w) ps (tableRow w .forms))

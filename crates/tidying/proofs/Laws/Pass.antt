@@ -6,7 +6,7 @@ use native.Mathlib.Omega.{arith}
 use lib.ListN.{length, take, drop, getD, length-append, length-drop, take-append-drop}
 use lib.Seq.{take-at, getD-drop, getD-append-seam}
 use Rattle.grammar.specs.Gram.{Gram, mapped, done, more, Many}
-use Rattle.grammar.specs.Tables.{Place}
+use Rattle.grammar.specs.Tables.{Row}
 use Rattle.grammar.specs.Record.{PropOf, Filter}
 use Rattle.grammar.specs.Sentence.{Prop}
 use Rattle.reading.specs.Refusal.{Refusal}
@@ -26,8 +26,8 @@ use Rattle.positions.proofs.Position.{got-left, got-within, bad-left}
 use Rattle.property_value.proofs.Laws.{property-ahead}
 use Rattle.filters.proofs.Laws.{filter-ahead}
 use Rattle.writing.specs.Spell.{string}
-use Rattle.tidy.specs.Form.{propertyBytes}
-use Rattle.tidy.specs.Order.{Exact, ExactFilter}
+use Rattle.tidy_form.specs.Form.{propertyBytes}
+use Rattle.tidy_form.specs.Order.{Exact, ExactFilter}
 use Rattle.tidying.specs.Copied.{Between, Passed, FilterBetween, FilterPassed}
 
 -- what fills the bytes l, where something does
@@ -70,7 +70,7 @@ module _ {A B : Type 0} {R : A → B → Type 0} {p : Reader A} {p′ : Reader B
 
 -- ---- a property
 
-module _ (place : Place) (s : List ℕ) (at : ℕ) where
+module _ (place : Row) (s : List ℕ) (at : ℕ) where
   pub passed-found : {a : PropOf Span} {m : ℕ} → got (a, m) ≡ fromAt (propertyOf asPlaces place (length s)) s at → Passed place s at m
   passed-found {a} {m} f = record { ahead = λ h. property-ahead place s at a m f; says = λ p ps w. let (b, c, e, k, r) = many-more w in go p ps b c e k r }
     where

@@ -12,7 +12,7 @@ use borrow.Author.Tests.{le-leb, lt-leb, leb-false}
 use Rattle.grammar.specs.Choice.{lookup}
 use Rattle.grammar.specs.Gram.{Many}
 use Rattle.grammar.specs.Octets.{nil, _&_, Octets}
-use Rattle.grammar.specs.Tables.{Place, subscribePlace, kinds}
+use Rattle.grammar.specs.Tables.{Row, subscribeRow, kinds}
 use Rattle.grammar.specs.Record.{kindOf}
 use Rattle.grammar.specs.Sentence.{Packet, Sentence}
 use Rattle.reading.specs.Refusal.{accepted}
@@ -22,13 +22,13 @@ use Rattle.writing.specs.Lists.{flat}
 use Rattle.writing.specs.Handed.{Handed}
 use Rattle.writing.specs.Spell.{string, filterBytes}
 use Rattle.writing.specs.Write.{frameBytes}
-use Rattle.byte_puts.proofs.Laws.{sets-append, sets-then}
+use Rattle.write_bytes.proofs.Laws.{sets-append, sets-then}
 use Rattle.records.specs.declared.error.Error.{Error}
-use Rattle.row_puts.specs.Behind.{Behind}
-use Rattle.tidy.specs.Tidy.{handedOf}
-use Rattle.tidy.specs.Order.{orderedBytes, Exact, ExactFilter, AsIs, Masked, FrameLaid, successIn, shortAck}
-use Rattle.tidy.proofs.Tidy.{tidy-is}
-use Rattle.tidy.proofs.Layouts.{opened}
+use Rattle.write_properties.specs.Behind.{Behind}
+use Rattle.tidy_form.specs.Tidy.{handedOf}
+use Rattle.tidy_form.specs.Order.{orderedBytes, Exact, ExactFilter, AsIs, Masked, FrameLaid, successIn, shortAck}
+use Rattle.tidy_form.proofs.Tidy.{tidy-is}
+use Rattle.tidy_form.proofs.Layouts.{opened}
 use Rattle.tidying.specs.Copied.{Stands, RowPut, FiltersStand, FilterBetween, FilterPassed, FiltersPut, FrontAt, FrontPut, Gives, LaidGiven, Accepted, FrameTidied}
 use Rattle.tidying.specs.declared.Tidied.{Tidied}
 use Rattle.tidying.proofs.Laws.Pass.{many-more, many-none}
@@ -127,7 +127,7 @@ props-stand h q t s x a k e i j =
     let z : x ∷ (h ++ (q ++ t)) ≡ (x ∷ (h ++ q)) ++ t = ap (λ (l : List ℕ). x ∷ l) (sym (append-assoc h q t)) in
     ap (drop a) (ap (take k) (e ∙ z) ∙ take-at (x ∷ (h ++ q)) t k (sym (j ∙ ap suc (sym (length-append h q))))) ∙ drop-at (x ∷ h) q a (sym i)
 
-module _ (place : Place) (first : ℕ) (s : List ℕ) (start end : ℕ) (before : List ℕ) where
+module _ (place : Row) (first : ℕ) (s : List ℕ) (start end : ℕ) (before : List ℕ) where
   pub front-put : {o₁ o₂ after l f : List ℕ} → o₁ ≡ sets before 0 (first ∷ []) → l ≡ take (start - 1) (drop 1 s) → o₂ ≡ sets o₁ 1 l → f ≡ take end (drop 0 s) → RowPut place f start o₂ after
       → FrontPut place first s start end before after
   front-put {o₁} {o₂} {after} {l} {f} e₁ i e₂ j P head list w =
@@ -180,12 +180,12 @@ module _ (place : Place) (first : ℕ) (s : List ℕ) (start end : ℕ) (before 
   laid-none r h w = gives-none (frameBytes h) (length s) before (length s) (laid-length w) r
 
 -- its filters with their options bytes
-pub masked-put : (first : ℕ) (s : List ℕ) (start end : ℕ) (before : List ℕ) {o after : List ℕ} → FrontPut subscribePlace first s start end before o → FiltersPut s end o after → length s ≤ length before
-    → LaidGiven subscribePlace Masked first s start end before after (Tidied.Put (length s) (length s))
+pub masked-put : (first : ℕ) (s : List ℕ) (start end : ℕ) (before : List ℕ) {o after : List ℕ} → FrontPut subscribeRow first s start end before o → FiltersPut s end o after → length s ≤ length before
+    → LaidGiven subscribeRow Masked first s start end before after (Tidied.Put (length s) (length s))
 masked-put first s start end before {o} {after} F P r h w =
-    let v : FiltersStand s end (w .kept .list) = subst (λ (b : List ℕ). Many ExactFilter (w .kept .list) b) (sym (tail-at subscribePlace first s start end before w)) (w .kept .exact) in
-    gives-put (frameBytes h) (length s) before after (length s) (laid-length subscribePlace first s start end before w) r
-    (all-put subscribePlace first s start end before w F (P (w .kept .list) v ∙ ap (sets o end) (sym (w .kept .bytes))))
+    let v : FiltersStand s end (w .kept .list) = subst (λ (b : List ℕ). Many ExactFilter (w .kept .list) b) (sym (tail-at subscribeRow first s start end before w)) (w .kept .exact) in
+    gives-put (frameBytes h) (length s) before after (length s) (laid-length subscribeRow first s start end before w) r
+    (all-put subscribeRow first s start end before w F (P (w .kept .list) v ∙ ap (sets o end) (sym (w .kept .bytes))))
 
 -- ---- acknowledgements with no properties
 

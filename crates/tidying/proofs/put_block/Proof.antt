@@ -1,6 +1,6 @@
 -- `tidying::put_block` is right since each place has its row of the table. Assumes nothing.
 use borrow.Author.Needs.{needs}
-use Rattle.grammar.specs.Tables.{publishPlace, subscribePlace, ackPlace, unsubscribePlace}
+use Rattle.grammar.specs.Tables.{publishRow, subscribeRow, ackRow, unsubscribeRow}
 use Rattle.tidying.proofs.put_block.Statement.{statement}
 use Rattle.tidying.proofs.put_block.Tie as tie
 
@@ -11,7 +11,7 @@ slice-aggregate-put-ordered : tie.Need-slice-aggregate-put-ordered
 slice-aggregate-put-ordered c = search needs
 
 put-ordered-requires : tie.Need-put-ordered-requires
-unfolding publishPlace
+unfolding publishRow
 put-ordered-requires c κs = rw (c .before .before .enum-told .given .1)
 
 enum-told-2 : tie.Need-enum-told-2
@@ -21,7 +21,7 @@ slice-aggregate-put-ordered-2 : tie.Need-slice-aggregate-put-ordered-2
 slice-aggregate-put-ordered-2 c = search needs
 
 put-ordered-requires-2 : tie.Need-put-ordered-requires-2
-unfolding subscribePlace
+unfolding subscribeRow
 put-ordered-requires-2 c κs = rw (c .before .before .enum-told2 .given .1)
 
 enum-told-3 : tie.Need-enum-told-3
@@ -31,7 +31,7 @@ slice-aggregate-put-ordered-3 : tie.Need-slice-aggregate-put-ordered-3
 slice-aggregate-put-ordered-3 c = search needs
 
 put-ordered-requires-3 : tie.Need-put-ordered-requires-3
-unfolding ackPlace
+unfolding ackRow
 put-ordered-requires-3 c κs = rw (c .before .before .enum-told3 .given .1)
 
 enum-told-4 : tie.Need-enum-told-4
@@ -41,7 +41,7 @@ slice-aggregate-put-ordered-4 : tie.Need-slice-aggregate-put-ordered-4
 slice-aggregate-put-ordered-4 c = search needs
 
 put-ordered-requires-4 : tie.Need-put-ordered-requires-4
-unfolding unsubscribePlace
+unfolding unsubscribeRow
 put-ordered-requires-4 c κs = rw (c .before .before .enum-told4 .given .1)
 
 same-length : tie.Need-same-length

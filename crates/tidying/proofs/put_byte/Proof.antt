@@ -3,7 +3,7 @@ use borrow.Author.Needs.{needs}
 use native.Mathlib.Omega.{arith}
 use denote.Ref.{now}
 use mathlib.Core.List.{[], _∷_}
-use Rattle.byte_puts.proofs.Laws.{sets-out}
+use Rattle.write_bytes.proofs.Laws.{sets-out}
 use Rattle.tidying.proofs.put_byte.Statement.{statement}
 use Rattle.tidying.proofs.put_byte.Tie as tie
 

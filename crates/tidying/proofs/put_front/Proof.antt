@@ -1,7 +1,7 @@
 -- `tidying::put_front` is right since each put goes on where the one before it ended. Assumes nothing.
 use borrow.Author.Needs.{needs}
 use denote.Ref.{now}
-use Rattle.tables.specs.Property.{placeOf}
+use Rattle.tables.specs.Property.{tableRow}
 use Rattle.tidying.proofs.Laws.Put.{front-put}
 use Rattle.tidying.proofs.put_front.Statement.{statement}
 use Rattle.tidying.proofs.put_front.Tie as tie
@@ -28,7 +28,7 @@ same-length : tie.Need-same-length
 same-length c = search needs
 
 returns : tie.Need-returns
-returns c = front-put (placeOf (c .before .before .before .before .before .before .before .before .before .before .before .before .before .before .before .before .args .place)) (c .before .before .before .before .before .before .before .before .before .before .before .before .before .before .before .before .args .first) (now (c .before .before .before .before .before .before .before .before .before .before .before .before .before .before .before .before .args .s)) (c .before .before .before .before .before .before .before .before .before .before .before .before .before .before .before .before .args .start) (c .before .before .before .before .before .before .before .before .before .before .before .before .before .before .before .before .args .end) (now (c .before .before .before .before .before .before .before .before .before .before .before .before .before .before .before .before .args .out)) (c .before .before .before .before .before .before .before .before .before .before .before .before .put-byte .ensures) (c .before .before .before .before .before .before .before .before .piece .ensures .bytes) (c .before .before .before .before .before .before .before .put-bytes .ensures) (c .before .before .before .before .piece2 .ensures .bytes) (c .before .before .put-block .ensures)
+returns c = front-put (tableRow (c .before .before .before .before .before .before .before .before .before .before .before .before .before .before .before .before .args .place)) (c .before .before .before .before .before .before .before .before .before .before .before .before .before .before .before .before .args .first) (now (c .before .before .before .before .before .before .before .before .before .before .before .before .before .before .before .before .args .s)) (c .before .before .before .before .before .before .before .before .before .before .before .before .before .before .before .before .args .start) (c .before .before .before .before .before .before .before .before .before .before .before .before .before .before .before .before .args .end) (now (c .before .before .before .before .before .before .before .before .before .before .before .before .before .before .before .before .args .out)) (c .before .before .before .before .before .before .before .before .before .before .before .before .put-byte .ensures) (c .before .before .before .before .before .before .before .before .piece .ensures .bytes) (c .before .before .before .before .before .before .before .put-bytes .ensures) (c .before .before .before .before .piece2 .ensures .bytes) (c .before .before .put-block .ensures)
 
 pub put-front-spec : {M : Type 1} → statement M
 put-front-spec =

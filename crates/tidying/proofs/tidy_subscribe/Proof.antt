@@ -2,13 +2,13 @@
 use borrow.Author.Needs.{needs}
 use native.Mathlib.Omega.{arith}
 use denote.Ref.{now}
-use Rattle.grammar.specs.Tables.{subscribePlace}
+use Rattle.grammar.specs.Tables.{subscribeRow}
 use Rattle.tidying.proofs.Laws.Put.{laid-none, masked-put}
 use Rattle.tidying.proofs.tidy_subscribe.Statement.{statement}
 use Rattle.tidying.proofs.tidy_subscribe.Tie as tie
 
 returns : tie.Need-returns
-returns c = laid-none subscribePlace (c .before .before .before .args .first) (now (c .before .before .before .args .s)) (c .before .before .before .args .start) (c .before .before .before .args .end) (now (c .before .before .before .args .out)) (omega arith)
+returns c = laid-none subscribeRow (c .before .before .before .args .first) (now (c .before .before .before .args .s)) (c .before .before .before .args .start) (c .before .before .before .args .end) (now (c .before .before .before .args .out)) (omega arith)
 
 put-front-requires : tie.Need-put-front-requires
 put-front-requires c κs = search needs

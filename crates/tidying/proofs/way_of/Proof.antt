@@ -2,7 +2,7 @@
 use mathlib.Core.Path.{sym, ap, _∙_}
 use Prim.Native.Nat.{ℕ}
 use borrow.Author.Needs.{needs}
-use Rattle.tables.specs.declared.property.PropertyPlace.the-variants as place-of
+use Rattle.tables.specs.declared.property.PropertyRow.the-variants as place-of
 use Rattle.tidying.proofs.Laws.Frame.{way-as}
 use Rattle.tidying.specs.Way.{ackWay}
 use Rattle.tidying.specs.declared.Way.{Way}

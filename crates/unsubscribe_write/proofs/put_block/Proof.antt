@@ -1,7 +1,7 @@
 -- `unsubscribe_write::put_block` is right since the user properties are put behind L. Assumes nothing.
 use borrow.Author.Needs.{needs}
 use denote.Ref.{now}
-use Rattle.rows.specs.Given.{run}
+use Rattle.write_runs.specs.Given.{run}
 use Rattle.unsubscribe_write.proofs.Laws.{put-rows}
 use Rattle.unsubscribe_write.proofs.put_block.Statement.{statement}
 use Rattle.unsubscribe_write.proofs.put_block.Tie as tie

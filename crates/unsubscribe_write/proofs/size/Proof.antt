@@ -3,7 +3,7 @@ use borrow.Author.Needs.{needs}
 use mathlib.Core.Path.{_∙_}
 use denote.Ref.{now}
 use Rattle.writing.specs.Handed.{unsubscribe}
-use Rattle.settle.proofs.Laws.{sized-found}
+use Rattle.write_order.proofs.Laws.{sized-found}
 use Rattle.unsubscribe_write.specs.Handed.{handed}
 use Rattle.unsubscribe_write.proofs.size.Statement.{statement}
 use Rattle.unsubscribe_write.proofs.size.Tie as tie

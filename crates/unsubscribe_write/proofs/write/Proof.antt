@@ -5,14 +5,14 @@ use denote.Ref.{now}
 use Rattle.writing.specs.Handed.{unsubscribe}
 use Rattle.records.specs.AsNumbers.{limitOf}
 use Rattle.records.specs.Answered.{toldWritten}
-use Rattle.settle.proofs.Laws.{settled-found, none-written, all-written}
+use Rattle.write_order.proofs.Laws.{settled-found, none-written, all-written}
 use Rattle.unsubscribe_write.specs.Handed.{handed}
-use Rattle.unsubscribe_write.proofs.Laws.{late-all}
+use Rattle.unsubscribe_write.proofs.Laws.{after-limit-all}
 use Rattle.unsubscribe_write.proofs.write.Statement.{statement}
 use Rattle.unsubscribe_write.proofs.write.Tie as tie
 
-early-requires : tie.Need-early-requires
-early-requires c κs = search needs
+before-size-requires : tie.Need-before-size-requires
+before-size-requires c κs = search needs
 
 rest-requires : tie.Need-rest-requires
 rest-requires c κs = search needs
@@ -36,7 +36,7 @@ returns : tie.Need-returns
 returns c =
     let a = c .before .before .before .before .before .before .before .before .before .before .before .before .args in
     none-written (limitOf (a .limit)) (unsubscribe (handed (a .m) (now (a .user)) (now (a .user-lengths)) (now (a .topics)) (now (a .topic-lengths)))) (now (a .out)) _
-    (sym (ap toldWritten (c .before .e .given .1)) ∙ c .before .before .before .settle .ensures ∙ settled-found (limitOf (a .limit)) _ (unsubscribe (handed (a .m) (now (a .user)) (now (a .user-lengths)) (now (a .topics)) (now (a .topic-lengths)))) (record { early = c .before .before .before .before .before .before .early .ensures; rest = c .before .before .before .before .before .rest .ensures; late = late-all (handed (a .m) (now (a .user)) (now (a .user-lengths)) (now (a .topics)) (now (a .topic-lengths))) (c .before .before .before .before .test-asked .ensures (now (a .topics))) }))
+    (sym (ap toldWritten (c .before .e .given .1)) ∙ c .before .before .before .settle .ensures ∙ settled-found (limitOf (a .limit)) _ (unsubscribe (handed (a .m) (now (a .user)) (now (a .user-lengths)) (now (a .topics)) (now (a .topic-lengths)))) (record { early = c .before .before .before .before .before .before .before-size .ensures; rest = c .before .before .before .before .before .rest .ensures; late = after-limit-all (handed (a .m) (now (a .user)) (now (a .user-lengths)) (now (a .topics)) (now (a .topic-lengths))) (c .before .before .before .before .test-asked .ensures (now (a .topics))) }))
 
 same-length : tie.Need-same-length
 same-length c = search needs
@@ -45,13 +45,13 @@ returns-2 : tie.Need-returns-2
 returns-2 c =
     let a = c .before .before .before .before .before .before .before .before .before .before .before .before .before .before .before .before .args in
     all-written (limitOf (a .limit)) (unsubscribe (handed (a .m) (now (a .user)) (now (a .user-lengths)) (now (a .topics)) (now (a .topic-lengths)))) (now (a .out)) _
-    (sym (ap toldWritten (c .before .before .before .before .before .n .given .1)) ∙ c .before .before .before .before .before .before .before .settle .ensures ∙ settled-found (limitOf (a .limit)) _ (unsubscribe (handed (a .m) (now (a .user)) (now (a .user-lengths)) (now (a .topics)) (now (a .topic-lengths)))) (record { early = c .before .before .before .before .before .before .before .before .before .before .early .ensures; rest = c .before .before .before .before .before .before .before .before .before .rest .ensures; late = late-all (handed (a .m) (now (a .user)) (now (a .user-lengths)) (now (a .topics)) (now (a .topic-lengths))) (c .before .before .before .before .before .before .before .before .test-asked .ensures (now (a .topics))) })) _ (c .before .before .put .ensures)
+    (sym (ap toldWritten (c .before .before .before .before .before .n .given .1)) ∙ c .before .before .before .before .before .before .before .settle .ensures ∙ settled-found (limitOf (a .limit)) _ (unsubscribe (handed (a .m) (now (a .user)) (now (a .user-lengths)) (now (a .topics)) (now (a .topic-lengths)))) (record { early = c .before .before .before .before .before .before .before .before .before .before .before-size .ensures; rest = c .before .before .before .before .before .before .before .before .before .rest .ensures; late = after-limit-all (handed (a .m) (now (a .user)) (now (a .user-lengths)) (now (a .topics)) (now (a .topic-lengths))) (c .before .before .before .before .before .before .before .before .test-asked .ensures (now (a .topics))) })) _ (c .before .before .put .ensures)
 
 pub write-spec : {M : Type 1} → statement M
 write-spec =
     tie.close
     (tie.spec
-    early-requires
+    before-size-requires
     rest-requires
     test-asked-requires
     settle-requires

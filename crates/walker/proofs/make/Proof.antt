@@ -47,8 +47,8 @@ use Rattle.walker.proofs.Walker as T
 use Rattle.walker.proofs.Walker.Laws as T′
 use Rattle.walker.proofs.Block as N
 use Rattle.walker.proofs.Block.Laws as N′
-use Rattle.tables.proofs.property.PropertyPlace as P
-use Rattle.tables.proofs.property.PropertyPlace.Laws as P′
+use Rattle.tables.proofs.property.PropertyRow as P
+use Rattle.tables.proofs.property.PropertyRow.Laws as P′
 use Rattle.walker.proofs.begin_at as begin
 use Rattle.walker.proofs.begin_at.Symbol as begin-def
 use Rattle.walker.proofs.begin_at.Symbol.{name as #walker·begin-at}
@@ -75,13 +75,13 @@ module _ {M : Type 1} (𝓤 : URA M) (H : Heap 𝓤) (A : Atoms 𝓤) (W : Given
 
   -- the struct made of what `begin_at` gave
   abbrev made : Block → Walker
-  made r = record { frame = s; at = r .at; end = r .end; place = r .place }
+  made r = record { frame = s; at = r .at; end = r .end; which = r .which }
 
   abbrev mach : Block → Val
   mach r = LL.val (T.the-type α) (T′.the-laws α) (made r)
 
   abbrev found : Block → Type 0
-  found r = Begins (now s) (r .at) (r .end) (r .place)
+  found r = Begins (now s) (r .at) (r .end) (r .which)
 
   abbrev Post : Val → SProp 𝓤
   Post = walkOf 𝓤 H A make.ended stayed (make.clauses 𝓤 H A mem run) .post (((κ, tt), (q, tt), tt, (s, tt), (v ∷ [], tt)), tt)
@@ -110,7 +110,7 @@ module _ {M : Type 1} (𝓤 : URA M) (H : Heap 𝓤) (A : Atoms 𝓤) (W : Given
     end-fits : r .end < 2 ^ 64
     end-fits = LL.owed N.the-type N′.the-laws r _ is .1 .0 .1
 
-    shown : Is P.the-row (r .place) (EL.val P.the-type P′.the-laws (r .place) ∷ [])
+    shown : Is P.the-row (r .which) (EL.val P.the-type P′.the-laws (r .which) ∷ [])
     shown = LL.owed N.the-type N′.the-laws r _ is .1 .1 .0
 
     exits : found r → ent 𝓤 (⋆ 𝓤 H A ((‵ (flft κ q) ⊛ ‵ ftrue) ∷ ‵ Own ∷ [])) (Post (mach r))
@@ -119,9 +119,9 @@ module _ {M : Type 1} (𝓤 : URA M) (H : Heap 𝓤) (A : Atoms 𝓤) (W : Given
         suffices ! _ (ends-at 𝓤 H A make.ended stayed (make.clauses 𝓤 H A mem run) W (((κ, tt), (q, tt), tt, (s, tt), (v ∷ [], tt)), tt) (mach r) (made r) (tt, tt) (tt, tt)) $ says ! (refl, e) $
         frame ! $ use1 W (‵ Own ⊛ ‵ Own) (shr-slice-copy 𝓤 H A W (named 0) κ u8 .twice s (v ∷ [])) $ split ! $ nothing ! $ move ! (1 ∷ 0 ∷ []) $ fjoin ! $ frame ! $
         -- [what the slice owns]: what the fields own together, of it and of the others' facts, is what the struct owns
-        nothing ! $ owned ! P.the-row (Is P.the-row) (EL.makes P.the-type P′.the-plain 𝓤 H A) (r .place) _ shown $ fjoin ! $
+        nothing ! $ owned ! P.the-row (Is P.the-row) (EL.makes P.the-type P′.the-plain 𝓤 H A) (r .which) _ shown $ fjoin ! $
         owned ! usize (Is usize) (uint-makes 𝓤 H A W w64) (r .end) _ (refl, end-fits) $ fjoin ! $ owned ! usize (Is usize) (uint-makes 𝓤 H A W w64) (r .at) _ (refl, at-fits) $ fjoin ! $
-        move ! (1 ∷ 0 ∷ []) $ fjoin ! $ by ! (own-shut 𝓤 H A W (T.the-type α) (T′.the-laws α) (s, (r .at, (r .end, (r .place, tt)))))
+        move ! (1 ∷ 0 ∷ []) $ fjoin ! $ by ! (own-shut 𝓤 H A W (T.the-type α) (T′.the-laws α) (s, (r .at, (r .end, (r .which, tt)))))
 
   module _ (C : Calls 𝓤 H) (Λ : Loops 𝓤 H) (fm : FmC 𝓤 H (W .laws) C) (known : Triple 𝓤 (C #walker·begin-at) (BeginAt 𝓤 H A mem run)) where
     walk : Is (ShrSlice (named 0) κ u8) s (v ∷ []) → ent 𝓤 (onEntry 𝓤 H A make.signature (κ, tt) (q, tt) (s, tt) (v ∷ [], tt)) (WpFn 𝓤 H C Λ code.function (v ∷ []) Post)

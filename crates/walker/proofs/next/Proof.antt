@@ -53,8 +53,8 @@ use Rattle.walker.proofs.Step as S
 use Rattle.walker.proofs.Step.Laws as S′
 use Rattle.records.proofs.answer.UserItem as I
 use Rattle.records.proofs.answer.UserItem.Laws as I′
-use Rattle.tables.proofs.property.PropertyPlace as P
-use Rattle.tables.proofs.property.PropertyPlace.Laws as P′
+use Rattle.tables.proofs.property.PropertyRow as P
+use Rattle.tables.proofs.property.PropertyRow.Laws as P′
 use Rattle.walker.proofs.step_at as step
 use Rattle.walker.proofs.step_at.Symbol as step-def
 use Rattle.walker.proofs.step_at.Symbol.{name as #walker·step-at}
@@ -91,7 +91,7 @@ module _ {M : Type 1} (𝓤 : URA M) (H : Heap 𝓤) (A : Atoms 𝓤) (W : Given
 
   -- the struct with another number, and its machine value
   abbrev moved : ℕ → Walker
-  moved n = record { frame = h .frame; at = n; end = h .end; place = h .place }
+  moved n = record { frame = h .frame; at = n; end = h .end; which = h .which }
 
   abbrev mach : Walker → Val
   mach d = LL.val (T.the-type α) (T′.the-laws α) d
@@ -107,17 +107,17 @@ module _ {M : Type 1} (𝓤 : URA M) (H : Heap 𝓤) (A : Atoms 𝓤) (W : Given
   s = sliceVal (h .frame .ptr) (length (h .frame .now))
 
   abbrev p : Val
-  p = EL.val P.the-type P′.the-laws (h .place)
+  p = EL.val P.the-type P′.the-laws (h .which)
 
   abbrev found : Step → Type 0
-  found t = Goes (h .place) (now (h .frame)) (h .end) (h .at) (t .item) (t .at)
+  found t = Goes (h .which) (now (h .frame)) (h .end) (h .at) (t .item) (t .at)
 
   -- what the callee is passed
   abbrev passed : Vals step.signature (κ′, tt)
   passed = (s ∷ [], (vint w64 (h .at) ∷ [], (vint w64 (h .end) ∷ [], (p ∷ [], tt))))
 
   abbrev given-step : RefT (List ℕ) × (ℕ × (ℕ × (P.the-row .Denot × Unit {0})))
-  given-step = (h .frame, (h .at, (h .end, (h .place, tt))))
+  given-step = (h .frame, (h .at, (h .end, (h .which, tt))))
 
   abbrev to : StepAt 𝓤 H A at-mem run .Ghost
   to = (((κ′, tt), (q′, tt), tt, given-step, passed), tt)
@@ -149,7 +149,7 @@ module _ {M : Type 1} (𝓤 : URA M) (H : Heap 𝓤) (A : Atoms 𝓤) (W : Given
 
   -- the place's machine value is of the place's type
   placed : Is R h (mach h ∷ []) → Holds (hasTy P′.mir p) × WT p
-  placed g = EL.lawful P.the-type P′.the-laws 𝓤 H A W tt .typed (h .place) _ (LL.owed (T.the-type α) (T′.the-laws α) h _ g .1 .1 .1 .0) .0
+  placed g = EL.lawful P.the-type P′.the-laws 𝓤 H A W tt .typed (h .which) _ (LL.owed (T.the-type α) (T′.the-laws α) h _ g .1 .1 .1 .0) .0
 
   -- what is known of the callee's answer
   fits : (t : Step) (u : Val) → Is S.the-row t (u ∷ []) → t .at < 2 ^ 64

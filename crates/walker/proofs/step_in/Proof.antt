@@ -3,17 +3,17 @@ use borrow.Author.Needs.{needs}
 use lib.ListN.{length}
 use native.Mathlib.Omega.{arith}
 use Prim.Native.Nat.{_-_}
-use Rattle.tables.specs.Property.{placeOf}
+use Rattle.tables.specs.Property.{tableRow}
 use Rattle.items.proofs.Laws.{user-form}
 use Rattle.walker.proofs.Laws.{Behind, behind-start, behind-ahead, behind-other, next-here, next-bad, next-end}
 use Rattle.walker.proofs.step_in.Statement.{statement}
 use Rattle.walker.proofs.step_in.Tie as tie
 
 abbrev Inv-loop : tie.InvT-loop
-Inv-loop s at place i₀ i = Behind (placeOf place) s at i
+Inv-loop s at which i₀ i = Behind (tableRow which) s at i
 
 abbrev μ-loop : tie.MeasureT-loop
-μ-loop s at place i₀ i = length s - i
+μ-loop s at which i₀ i = length s - i
 
 loop-holds : tie.Need-loop-holds Inv-loop μ-loop
 loop-holds c = behind-start
@@ -38,7 +38,7 @@ user-item-requires c κs = search needs
 returns-2 : tie.Need-returns-2 Inv-loop μ-loop
 returns-2 c =
     let b = c .before .before .before in
-    next-here (b .before .before .before .before .loop .inv) (rw (b .k .given .1) at (b .before .before .read-property .ensures)) (c .before .if1 .taken) (user-form (b .before .before .before .before .before .before .args .place)) (c .user-item .ensures)
+    next-here (b .before .before .before .before .loop .inv) (rw (b .k .given .1) at (b .before .before .read-property .ensures)) (c .before .if1 .taken) (user-form (b .before .before .before .before .before .before .args .which)) (c .user-item .ensures)
 
 loop-less : tie.Need-loop-less Inv-loop μ-loop
 loop-less c =

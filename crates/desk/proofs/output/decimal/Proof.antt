@@ -1,7 +1,7 @@
 -- `desk::output::decimal` is right as `word` is. Assumes nothing.
 use borrow.Author.Needs.{needs}
 use denote.Ref.{now}
-use Rattle.render.specs.Shown.{decimalOf}
+use Rattle.desk_render.specs.Shown.{decimalOf}
 use Rattle.desk.proofs.Laws.{put-counted}
 use Rattle.desk.proofs.output.decimal.Statement.{statement}
 use Rattle.desk.proofs.output.decimal.Tie as tie

@@ -1,7 +1,7 @@
 -- `desk::output::hex` is right as `word` is. Assumes nothing.
 use borrow.Author.Needs.{needs}
 use denote.Ref.{now}
-use Rattle.render.specs.Shown.{hexOf}
+use Rattle.desk_render.specs.Shown.{hexOf}
 use Rattle.desk.proofs.Laws.{put-whole}
 use Rattle.desk.proofs.output.hex.Statement.{statement}
 use Rattle.desk.proofs.output.hex.Tie as tie

@@ -38,28 +38,28 @@ returns-3 : tie.Need-returns-3
 returns-3 c =
     let e = c .before .before .v .given .1 in
     let b = c .before .before .before .before in
-    rw (ne-eqb (b .args .k) 31 (c .if1 .left), plain-is (b .args .k) e (otherOf (b .args .place)) (b .pre))
+    rw (ne-eqb (b .args .k) 31 (c .if1 .left), plain-is (b .args .k) e (otherOf (b .args .row)) (b .pre))
 
 returns-4 : tie.Need-returns-4
 returns-4 c =
     let e = c .before .before .v2 .given .1 in
     let b = c .before .before .before .before in
-    rw (plain-is (b .args .k) e (otherOf (b .args .place)) (b .pre), ne-eqb (b .args .k) 11 (c .if2 .left))
+    rw (plain-is (b .args .k) e (otherOf (b .args .row)) (b .pre), ne-eqb (b .args .k) 11 (c .if2 .left))
 
 returns-5 : tie.Need-returns-5
-returns-5 c = let (p, q) = plain-is (c .before .before .args .k) (c .enum-told .given .1) (otherOf (c .before .before .args .place)) (c .before .before .pre) in rw (p, q)
+returns-5 c = let (p, q) = plain-is (c .before .before .args .k) (c .enum-told .given .1) (otherOf (c .before .before .args .row)) (c .before .before .pre) in rw (p, q)
 
 returns-6 : tie.Need-returns-6
-returns-6 c = let (p, q) = plain-is (c .before .before .args .k) (c .enum-told2 .given .1) (otherOf (c .before .before .args .place)) (c .before .before .pre) in rw (p, q)
+returns-6 c = let (p, q) = plain-is (c .before .before .args .k) (c .enum-told2 .given .1) (otherOf (c .before .before .args .row)) (c .before .before .pre) in rw (p, q)
 
 returns-7 : tie.Need-returns-7
-returns-7 c = let (p, q) = plain-is (c .before .before .args .k) (c .enum-told3 .given .1) (otherOf (c .before .before .args .place)) (c .before .before .pre) in rw (p, q)
+returns-7 c = let (p, q) = plain-is (c .before .before .args .k) (c .enum-told3 .given .1) (otherOf (c .before .before .args .row)) (c .before .before .pre) in rw (p, q)
 
 returns-8 : tie.Need-returns-8
-returns-8 c = let (p, q) = plain-is (c .before .before .args .k) (c .enum-told4 .given .1) (otherOf (c .before .before .args .place)) (c .before .before .pre) in rw (p, q)
+returns-8 c = let (p, q) = plain-is (c .before .before .args .k) (c .enum-told4 .given .1) (otherOf (c .before .before .args .row)) (c .before .before .pre) in rw (p, q)
 
 returns-9 : tie.Need-returns-9
-returns-9 c = let (p, q) = plain-is (c .before .before .args .k) (c .enum-told5 .given .1) (otherOf (c .before .before .args .place)) (c .before .before .pre) in rw (p, q)
+returns-9 c = let (p, q) = plain-is (c .before .before .args .k) (c .enum-told5 .given .1) (otherOf (c .before .before .args .row)) (c .before .before .pre) in rw (p, q)
 
 pub apply-spec : {M : Type 1} → statement M
 apply-spec =

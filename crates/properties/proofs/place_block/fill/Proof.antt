@@ -5,21 +5,21 @@ use native.Mathlib.Omega.{arith}
 use borrow.Author.Needs.{needs}
 use Rattle.grammar.specs.Record.{lastOf, propsOf}
 use Rattle.records.specs.Said.{toldProperties}
-use Rattle.tables.specs.Property.{placeOf, otherOf}
+use Rattle.tables.specs.Property.{tableRow, otherOf}
 use Rattle.properties.specs.Block.{propsRow}
 use Rattle.properties.proofs.Laws.Fold.{FillingBy, leftFrom, filling-start, props-lawful, filling-next, read-ahead, filled-twice, filled-bad, filled-end}
 use Rattle.properties.proofs.place_block.fill.Statement.{statement}
 use Rattle.properties.proofs.place_block.fill.Tie as tie
 
 abbrev Inv-loop : tie.InvT-loop
-Inv-loop place = FillingBy (propsRow (placeOf (otherOf place))) toldProperties
+Inv-loop row = FillingBy (propsRow (tableRow (otherOf row))) toldProperties
 
 abbrev μ-loop : tie.MeasureT-loop
-μ-loop place = leftFrom
+μ-loop row = leftFrom
 
 loop-holds : tie.Need-loop-holds Inv-loop μ-loop
 unfolding propsOf lastOf
-loop-holds c = filling-start (props-lawful (c .before .args .place)) _ _ _ _ refl
+loop-holds c = filling-start (props-lawful (c .before .args .row)) _ _ _ _ refl
 
 shared-slice-read-first : tie.Need-shared-slice-read-first Inv-loop μ-loop
 shared-slice-read-first c = search needs
@@ -51,7 +51,7 @@ loop-again c =
     let b = c .before .before .before .before in
     let d = b .before .before .before .before .before in
     filling-next (d .before .loop .inv) (d .loop-test .taken) (sym (b .before .before .before .has .ensures) ∙ b .before .before .if1 .left)
-    (props-lawful (d .before .before .before .args .place)) (rw (b .before .as-place .ensures) at (b .read-property .ensures)) (c .before .before .k .given .1) (c .apply .ensures)
+    (props-lawful (d .before .before .before .args .row)) (rw (b .before .as-place .ensures) at (b .read-property .ensures)) (c .before .before .k .given .1) (c .apply .ensures)
 
 enum-known-e : tie.Need-enum-known-e Inv-loop μ-loop
 enum-known-e c = search needs

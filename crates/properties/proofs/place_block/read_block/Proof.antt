@@ -5,7 +5,7 @@ use native.Mathlib.Omega.{arith}
 use lib.Seq.{length-take-le}
 use borrow.Author.Needs.{needs}
 use denote.Ref.{now}
-use Rattle.tables.specs.Property.{placeOf, otherOf}
+use Rattle.tables.specs.Property.{tableRow, otherOf}
 use Rattle.properties.specs.Block.{propsRow}
 use Rattle.properties.proofs.Laws.Fold.{props-lawful}
 use Rattle.properties.proofs.Laws.Block.{room-inside, block-bad, block-absent, block-present}
@@ -24,7 +24,7 @@ enum-known-block c = search needs
 returns : tie.Need-returns
 returns c =
     let a = c .before .before .before .before .before .before .before .args in
-    block-absent (now (a .s)) (a .at) (props-lawful (a .place)) (rw (c .before .before .before .block .given .1) at (c .before .before .before .before .before .read-room .ensures)) (c .if1 .taken)
+    block-absent (now (a .s)) (a .at) (props-lawful (a .row)) (rw (c .before .before .before .block .given .1) at (c .before .before .before .before .before .read-room .ensures)) (c .if1 .taken)
 
 slice-aggregate-fill : tie.Need-slice-aggregate-fill
 slice-aggregate-fill c =
@@ -37,12 +37,12 @@ fill-requires c κs = search needs
 returns-2 : tie.Need-returns-2
 returns-2 c =
     let a = c .before .before .before .before .before .args in
-    block-bad (now (a .s)) (a .at) (propsRow (placeOf (otherOf (a .place)))) (rw (c .before .e .given .1) at (c .before .before .before .read-room .ensures))
+    block-bad (now (a .s)) (a .at) (propsRow (tableRow (otherOf (a .row)))) (rw (c .before .e .given .1) at (c .before .before .before .read-room .ensures))
 
 returns-3 : tie.Need-returns-3
 returns-3 c =
     let a = c .before .before .before .before .before .before .before .before .before .args in
-    c .fill .ensures ∙ block-present (now (a .s)) (a .at) (props-lawful (a .place)) (rw (c .before .before .before .before .before .block .given .1) at (c .before .before .before .before .before .before .before .read-room .ensures)) (c .before .before .if1 .left)
+    c .fill .ensures ∙ block-present (now (a .s)) (a .at) (props-lawful (a .row)) (rw (c .before .before .before .before .before .block .given .1) at (c .before .before .before .before .before .before .before .read-room .ensures)) (c .before .before .if1 .left)
 
 pub read-block-spec : {M : Type 1} → statement M
 read-block-spec =

@@ -5,9 +5,9 @@ use Prim.Native.Nat.{ℕ, _+_}
 use native.Mathlib.Omega.{arith}
 use lib.Seq.{sets}
 use denote.Ref.{now}
-use Rattle.byte_puts.proofs.Laws.{taken-eight}
+use Rattle.write_bytes.proofs.Laws.{taken-eight}
 use lib.ListN.{getD}
-use Rattle.byte_puts.proofs.Laws.{sets-then}
+use Rattle.write_bytes.proofs.Laws.{sets-then}
 use borrow.Author.Needs.{needs}
 use Rattle.publish_write.proofs.copy.copy_eight.Statement.{statement}
 use Rattle.publish_write.proofs.copy.copy_eight.Tie as tie

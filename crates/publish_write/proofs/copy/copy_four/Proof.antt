@@ -5,7 +5,7 @@ use Prim.Native.Nat.{ℕ}
 use native.Mathlib.Omega.{arith}
 use lib.Seq.{sets}
 use denote.Ref.{now}
-use Rattle.byte_puts.proofs.Laws.{taken-four}
+use Rattle.write_bytes.proofs.Laws.{taken-four}
 use borrow.Author.Needs.{needs}
 use Rattle.publish_write.proofs.copy.copy_four.Statement.{statement}
 use Rattle.publish_write.proofs.copy.copy_four.Tie as tie

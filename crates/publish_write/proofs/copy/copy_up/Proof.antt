@@ -6,7 +6,7 @@ use native.Mathlib.Omega.{arith}
 use lib.ListN.{length, take, drop, length-drop}
 use lib.Seq.{sets, length-sets, drop-drop}
 use denote.Ref.{now}
-use Rattle.byte_puts.proofs.Laws.{put-more}
+use Rattle.write_bytes.proofs.Laws.{put-more}
 use borrow.Author.Needs.{needs}
 use Rattle.publish_write.proofs.copy.copy_up.Statement.{statement}
 use Rattle.publish_write.proofs.copy.copy_up.Tie as tie

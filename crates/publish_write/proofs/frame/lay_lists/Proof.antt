@@ -5,7 +5,7 @@ use denote.Ref.{now}
 use Rattle.grammar.specs.Tables.{number, text, pair}
 use Rattle.writing.specs.Handed.{several}
 use Rattle.writing.specs.Spell.{rowBytes}
-use Rattle.rows.specs.Given.{givenLent, givenPairs}
+use Rattle.write_runs.specs.Given.{givenLent, givenPairs}
 use Rattle.publish_write.proofs.Lay.{put-laid, laid-then, room-first, room-rest}
 use Rattle.publish_write.proofs.Parts.{lent-room}
 use borrow.Author.Needs.{needs}

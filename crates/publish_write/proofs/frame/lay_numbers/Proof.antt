@@ -4,7 +4,7 @@ use native.Mathlib.Omega.{arith}
 use denote.Ref.{now}
 use Rattle.grammar.specs.Tables.{u8, u16, u32}
 use Rattle.writing.specs.Spell.{rowBytes}
-use Rattle.rows.specs.Given.{givenU8, givenU16, givenU32}
+use Rattle.write_runs.specs.Given.{givenU8, givenU16, givenU32}
 use Rattle.publish_write.proofs.Lay.{put-laid, laid-then, room-first, room-rest}
 use borrow.Author.Needs.{needs}
 use Rattle.publish_write.proofs.frame.lay_numbers.Statement.{statement}

@@ -11,7 +11,7 @@ use Rattle.writing.specs.Lists.{sum}
 use Rattle.writing.specs.Handed.{pairs}
 use Rattle.writing.specs.Spell.{string, rowBytes}
 use Rattle.writing.proofs.ForCode.{runFrom}
-use Rattle.rows.specs.Given.{run, givenPairs}
+use Rattle.write_runs.specs.Given.{run, givenPairs}
 use Rattle.publish_write.proofs.Parts.{Laying, none-laying, laying-more, laying-end, pairs-next, pairs-none, sum-next, part-length, pair-length}
 use borrow.Author.Needs.{needs}
 use Rattle.publish_write.proofs.frame.lay_pairs.Statement.{statement}

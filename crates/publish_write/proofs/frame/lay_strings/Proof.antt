@@ -2,7 +2,7 @@
 use denote.Ref.{now}
 use Rattle.grammar.specs.Tables.{text, bytes}
 use Rattle.writing.specs.Spell.{rowBytes}
-use Rattle.rows.specs.Given.{givenLent}
+use Rattle.write_runs.specs.Given.{givenLent}
 use Rattle.publish_write.proofs.Lay.{laid-then, room-first, room-rest}
 use Rattle.publish_write.proofs.Parts.{lent-room}
 use borrow.Author.Needs.{needs}

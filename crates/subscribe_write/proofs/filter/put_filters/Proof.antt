@@ -9,9 +9,9 @@ use Rattle.writing.specs.Lists.{flat, beside}
 use Rattle.writing.specs.Handed.{strings, filtersOf}
 use Rattle.writing.specs.Spell.{filterBytes}
 use Rattle.writing.proofs.ForCode.{runFrom}
-use Rattle.rows.specs.Given.{run}
-use Rattle.rows.proofs.Laws.Run.{piece-ends, piece-within}
-use Rattle.row_puts.proofs.Laws.{Putting, none-put, put-more, all-put}
+use Rattle.write_runs.specs.Given.{run}
+use Rattle.write_runs.proofs.Laws.Run.{piece-ends, piece-within}
+use Rattle.write_properties.proofs.Laws.{Putting, none-put, put-more, all-put}
 use Rattle.subscribe_write.proofs.Filters.{filters-cut, filters-done, filter-count}
 use Rattle.subscribe_write.proofs.filter.put_filters.Statement.{statement}
 use Rattle.subscribe_write.proofs.filter.put_filters.Tie as tie

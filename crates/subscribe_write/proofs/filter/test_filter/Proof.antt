@@ -2,7 +2,7 @@
 use mathlib.Core.Path.{ap, sym, _∙_}
 use borrow.Author.Needs.{needs}
 use denote.Ref.{now}
-use Rattle.row_tests.specs.Tested.{toldTested}
+use Rattle.write_tests.specs.Tested.{toldTested}
 use Rattle.subscribe_write.proofs.Filters.{filter-bad, filter-rule, filter-qos, filter-fine}
 use Rattle.subscribe_write.proofs.filter.test_filter.Statement.{statement}
 use Rattle.subscribe_write.proofs.filter.test_filter.Tie as tie

@@ -10,9 +10,9 @@ use Rattle.writing.specs.Lists.{beside}
 use Rattle.writing.specs.Handed.{strings, filtersOf}
 use Rattle.writing.specs.Order.{judge, filter, fieldTests, filterField}
 use Rattle.writing.proofs.ForCode.{runFrom}
-use Rattle.rows.specs.Given.{run}
-use Rattle.row_tests.specs.Tested.{toldTested}
-use Rattle.row_tests.proofs.Laws.{Deciding, field-refused, field-passed, fields-done}
+use Rattle.write_runs.specs.Given.{run}
+use Rattle.write_tests.specs.Tested.{toldTested}
+use Rattle.write_tests.proofs.Laws.{Deciding, field-refused, field-passed, fields-done}
 use Rattle.subscribe_write.proofs.Filters.{filters-cut, filters-done}
 use Rattle.subscribe_write.proofs.filter.test_filters.Statement.{statement}
 use Rattle.subscribe_write.proofs.filter.test_filters.Tie as tie

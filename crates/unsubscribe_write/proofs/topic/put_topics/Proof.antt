@@ -9,9 +9,9 @@ use Rattle.writing.specs.Lists.{flat}
 use Rattle.writing.specs.Handed.{strings}
 use Rattle.writing.specs.Spell.{string}
 use Rattle.writing.proofs.ForCode.{runFrom}
-use Rattle.rows.specs.Given.{run}
-use Rattle.rows.proofs.Laws.Run.{piece-ends, piece-within}
-use Rattle.row_puts.proofs.Laws.{Putting, none-put, put-more, all-put}
+use Rattle.write_runs.specs.Given.{run}
+use Rattle.write_runs.proofs.Laws.Run.{piece-ends, piece-within}
+use Rattle.write_properties.proofs.Laws.{Putting, none-put, put-more, all-put}
 use Rattle.unsubscribe_write.proofs.Topics.{topics-cut, topics-done, topic-count}
 use Rattle.unsubscribe_write.proofs.topic.put_topics.Statement.{statement}
 use Rattle.unsubscribe_write.proofs.topic.put_topics.Tie as tie

@@ -1,7 +1,7 @@
 -- `unsubscribe_write::topic::topics_size` is right since it adds the lengths twice to the bytes. Assumes nothing.
 use borrow.Author.Needs.{needs}
 use denote.Ref.{now}
-use Rattle.rows.specs.Given.{run}
+use Rattle.write_runs.specs.Given.{run}
 use Rattle.unsubscribe_write.proofs.Topics.{topics-sum}
 use Rattle.unsubscribe_write.proofs.topic.topics_size.Statement.{statement}
 use Rattle.unsubscribe_write.proofs.topic.topics_size.Tie as tie

@@ -1,0 +1,49 @@
+-- `c_layout_item::filter_numbers` is right since a filter is told as its place and its options. Assumes nothing.
+use borrow.Author.Needs.{needs}
+use Rattle.c_layout_item.proofs.filter_numbers.Statement.{statement}
+use Rattle.c_layout_item.proofs.filter_numbers.Tie as tie
+
+enum-known-item : tie.Need-enum-known-item
+enum-known-item c = search needs
+
+qos-number-requires : tie.Need-qos-number-requires
+qos-number-requires c κs = search needs
+
+cast-t9 : tie.Need-cast-t9
+cast-t9 c = search needs
+
+bit-requires : tie.Need-bit-requires
+bit-requires c κs = search needs
+
+bit-requires-2 : tie.Need-bit-requires-2
+bit-requires-2 c κs = search needs
+
+rule-number-requires : tie.Need-rule-number-requires
+rule-number-requires c κs = search needs
+
+cast-t13 : tie.Need-cast-t13
+cast-t13 c = search needs
+
+enum-told : tie.Need-enum-told
+enum-told c = search needs
+
+returns : tie.Need-returns
+returns c = rw (c .before .before .before .before .before .item .given .1, c .before .before .before .qos-number .ensures, c .before .before .bit .ensures, c .before .bit2 .ensures, c .rule-number .ensures)
+
+returns-2 : tie.Need-returns-2
+returns-2 c = search needs
+
+pub filter-numbers-spec : {M : Type 1} → statement M
+filter-numbers-spec =
+    tie.close
+    (tie.spec
+    enum-known-item
+    qos-number-requires
+    cast-t9
+    bit-requires
+    bit-requires-2
+    rule-number-requires
+    cast-t13
+    enum-told
+    returns
+    returns-2)
