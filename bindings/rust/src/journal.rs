@@ -50,6 +50,7 @@ impl Journal {
     /// Starts a journal of that many blocks, 2 at least: whatever the file held is zeroed.
     pub fn start(path: impl AsRef<Path>, blocks: usize) -> io::Result<Journal> {
         let mut area = vec![0; blocks * BLOCK];
+        // Sound: the pointer stands for the whole area, lent for writing.
         if unsafe { ecch_journal_start(area.as_mut_ptr(), area.len()) } != 0 {
             return Err(io::Error::new(io::ErrorKind::InvalidInput, "BadArea: not two or more whole blocks"));
         }
@@ -76,6 +77,7 @@ impl Journal {
         let bytes = table.as_bytes();
         let mut answer = [0; 2];
         let mut area = self.area.clone();
+        // Sound: every pointer stands for a whole Rust slice, and those that are written are lent for writing and overlap nothing.
         let n = unsafe { ecch_journal_save(bytes.as_ptr(), bytes.len(), area.as_mut_ptr(), area.len(), answer.as_mut_ptr(), answer.len()) };
         match n as usize {
             0 => {}
@@ -93,6 +95,7 @@ impl Journal {
     pub fn recover(&self) -> Option<Recovered> {
         let mut bytes = [0; IDENTIFIERS];
         let mut number = 0;
+        // Sound: as for a save; the area is only read.
         let n = unsafe { ecch_journal_recover(self.area.as_ptr(), self.area.len(), bytes.as_mut_ptr(), bytes.len(), &mut number, 1) };
         match n as usize {
             0 => Some(Recovered { number, table: InFlight::from_bytes(&bytes).expect("a table") }),

@@ -19,6 +19,7 @@ fn flag(n: u8) -> bool {
 /// ```
 pub fn has_wildcards(s: &str) -> bool {
     // SAFETY: a str is that many bytes that can be read, and its pointer is not null
+    // Sound: the pointer stands for a whole Rust slice, which is only read.
     flag(unsafe { ecch_has_wildcards(s.as_ptr(), s.len()) })
 }
 
@@ -29,6 +30,7 @@ pub fn has_wildcards(s: &str) -> bool {
 /// ```
 pub fn valid_topic(topic: &str) -> bool {
     // SAFETY: as above
+    // Sound: as for wildcards.
     flag(unsafe { ecch_valid_topic(topic.as_ptr(), topic.len()) })
 }
 
@@ -39,6 +41,7 @@ pub fn valid_topic(topic: &str) -> bool {
 /// ```
 pub fn valid_filter(filter: &str) -> bool {
     // SAFETY: as above
+    // Sound: as for wildcards.
     flag(unsafe { ecch_valid_filter(filter.as_ptr(), filter.len()) })
 }
 
@@ -49,5 +52,6 @@ pub fn valid_filter(filter: &str) -> bool {
 /// ```
 pub fn matches(topic: &str, filter: &str) -> bool {
     // SAFETY: as above, for both; nothing is written
+    // Sound: both pointers stand for whole Rust slices, which are only read.
     flag(unsafe { ecch_matches(topic.as_ptr(), topic.len(), filter.as_ptr(), filter.len()) })
 }
