@@ -39,12 +39,19 @@ fn hex(out: &mut [u8], at: usize, name: &[u8], s: &[u8], place: Span) -> usize {
     bytes(&mut *out, at, name, string::part(s, place), false)
 }
 
-// The payload: as a text if it is one, else in hexadecimal, under another name.
-pub fn payload(out: &mut [u8], at: usize, s: &[u8], place: Span) -> usize {
+// Bytes that may be a text: as one if they are, else in hexadecimal, under another name.
+pub fn text_or_hex(
+    out: &mut [u8],
+    at: usize,
+    name: &[u8],
+    hex_name: &[u8],
+    s: &[u8],
+    place: Span,
+) -> usize {
     if utf8::is_utf8(string::part(s, place)) {
-        return text(&mut *out, at, b",\"payload\":\"", s, place);
+        return text(&mut *out, at, name, s, place);
     }
-    hex(&mut *out, at, b",\"payload_hex\":\"", s, place)
+    hex(&mut *out, at, hex_name, s, place)
 }
 
 // The fields that may be absent, and are then no field.

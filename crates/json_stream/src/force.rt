@@ -30,7 +30,14 @@ fn refused(out: &mut [u8], at: usize, e: AliasError) -> usize {
 pub fn topic(out: &mut [u8], at: usize, s: &[u8], table: &[u8], m: Publish) -> usize {
     match alias::place_in_force(s, table, m) {
         Placed::InPacket(_) => at,
-        Placed::InTable(p) => field::text(&mut *out, at, b",\"topic_in_force\":\"", table, p),
+        Placed::InTable(p) => field::text_or_hex(
+            &mut *out,
+            at,
+            b",\"topic_in_force\":\"",
+            b",\"topic_in_force_hex\":\"",
+            table,
+            p,
+        ),
         Placed::Refused(e) => refused(&mut *out, at, e),
     }
 }

@@ -40,7 +40,15 @@ fn publish_head(out: &mut [u8], at: usize, s: &[u8], table: &[u8], m: Publish) -
     let qos = m.qos;
     let q = qos_numbers::qos_number(qos);
     let a = flags(&mut *out, at, m.dup, q, m.retain);
-    let b = field::text(&mut *out, a, b",\"topic\":\"", s, m.topic);
+    // 01 has a Publish's topic as any bytes
+    let b = field::text_or_hex(
+        &mut *out,
+        a,
+        b",\"topic\":\"",
+        b",\"topic_hex\":\"",
+        s,
+        m.topic,
+    );
     let c = force::topic(&mut *out, b, s, table, m);
     identifier(&mut *out, c, q, m.pkid)
 }
@@ -89,7 +97,14 @@ fn publish_of(out: &mut [u8], at: usize, s: &[u8], table: &[u8], m: Publish) -> 
     let properties = m.properties;
     let a = publish_head(&mut *out, at, s, table, m);
     let b = publish_block(&mut *out, a, s, properties);
-    field::payload(&mut *out, b, s, m.payload)
+    field::text_or_hex(
+        &mut *out,
+        b,
+        b",\"payload\":\"",
+        b",\"payload_hex\":\"",
+        s,
+        m.payload,
+    )
 }
 
 // The block of any other kind; what its place does not have is absent.
