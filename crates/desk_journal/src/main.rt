@@ -1,4 +1,4 @@
-// Shows a journal of P11: show_journal FILE [FILE]. A line for each block, good or not, with its number, and below it the identifiers that wait
+// Shows a journal of P11: desk_journal FILE [FILE]. A line for each block, good or not, with its number, and below it the identifiers that wait
 // and for what; at the end what a recovery takes. What is said of a block is `look` of crates/journal, what is taken `recover`.
 use inflight::InFlight;
 use inflight::code;
