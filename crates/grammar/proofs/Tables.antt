@@ -5,7 +5,7 @@ use mathlib.Core.Option.{Option, none, some}
 use mathlib.Core.List.{List, [], _∷_}
 use Prim.Native.Nat.{ℕ, zero, suc}
 use Rattle.grammar.specs.Choice.{isIn, lookup}
-use Rattle.grammar.specs.Tables.{u8, u16, u32, number, text, bytes, pair, isList, publishRow, subscribeRow, ackRow, unsubscribeRow, reasons, releaseReasons, subAckReasons, unsubAckReasons, Layout, aPublish, anAck, aSubscribe, aReply, anUnsubscribe, aPing, kinds, reserved, isPing, formAt, rowOfKind, firsts, firstOf}
+use Rattle.grammar.specs.Tables.{u8, u16, u32, number, text, bytes, pair, isList, publishRow, subscribeRow, ackRow, unsubscribeRow, reasons, releaseReasons, subAckReasons, unsubAckReasons, Layout, aPublish, anAck, aSubscribe, aReply, anUnsubscribe, aPing, kinds, reserved, isPing, reasonsOf, formAt, rowOfKind, firsts, firstOf}
 
 -- k numbers from n on
 abbrev pub count : ℕ → ℕ → List ℕ
@@ -28,7 +28,7 @@ chosen t [] = []
 chosen t (i ∷ l) = cond (t i) (i ∷ chosen t l) (chosen t l)
 
 -- what f says of each of the numbers
-abbrev each : (ℕ → ℕ) → List ℕ → List ℕ
+abbrev each : {A : Type 0} → (ℕ → A) → List ℕ → List A
 each f [] = []
 each f (i ∷ l) = f i ∷ each f l
 
@@ -95,6 +95,12 @@ eleven-kinds : known (lookup kinds) (count 16 0)
     ∷ (8, aSubscribe) ∷ (9, aReply subAckReasons) ∷ (10, anUnsubscribe) ∷ (11, aReply unsubAckReasons) ∷ (12, aPing) ∷ (13, aPing) ∷ []
 unfolding kinds
 eleven-kinds = refl
+
+-- 02, P1: the reasons of all 16 kinds; none where a kind lists none
+sixteen-lists : each reasonsOf (count 16 0)
+    ≡ [] ∷ [] ∷ [] ∷ [] ∷ reasons ∷ reasons ∷ releaseReasons ∷ releaseReasons ∷ [] ∷ subAckReasons ∷ [] ∷ unsubAckReasons ∷ [] ∷ [] ∷ [] ∷ [] ∷ []
+unfolding reasonsOf kinds
+sixteen-lists = refl
 
 -- 01, row 6, as 02's P1 leaves it: "no longer names 5, 6, 7, 9, 10 or 11": the rest, but for row 4's
 three-others : chosen (λ k. isNone (lookup kinds k) && not (isIn k reserved)) (count 16 0) ≡ 1 ∷ 2 ∷ 14 ∷ []

@@ -10,6 +10,7 @@ pub mod Refusing
 pub mod Faults
 pub mod Numbers
 pub mod Rows
+pub mod Taken
 pub mod Stream
 pub mod Theorems
 pub mod Bounds
