@@ -10,10 +10,11 @@ use records::error::Error;
 use wire::got::GotSpan;
 use wire::string::read_mqtt_string;
 ghost use mathlib.Core.Path.{_≡_};
-ghost use Rattle.property_value.specs.OneProperty.{toldProperty};
+ghost use Rattle.grammar.specs.Tables.{rowOfKind};
+ghost use Rattle.property_value.specs.OneProperty.{toldProperty, OfForm};
 ghost use Rattle.filters.specs.FilterRead.{toldGotFilter};
 ghost use Rattle.wire.specs.StringRead.{toldPart};
-ghost use Rattle.c_arguments.specs.Kind.{PropertyGiven};
+ghost use Rattle.c_arguments.specs.Kind.{PropertyGiven, formIn};
 ghost use Rattle.c_arguments.specs.UpTo.{propertyUpTo, filterUpTo, topicUpTo};
 
 // In the row of a kind that has one.
@@ -28,7 +29,8 @@ fn property_at(stream: &[u8], kind: u8, at: usize) -> GotProperty
 
 // The property at an index of the bytes before the end, in the row of a kind; 21 for a kind without properties and an end beyond the stream.
 pub fn property_up_to(stream: &[u8], kind: u8, at: usize, end: usize) -> GotProperty
-    ensures { λ r. ⌜ toldProperty r ≡ propertyUpTo kind (now (stream .entry)) at end ⌝ }
+    ensures says { λ r. ⌜ toldProperty r ≡ propertyUpTo kind (now (stream .entry)) at end ⌝ }
+    ensures typed { λ r. ⌜ OfForm (formIn (rowOfKind kind)) r ⌝ }
 {
     if stream.len() < end {
         return GotProperty::Refused(Error::NoItem);

@@ -37,6 +37,7 @@ use Rattle.kinds.specs.declared.KindRow.{KindRow}
 use Rattle.property_value.specs.OneProperty.{toldValue, formOf, toldProperty, OfForm, PropertyRead}
 use Rattle.property_value.specs.declared.Value.{Value}
 use Rattle.property_value.specs.declared.GotProperty.{GotProperty}
+use Rattle.c_arguments.specs.UpTo.{propertyUpTo}
 use Rattle.c_arguments.specs.Kind.{propertyAt, formIn, PropertyGiven}
 use Rattle.promises.specs.OneResult.{OneResult}
 use Rattle.promises.proofs.OneLaws.{one-by}
@@ -272,3 +273,7 @@ property-same row s at a b r r′ = typed-same (formAt row) (toldProperty b) a b
 -- the same by the number of a kind
 pub property-at-same : (kind : ℕ) (s : List ℕ) (at : ℕ) (a b : GotProperty) → PropertyGiven kind s at a → PropertyGiven kind s at b → a ≡ b
 property-at-same kind s at a b r r′ = typed-same (formIn (rowOfKind kind)) (propertyAt kind s at) a b (r .says) (r′ .says) (r .typed) (r′ .typed)
+
+-- the same before an end
+pub property-up-to-same : (kind : ℕ) (s : List ℕ) (at end : ℕ) (a b : GotProperty) → toldProperty a ≡ propertyUpTo kind s at end → OfForm (formIn (rowOfKind kind)) a → toldProperty b ≡ propertyUpTo kind s at end → OfForm (formIn (rowOfKind kind)) b → a ≡ b
+property-up-to-same kind s at end a b told typed told′ typed′ = typed-same (formIn (rowOfKind kind)) (propertyUpTo kind s at end) a b told told′ typed typed′

@@ -14,7 +14,7 @@ same-length : tie.Need-same-length
 same-length c = search needs
 
 returns : tie.Need-returns
-returns c = (c .before .before .store-property .ensures .0 ∙ rw (c .before .before .before .before .property-up-to .ensures), c .before .before .store-property .ensures .1 ∙ rw (c .before .before .before .before .property-up-to .ensures))
+returns c = (c .before .before .store-property .ensures .0 ∙ rw (c .before .before .before .before .property-up-to .ensures .0), c .before .before .store-property .ensures .1 ∙ rw (c .before .before .before .before .property-up-to .ensures .0))
 
 pub ecch-property-spec : {M : Type 1} → statement M
 ecch-property-spec =
