@@ -112,6 +112,14 @@ def _call(name, *given):
     return getattr(_library(), name)(*words)
 
 
+def _bytes(value):
+    """Bytes, or what lends them; of a number bytes() would make so many zeros."""
+    try:
+        return bytes(memoryview(value))
+    except TypeError:
+        raise ValueError(f'{value!r} is no bytes') from None
+
+
 def _numbers(count):
     return (ctypes.c_uint64 * count)()
 
@@ -213,7 +221,7 @@ class _Frame:
 
 def frames(stream, limit=None):
     """Each frame of the stream, as a dict; after a refusal that takes nothing there is none. `limit`: the most bytes that a frame may have."""
-    stream, at = bytes(stream), 0
+    stream, at = _bytes(stream), 0
     table = (ctypes.c_uint8 * TABLE)()
     while at < len(stream):
         told = _Frame(stream, at, limit).told(table)
@@ -225,7 +233,7 @@ def frames(stream, limit=None):
 
 def read(stream, limit=None):
     """The frame at the start of the stream, as a dict; Refused is raised if there is none."""
-    frame = _Frame(bytes(stream), 0, limit)
+    frame = _Frame(_bytes(stream), 0, limit)
     if frame.number:
         raise Refused(frame.number, _name(frame.number), frame.values, frame.taken)
     return frame.told((ctypes.c_uint8 * TABLE)())
@@ -256,7 +264,14 @@ class _Given:
 
     @staticmethod
     def bytes(value):
-        return value.encode('utf-8', 'surrogateescape') if isinstance(value, str) else bytes(value)
+        return value.encode('utf-8', 'surrogateescape') if isinstance(value, str) else _bytes(value)
+
+    def list(self, name):
+        """A list of items: a text would be taken letter by letter, a dict by its keys."""
+        value = self.left.pop(name, [])
+        if isinstance(value, (str, dict)) or not hasattr(value, '__iter__'):
+            raise ValueError(f'{name}: {value!r} is no list')
+        return list(value)
 
     def run(self, texts):
         """Texts as one run of bytes, and their lengths."""
@@ -264,7 +279,9 @@ class _Given:
         return b''.join(texts), [len(t) for t in texts]
 
     def user(self):
-        pairs = self.left.pop('user', [])
+        pairs = self.list('user')
+        if any(isinstance(pair, (str, bytes)) for pair in pairs):
+            raise ValueError(f'user: {pairs!r} are no pairs')
         self.any = self.any or bool(pairs)
         return self.run([text for key, value in pairs for text in (key, value)])
 
@@ -276,7 +293,7 @@ class _Given:
 def _publish(g):
     head = [g.take('dup', False), g.take('qos', 0), g.take('retain', False), g.take('id', 0), g.bytes(g.take('topic', ''))]
     properties = [*g.on('payload_format', 0), *g.on('message_expiry', 0), *g.on('topic_alias', 0), *g.on('response_topic', b''), *g.on('correlation_data', b''), *g.user()]
-    ids = g.take('subscription_ids', [])
+    ids = g.list('subscription_ids')
     properties += [ids, *g.on('content_type', b'')]
     return [*head, g.any or bool(ids), *properties, g.bytes(g.take('payload', b''))]
 
@@ -289,7 +306,7 @@ def _ack(g):
 
 def _subscribe(g):
     properties = [*g.on('subscription_id', 0), *g.user()]
-    filters = [{'filter': f} if isinstance(f, (str, bytes)) else dict(f) for f in g.take('filters', [])]
+    filters = [{'filter': f} if isinstance(f, (str, bytes)) else dict(f) for f in g.list('filters')]
     options = []
     for f in filters:
         parts = f.pop('qos', 0), f.pop('no_local', False), f.pop('preserve_retain', False), f.pop('forward', 0)
@@ -301,12 +318,12 @@ def _subscribe(g):
 
 def _reply(g):
     properties = [*g.on('reason_string', b''), *g.user()]
-    return [g.take('id', 0), g.any, *properties, bytes(g.take('reasons', []))]
+    return [g.take('id', 0), g.any, *properties, bytes(g.list('reasons'))]
 
 
 def _unsubscribe(g):
     user = g.user()
-    return [g.take('id', 0), g.any, *user, *g.run(g.take('filters', []))]
+    return [g.take('id', 0), g.any, *user, *g.run(g.list('filters'))]
 
 
 WRITES = {'publish': _publish, 'subscribe': _subscribe, 'unsubscribe': _unsubscribe, 'suback': _reply, 'unsuback': _reply, 'pingreq': lambda g: [], 'pingresp': lambda g: [], **{a: _ack for a in ACKS}}

@@ -118,6 +118,20 @@ class Writing(unittest.TestCase):
                 write(packet)
             self.assertNotIsInstance(caught.exception, Refused)
 
+    def test_nothing_is_guessed(self):
+        """bytes(1204) is 1,204 zeros, a text is a list of its letters, and a dict one of its keys."""
+        for packet in ({'kind': 'publish', 'topic': 'a', 'payload': 1204}, {'kind': 'publish', 'topic': 3}, {'kind': 'publish', 'topic': 'a', 'correlation_data': 4},
+                       {'kind': 'suback', 'id': 1, 'reasons': 2}, {'kind': 'subscribe', 'id': 1, 'filters': 'a/b'}, {'kind': 'unsubscribe', 'id': 1, 'filters': 'a/b'},
+                       {'kind': 'puback', 'id': 1, 'user': {'ab': 'c'}}, {'kind': 'puback', 'id': 1, 'user': ['ab']}, {'kind': 'puback', 'id': 1, 'user': 'ab'}):
+            with self.subTest(packet), self.assertRaises(ValueError) as caught:
+                write(packet)
+            self.assertNotIsInstance(caught.exception, Refused)
+        for stream in (12, 'C0 00', [0xC0, 0]):
+            with self.subTest(stream), self.assertRaises(ValueError):
+                read(stream)
+            with self.subTest(stream), self.assertRaises(ValueError):
+                list(frames(stream))
+
     def test_no_number(self):
         for qos in (1.0, '1', None):
             with self.subTest(qos), self.assertRaises(TypeError):
