@@ -49,10 +49,13 @@ pub struct Recovered {
 impl Journal {
     /// Starts a journal of that many blocks, 2 at least: whatever the file held is zeroed.
     pub fn start(path: impl AsRef<Path>, blocks: usize) -> io::Result<Journal> {
-        let mut area = vec![0; blocks * BLOCK];
+        // more bytes than there are addresses for are no area either: cut to 64 bits they could be a small one
+        let bad = || io::Error::new(io::ErrorKind::InvalidInput, "BadArea: not two or more whole blocks");
+        let size = blocks.checked_mul(BLOCK).filter(|n| isize::try_from(*n).is_ok()).ok_or_else(bad)?;
+        let mut area = vec![0; size];
         // Sound: the pointer stands for the whole area, lent for writing.
         if unsafe { ecch_journal_start(area.as_mut_ptr(), area.len()) } != 0 {
-            return Err(io::Error::new(io::ErrorKind::InvalidInput, "BadArea: not two or more whole blocks"));
+            return Err(bad());
         }
         let file = OpenOptions::new().read(true).write(true).create(true).truncate(true).open(path)?;
         file.write_all_at(&area, 0)?;
@@ -135,6 +138,16 @@ mod tests {
         assert_eq!(journal.save(&table).unwrap(), 2);
         assert_eq!(Journal::open(&path).unwrap().recover(), Some(Recovered { number: 2, table }));
         std::fs::remove_file(path).unwrap();
+    }
+
+    /// A count of blocks whose bytes go round in 64 bits to those of two is refused, and no file is made.
+    #[test]
+    fn no_count_goes_round() {
+        let path = path("round");
+        for blocks in [0, 1, (1 << 55) + 2, usize::MAX] {
+            assert!(matches!(Journal::start(&path, blocks), Err(e) if e.kind() == io::ErrorKind::InvalidInput), "{blocks}");
+            assert!(!path.exists());
+        }
     }
 
     /// An area made by Python's zlib, whose last save has the largest number: a save is refused, and stores nothing.
