@@ -520,6 +520,7 @@ enum ecch_frame_layout {
     ECCH_FRAME_LEN = 4,   /* its length */
     ECCH_FRAME_NUMBERS = 5
 };
+enum ecch_frame_place { ECCH_IN_PIECE = 1, ECCH_IN_BUFFER = 2 };
 
 /* The next frame, of the bytes held and the piece behind them: 0, or the refusal's number. 2 and 3 (of a header) and 36 end the stream: every
  * later call gives that refusal again. 35 ends nothing. The header alone is looked at: 36 comes as soon as it is complete, after 3. If

@@ -62,8 +62,8 @@ static void push(const uint8_t *piece, size_t len) {
             return;
         }
         if (found == MOST) return;
-        if (frame[ECCH_FRAME_PLACE] == 1) CHECK(memcmp(before, buffer, sizeof buffer) == 0);
-        cut[found].number = ecch_read(frame[ECCH_FRAME_PLACE] == 1 ? piece : buffer, frame[ECCH_FRAME_LEN], 0, 0, cut[found].record, ECCH_RECORD_LEN);
+        if (frame[ECCH_FRAME_PLACE] == ECCH_IN_PIECE) CHECK(memcmp(before, buffer, sizeof buffer) == 0);
+        cut[found].number = ecch_read(frame[ECCH_FRAME_PLACE] == ECCH_IN_PIECE ? piece : buffer, frame[ECCH_FRAME_LEN], 0, 0, cut[found].record, ECCH_RECORD_LEN);
         found++;
         piece += frame[ECCH_FRAME_USED];
         len -= frame[ECCH_FRAME_USED];

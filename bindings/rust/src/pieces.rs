@@ -166,13 +166,13 @@ impl Pushed<'_> {
         }
         let piece = self.piece;
         let len = item[ECCH_FRAME_LEN] as usize;
-        let (frame, copied) = match item[ECCH_FRAME_PLACE] {
+        let (frame, copied) = match item[ECCH_FRAME_PLACE] as usize {
             0 => {
                 self.done = true;
                 return None;
             }
-            1 => (&piece[..len], false),
-            2 => (&buffer[..len], true),
+            ECCH_IN_PIECE => (&piece[..len], false),
+            ECCH_IN_BUFFER => (&buffer[..len], true),
             n => fault("place", n),
         };
         self.piece = &piece[item[ECCH_FRAME_USED] as usize..];
