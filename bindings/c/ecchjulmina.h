@@ -631,7 +631,7 @@ uint32_t ecch_journal_start(uint8_t *area, size_t area_len);
 uint32_t ecch_journal_save(const uint8_t *table, size_t table_len, uint8_t *area, size_t area_len, uint64_t *answer, size_t answer_len);
 
 /* The table of the latest good save into the first ECCH_IDENTIFIERS bytes of `table`, and its number into `answer`. 33 if there is none: a fresh
-   table. 32 for a bad area, and 39 if `table` has fewer bytes: it is left as it was. */
+   table. 32 for a bad area, and 39 if `table` has fewer bytes: `table` is left as it was; with 39 `answer` has the number all the same. */
 uint32_t ecch_journal_recover(const uint8_t *area, size_t area_len, uint8_t *table, size_t table_len, uint64_t *answer, size_t answer_len);
 
 /* ---- the tidy form of a frame, for an archive (P14 of 02; crate c_tidy): the frame as it would be written from the record that ecch_read gives.
