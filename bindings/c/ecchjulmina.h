@@ -625,6 +625,9 @@ enum ecch_journal_refusal {
 /* Zeroes the area. */
 uint32_t ecch_journal_start(uint8_t *area, size_t area_len);
 
+/* `answer` of ecch_journal_save. */
+enum ecch_save_layout { ECCH_SAVE_NUMBER = 0, ECCH_SAVE_BLOCK = 1, ECCH_SAVE_NUMBERS = 2 };
+
 /* Stores the table under the next number. `answer` is two numbers: the save's, and which block of 512 bytes, from 0, it stored: with the area in a
    file, write these 512 bytes and no others. 34 after the largest 64-bit number, 39 if `table` is no table; the area stays then,
    and `answer` is 0, 0. If writing the block to the file fails, put its 512 bytes back as they were before the next save: the save was not made. */
