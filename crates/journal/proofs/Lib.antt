@@ -11,5 +11,4 @@ pub mod Raised
 pub mod Stores
 pub mod Theorems
 pub mod Turns
-pub mod Worked
 pub mod JournalAnswer

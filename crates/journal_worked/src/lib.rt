@@ -1,0 +1,1 @@
+// Blocks and saves of the journal, worked out as theorems by computation. No code.
