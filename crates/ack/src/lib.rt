@@ -2,14 +2,14 @@
 // one for all four, and the reason string as a part of the stream.
 use numbers::fixed;
 use numbers::got::GotU16;
-use properties::place_block;
-use properties::place_block::GotBlock;
+use properties::row_block;
+use properties::row_block::GotBlock;
 use records::ack_record::Ack;
 use records::ack_record::AckKind;
 use records::error::Error;
 use records::properties_record::MaybeProperties;
 use records::span::MaybeSpan;
-use tables::property::OtherPlace;
+use tables::property::OtherRow;
 use tables::reason::is_ack_reason;
 use wire::string;
 ghost use mathlib.Core.Path.{_≡_};
@@ -42,7 +42,7 @@ fn read_last_block(s: &[u8], at: usize) -> GotLastBlock
     if s.len() <= at {
         return GotLastBlock::Value(MaybeProperties::Absent);
     }
-    match place_block::read_block(OtherPlace::Ack, s, at) {
+    match row_block::read_block(OtherRow::Ack, s, at) {
         GotBlock::Refused(e) => GotLastBlock::Refused(e),
         GotBlock::Value(properties, next) => {
             if next < s.len() {

@@ -38,7 +38,7 @@ fn seek_on(seek: Seek, id: u8, k: u8, v: Value) -> Seek
     }
 }
 
-// Whether property k is single-valued at a place (02, P9).
+// Whether property k is single-valued in a row (02, P9).
 fn is_single(row: PropertyRow, k: u8) -> bool
     ensures { λ r. ⌜ r ≡ not (isList (tableRow row) k) ⌝ }
 {

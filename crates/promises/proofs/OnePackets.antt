@@ -18,7 +18,7 @@ use Rattle.records.specs.declared.publish_record.MaybePublishProperties.{MaybeP
 use Rattle.records.specs.declared.reply_record.ReplyKind.{ReplyKind}
 use Rattle.records.specs.declared.subscribe_record.Filter.{Filter}
 use Rattle.properties.specs.Block.{toldBlockAt}
-use Rattle.properties.specs.declared.place_block.GotBlock.{GotBlock}
+use Rattle.properties.specs.declared.row_block.GotBlock.{GotBlock}
 use Rattle.publish.specs.Singles.{toldPublishBlockAt}
 use Rattle.publish.specs.declared.GotPublishBlock.{GotPublishBlock}
 use Rattle.ack.specs.AckRead.{toldGotAck}

@@ -14,7 +14,7 @@ use Rattle.reading.specs.Read.{numOf, anyBytes, stringFit, onceOf}
 use Rattle.reading.specs.Place.{Span, asPlaces, onGot}
 use Rattle.records.specs.AsNumbers.{toldError}
 use Rattle.records.specs.Said.{toldBlock}
-use Rattle.properties.specs.declared.place_block.GotBlock.{GotBlock}
+use Rattle.properties.specs.declared.row_block.GotBlock.{GotBlock}
 
 -- ---- where a block stands
 

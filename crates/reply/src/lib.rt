@@ -1,13 +1,13 @@
 // SubAck and UnsubAck, after suback.rs and unsuback.rs: the fields of a frame from an index to the end of the slice, one read for both.
 use numbers::fixed;
 use numbers::got::GotU16;
-use properties::place_block;
-use properties::place_block::GotBlock;
+use properties::row_block;
+use properties::row_block::GotBlock;
 use records::error::Error;
 use records::reply_record::Reply;
 use records::reply_record::ReplyKind;
 use records::span::Span;
-use tables::property::OtherPlace;
+use tables::property::OtherRow;
 use tables::reason::is_reply_reason;
 ghost use mathlib.Core.Path.{_≡_};
 ghost use Prim.Native.Nat.{ℕ};
@@ -59,7 +59,7 @@ pub fn read(kind: ReplyKind, s: &[u8], at: usize) -> GotReply
 {
     match fixed::read_u16(s, at) {
         GotU16::Refused(e) => GotReply::Refused(e),
-        GotU16::Value(pkid, next) => match place_block::read_block(OtherPlace::Ack, s, next) {
+        GotU16::Value(pkid, next) => match row_block::read_block(OtherRow::Ack, s, next) {
             GotBlock::Refused(e) => GotReply::Refused(e),
             GotBlock::Value(properties, start) => match read_reasons(kind, s, start) {
                 GotReasons::Refused(e) => GotReply::Refused(e),

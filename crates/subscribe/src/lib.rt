@@ -3,11 +3,11 @@ use filter_runs::GotFilters;
 use filter_runs::read_filters;
 use numbers::fixed;
 use numbers::got::GotU16;
-use properties::place_block;
-use properties::place_block::GotBlock;
+use properties::row_block;
+use properties::row_block::GotBlock;
 use records::error::Error;
 use records::subscribe_record::Subscribe;
-use tables::property::OtherPlace;
+use tables::property::OtherRow;
 ghost use mathlib.Core.Path.{_≡_};
 ghost use Prim.Native.Nat.{ℕ};
 ghost use lib.ListN.{length, drop};
@@ -28,7 +28,7 @@ pub fn read(s: &[u8], at: usize) -> GotSubscribe
 {
     match fixed::read_u16(s, at) {
         GotU16::Refused(e) => GotSubscribe::Refused(e),
-        GotU16::Value(pkid, next) => match place_block::read_block(OtherPlace::Subscribe, s, next) {
+        GotU16::Value(pkid, next) => match row_block::read_block(OtherRow::Subscribe, s, next) {
             GotBlock::Refused(e) => GotSubscribe::Refused(e),
             GotBlock::Value(properties, start) => match read_filters(s, start) {
                 GotFilters::Refused(e) => GotSubscribe::Refused(e),

@@ -3,7 +3,7 @@ use mathlib.Core.Option.{Option, none, some}
 use Rattle.grammar.specs.Tables as tables
 use Rattle.tables.specs.declared.property.PropertyRow.{PropertyRow}
 use Rattle.tables.specs.declared.property.PropertyRow.the-variants.{Publish, Subscribe, Ack, Unsubscribe}
-use Rattle.tables.specs.declared.property.OtherPlace.{OtherPlace}
+use Rattle.tables.specs.declared.property.OtherRow.{OtherRow}
 use Rattle.tables.specs.declared.property.PropertyForm.{PropertyForm}
 use Rattle.tables.specs.declared.property.PropertyForm.the-variants.{U8, U16, U32, Number, Text, Bytes, Pair, NotHere}
 
@@ -15,10 +15,10 @@ tableRow Ack = tables.ackRow
 tableRow Unsubscribe = tables.unsubscribeRow
 
 -- 01, table of properties: the rows beside Publish's
-abbrev pub otherOf : OtherPlace → PropertyRow
-otherOf OtherPlace.Subscribe = Subscribe
-otherOf OtherPlace.Ack = Ack
-otherOf OtherPlace.Unsubscribe = Unsubscribe
+abbrev pub otherOf : OtherRow → PropertyRow
+otherOf OtherRow.Subscribe = Subscribe
+otherOf OtherRow.Ack = Ack
+otherOf OtherRow.Unsubscribe = Unsubscribe
 
 -- 01, table of properties: the form of a value, if the row has the identifier
 abbrev pub toldForm : PropertyForm → Option tables.Form

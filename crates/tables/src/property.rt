@@ -13,7 +13,7 @@ pub enum PropertyRow {
 }
 
 // A row that is not Publish's.
-pub enum OtherPlace {
+pub enum OtherRow {
     Subscribe,
     Ack,
     Unsubscribe,
@@ -81,13 +81,13 @@ fn unsubscribe_property(num: u8) -> PropertyForm
 }
 
 // One of the rows beside Publish's, as a row.
-pub fn as_place(other: OtherPlace) -> PropertyRow
+pub fn as_row(other: OtherRow) -> PropertyRow
     ensures { λ r. ⌜ r ≡ otherOf other ⌝ }
 {
     match other {
-        OtherPlace::Subscribe => PropertyRow::Subscribe,
-        OtherPlace::Ack => PropertyRow::Ack,
-        OtherPlace::Unsubscribe => PropertyRow::Unsubscribe,
+        OtherRow::Subscribe => PropertyRow::Subscribe,
+        OtherRow::Ack => PropertyRow::Ack,
+        OtherRow::Unsubscribe => PropertyRow::Unsubscribe,
     }
 }
 

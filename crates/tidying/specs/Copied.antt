@@ -30,48 +30,48 @@ use Rattle.tidying.specs.declared.Found.{Found}
 
 -- ---- properties
 
--- the properties ps of a place fill s from index `at` on
+-- the properties ps of a row fill s from index `at` on
 abbrev pub Stands : Row → List ℕ → ℕ → List Prop → Type 0
-Stands place s at ps = Many (Exact place) ps (drop at s)
+Stands row s at ps = Many (Exact row) ps (drop at s)
 
 -- p stands from `at` to r, and ps from there on
-pub record Between (place : Row) (s : List ℕ) (at : ℕ) (p : Prop) (ps : List Prop) (r : ℕ) : Type 0 where
-  pub bytes : take (r - at) (drop at s) ≡ propertyBytes place p
+pub record Between (row : Row) (s : List ℕ) (at : ℕ) (p : Prop) (ps : List Prop) (r : ℕ) : Type 0 where
+  pub bytes : take (r - at) (drop at s) ≡ propertyBytes row p
   pub head : getD s at 0 ≡ p .0
-  pub rest : Stands place s r ps
+  pub rest : Stands row s r ps
 
 -- r is the index after the property at index `at` of s
-pub record Passed (place : Row) (s : List ℕ) (at r : ℕ) : Type 0 where
+pub record Passed (row : Row) (s : List ℕ) (at r : ℕ) : Type 0 where
   pub ahead : at < length s → at < r
-  pub says : (p : Prop) (ps : List Prop) → Stands place s at (p ∷ ps) → Between place s at p ps r
+  pub says : (p : Prop) (ps : List Prop) → Stands row s at (p ∷ ps) → Between row s at p ps r
 
 -- of the properties ps, the first that have identifier i stand before index r, and the rest from there on
-pub record RunBefore (place : Row) (i : ℕ) (s : List ℕ) (ps : List Prop) (r : ℕ) : Type 0 where
+pub record RunBefore (row : Row) (i : ℕ) (s : List ℕ) (ps : List Prop) (r : ℕ) : Type 0 where
   pub front : List Prop
   pub back : List Prop
   pub whole : ps ≡ front ++ back
   pub alike : Each (λ p. p .0 ≡ i) front
-  pub rest : Stands place s r back
+  pub rest : Stands row s r back
 
 -- so of the properties that fill s from `at` on
 abbrev pub RunPassed : Row → ℕ → List ℕ → ℕ → ℕ → Type 0
-RunPassed place i s at r = (ps : List Prop) → Stands place s at ps → RunBefore place i s ps r
+RunPassed row i s at r = (ps : List Prop) → Stands row s at ps → RunBefore row i s ps r
 
 -- where r is true, the properties stand in the order of the identifiers
 abbrev pub InOrder : Row → List ℕ → List ℕ → ℕ → Bool → Type 0
-InOrder place is s start r = (ps : List Prop) → Stands place s start ps → r ≡ true → Runs is ps
+InOrder row is s start r = (ps : List Prop) → Stands row s start ps → r ≡ true → Runs is ps
 
 -- the properties of each identifier i are put from index `at` of an output on, and `next` is behind them
 abbrev pub IdPut : Row → ℕ → List ℕ → ℕ → List ℕ → ℕ → List ℕ → ℕ → Type 0
-IdPut place i s start before at after next = (ps : List Prop) → Stands place s start ps → Behind before at (idBytes place ps i) after next
+IdPut row i s start before at after next = (ps : List Prop) → Stands row s start ps → Behind before at (idBytes row ps i) after next
 
 -- the properties are put in the order of the identifiers
 abbrev pub IdsPut : Row → List ℕ → List ℕ → ℕ → List ℕ → List ℕ → Type 0
-IdsPut place is s start before after = (ps : List Prop) → Stands place s start ps → after ≡ sets before start (flat (idBytes place ps) is)
+IdsPut row is s start before after = (ps : List Prop) → Stands row s start ps → after ≡ sets before start (flat (idBytes row ps) is)
 
 -- the same where no identifier of a row comes twice, so that properties in that order may be put as they stand
 abbrev pub RowPut : Row → List ℕ → ℕ → List ℕ → List ℕ → Type 0
-RowPut place s start before after = (ps : List Prop) → Stands place s start ps → after ≡ sets before start (orderedBytes place ps)
+RowPut row s start before after = (ps : List Prop) → Stands row s start ps → after ≡ sets before start (orderedBytes row ps)
 
 -- ---- filters
 
@@ -97,18 +97,18 @@ FiltersPut s at before after = (zs : List (List ℕ × ℕ)) → FiltersStand s 
 -- ---- the frame
 
 -- behind the first byte of s stands `head`, up to `start`, and then the properties `list`, up to `end`
-pub record FrontAt (place : Row) (s : List ℕ) (start end : ℕ) (head : List ℕ) (list : List Prop) : Type 0 where
+pub record FrontAt (row : Row) (s : List ℕ) (start end : ℕ) (head : List ℕ) (list : List Prop) : Type 0 where
   pub byte : ℕ
   pub props : List ℕ
   pub tail : List ℕ
   pub whole : s ≡ byte ∷ (head ++ (props ++ tail))
   pub starts : start ≡ suc (length head)
   pub ends : end ≡ suc (length head + length props)
-  pub exact : Many (Exact place) list props
+  pub exact : Many (Exact row) list props
 
 -- first byte, what stands before the properties, and these in the order of the row
 abbrev pub FrontPut : Row → ℕ → List ℕ → ℕ → ℕ → List ℕ → List ℕ → Type 0
-FrontPut place first s start end before after = (head : List ℕ) (list : List Prop) → FrontAt place s start end head list → after ≡ sets before 0 (first ∷ (head ++ orderedBytes place list))
+FrontPut row first s start end before after = (head : List ℕ) (list : List Prop) → FrontAt row s start end head list → after ≡ sets before 0 (first ∷ (head ++ orderedBytes row list))
 
 -- what is told where b is to be put, n bytes of the stream are taken, and the output stands as before and after
 pub record Gives (b : List ℕ) (n : ℕ) (before after : List ℕ) (r : Tidied) : Type 0 where
@@ -117,7 +117,7 @@ pub record Gives (b : List ℕ) (n : ℕ) (before after : List ℕ) (r : Tidied)
 
 -- of a frame with a block, where T says what becomes of what stands behind it
 abbrev pub LaidGiven : Row → (List ℕ → List ℕ → Type 0) → ℕ → List ℕ → ℕ → ℕ → List ℕ → List ℕ → Tidied → Type 0
-LaidGiven place T first s start end before after r = (h : Handed) → FrameLaid place T h first s start end → Gives (frameBytes h) (length s) before after r
+LaidGiven row T first s start end before after r = (h : Handed) → FrameLaid row T h first s start end → Gives (frameBytes h) (length s) before after r
 
 -- a frame that was read, and where its properties start and end
 pub record Accepted (s : List ℕ) (start end : ℕ) : Type 0 where

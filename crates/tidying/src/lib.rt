@@ -39,37 +39,37 @@ pub enum Tidied {
 // ---- the properties of a block, which ends where `s` does
 
 // The index after the property at an index; the end if none stands there.
-fn pass_property(place: PropertyRow, s: &[u8], at: usize) -> usize
-    ensures { λ r. ⌜ Passed (tableRow place) (now (s .entry)) at r ⌝ }
+fn pass_property(row: PropertyRow, s: &[u8], at: usize) -> usize
+    ensures { λ r. ⌜ Passed (tableRow row) (now (s .entry)) at r ⌝ }
 {
-    match read_property(place, s, at) {
+    match read_property(row, s, at) {
         GotProperty::Found(_, _, next) => next,
         GotProperty::Refused(_) => s.len(),
     }
 }
 
 // The index after those properties from an index on that have this identifier.
-fn pass_run(place: PropertyRow, id: u8, s: &[u8], at: usize) -> usize
-    ensures { λ r. ⌜ RunPassed (tableRow place) id (now (s .entry)) at r ⌝ }
+fn pass_run(row: PropertyRow, id: u8, s: &[u8], at: usize) -> usize
+    ensures { λ r. ⌜ RunPassed (tableRow row) id (now (s .entry)) at r ⌝ }
 {
     let mut i = at;
     while i < s.len() {
         if s[i] != id {
             return i;
         }
-        i = pass_property(place, s, i);
+        i = pass_property(row, s, i);
     }
     i
 }
 
 // Do the properties stand in the order of the identifiers?
-fn in_order(place: PropertyRow, ids: &[u8], s: &[u8], start: usize) -> bool
-    ensures { λ r. ⌜ InOrder (tableRow place) (now (ids .entry)) (now (s .entry)) start r ⌝ }
+fn in_order(row: PropertyRow, ids: &[u8], s: &[u8], start: usize) -> bool
+    ensures { λ r. ⌜ InOrder (tableRow row) (now (ids .entry)) (now (s .entry)) start r ⌝ }
 {
     let mut i = start;
     let mut n: usize = 0;
     while n < ids.len() {
-        i = pass_run(place, ids[n], s, i);
+        i = pass_run(row, ids[n], s, i);
         n = n + 1;
     }
     s.len() <= i
@@ -89,13 +89,13 @@ fn put_if(out: &mut [u8], to: usize, id: u8, s: &[u8], i: usize, next: usize) ->
 }
 
 // Puts the properties with this identifier; gives the index behind them.
-fn put_each(place: PropertyRow, id: u8, s: &[u8], start: usize, out: &mut [u8], at: usize) -> usize
-    ensures { λ r. ⌜ IdPut (tableRow place) id (now (s .entry)) start (now (out .entry)) at (now (out .exit)) r ⌝ }
+fn put_each(row: PropertyRow, id: u8, s: &[u8], start: usize, out: &mut [u8], at: usize) -> usize
+    ensures { λ r. ⌜ IdPut (tableRow row) id (now (s .entry)) start (now (out .entry)) at (now (out .exit)) r ⌝ }
 {
     let mut to = run::after(out.len(), at, 0);
     let mut i = start;
     while i < s.len() {
-        let next = pass_property(place, s, i);
+        let next = pass_property(row, s, i);
         to = put_if(&mut *out, to, id, s, i, next);
         i = next;
     }
@@ -103,46 +103,46 @@ fn put_each(place: PropertyRow, id: u8, s: &[u8], start: usize, out: &mut [u8], 
 }
 
 // Puts the properties in the order of the identifiers, from the index on at which they stand.
-fn put_rows(place: PropertyRow, ids: &[u8], s: &[u8], start: usize, out: &mut [u8])
-    ensures { λ r. ⌜ IdsPut (tableRow place) (now (ids .entry)) (now (s .entry)) start (now (out .entry)) (now (out .exit)) ⌝ }
+fn put_rows(row: PropertyRow, ids: &[u8], s: &[u8], start: usize, out: &mut [u8])
+    ensures { λ r. ⌜ IdsPut (tableRow row) (now (ids .entry)) (now (s .entry)) start (now (out .entry)) (now (out .exit)) ⌝ }
 {
     let mut to = run::after(out.len(), start, 0);
     let mut n: usize = 0;
     while n < ids.len() {
-        to = put_each(place, ids[n], s, start, &mut *out, to);
+        to = put_each(row, ids[n], s, start, &mut *out, to);
         n = n + 1;
     }
 }
 
 // The same in one pass and one copy where they stand in that order.
-fn put_ordered(place: PropertyRow, ids: &[u8], s: &[u8], start: usize, out: &mut [u8])
-    requires { ⌜ now ids ≡ idsOf (tableRow place .forms) ⌝ }
-    ensures { λ r. ⌜ RowPut (tableRow place) (now (s .entry)) start (now (out .entry)) (now (out .exit)) ⌝ }
+fn put_ordered(row: PropertyRow, ids: &[u8], s: &[u8], start: usize, out: &mut [u8])
+    requires { ⌜ now ids ≡ idsOf (tableRow row .forms) ⌝ }
+    ensures { λ r. ⌜ RowPut (tableRow row) (now (s .entry)) start (now (out .entry)) (now (out .exit)) ⌝ }
 {
-    if in_order(place, ids, s, start) {
+    if in_order(row, ids, s, start) {
         put_bytes(&mut *out, start, run::piece(s, start, s.len()));
         return;
     }
-    put_rows(place, ids, s, start, &mut *out);
+    put_rows(row, ids, s, start, &mut *out);
 }
 
 // Puts the properties in the order of the row.
-fn put_block(place: PropertyRow, s: &[u8], start: usize, out: &mut [u8])
-    ensures { λ r. ⌜ RowPut (tableRow place) (now (s .entry)) start (now (out .entry)) (now (out .exit)) ⌝ }
+fn put_block(row: PropertyRow, s: &[u8], start: usize, out: &mut [u8])
+    ensures { λ r. ⌜ RowPut (tableRow row) (now (s .entry)) start (now (out .entry)) (now (out .exit)) ⌝ }
 {
-    match place {
+    match row {
         PropertyRow::Publish => {
             put_ordered(
-                place,
+                row,
                 b"\x01\x02\x23\x08\x09\x26\x0b\x03",
                 s,
                 start,
                 &mut *out,
             )
         }
-        PropertyRow::Subscribe => put_ordered(place, b"\x0b\x26", s, start, &mut *out),
-        PropertyRow::Ack => put_ordered(place, b"\x1f\x26", s, start, &mut *out),
-        PropertyRow::Unsubscribe => put_ordered(place, b"\x26", s, start, &mut *out),
+        PropertyRow::Subscribe => put_ordered(row, b"\x0b\x26", s, start, &mut *out),
+        PropertyRow::Ack => put_ordered(row, b"\x1f\x26", s, start, &mut *out),
+        PropertyRow::Unsubscribe => put_ordered(row, b"\x26", s, start, &mut *out),
     }
 }
 
@@ -194,18 +194,18 @@ fn give(b: &[u8], n: usize, out: &mut [u8]) -> Tidied
 }
 
 // Puts the first byte, what stands before the properties, and these.
-fn put_front(place: PropertyRow, first: u8, s: &[u8], start: usize, end: usize, out: &mut [u8])
+fn put_front(row: PropertyRow, first: u8, s: &[u8], start: usize, end: usize, out: &mut [u8])
     requires { ⌜ 1 ≤ start ⌝ }
-    ensures { λ r. ⌜ FrontPut (tableRow place) first (now (s .entry)) start end (now (out .entry)) (now (out .exit)) ⌝ }
+    ensures { λ r. ⌜ FrontPut (tableRow row) first (now (s .entry)) start end (now (out .entry)) (now (out .exit)) ⌝ }
 {
     put_byte(&mut *out, 0, first);
     put_bytes(&mut *out, 1, run::piece(s, 1, start - 1));
-    put_block(place, run::piece(s, 0, end), start, &mut *out);
+    put_block(row, run::piece(s, 0, end), start, &mut *out);
 }
 
 // A frame whose tidy form has its length: what stands behind the properties is copied.
 fn tidy_block(
-    place: PropertyRow,
+    row: PropertyRow,
     first: u8,
     s: &[u8],
     start: usize,
@@ -213,13 +213,13 @@ fn tidy_block(
     out: &mut [u8],
 ) -> Tidied
     requires { ⌜ 1 ≤ start ⌝ }
-    ensures { λ r. ⌜ LaidGiven (tableRow place) AsIs first (now (s .entry)) start end (now (out .entry)) (now (out .exit)) r ⌝ }
+    ensures { λ r. ⌜ LaidGiven (tableRow row) AsIs first (now (s .entry)) start end (now (out .entry)) (now (out .exit)) r ⌝ }
 {
     let size = s.len();
     if out.len() < size {
         return Tidied::Refused(Error::NoRoom(size), 0);
     }
-    put_front(place, first, s, start, end, &mut *out);
+    put_front(row, first, s, start, end, &mut *out);
     put_bytes(&mut *out, end, run::piece(s, end, size));
     Tidied::Put(size, size)
 }
@@ -271,7 +271,7 @@ fn tidy_ping(first: u8, n: usize, out: &mut [u8]) -> Tidied
 
 // How the tidy form of a frame is put, with its first byte.
 enum Way {
-    // it has the frame's length: a block of this place
+    // it has the frame's length: a block of this row
     Block(PropertyRow, u8),
     // the same of a Subscribe
     Filters(u8),
@@ -312,8 +312,8 @@ fn tidy_frame(s: &[u8], start: usize, end: usize, out: &mut [u8]) -> Tidied
 {
     let byte1 = s[0];
     match way_of(byte1, end <= start) {
-        Way::Block(place, first) => {
-            return tidy_block(place, first, s, start, end, &mut *out);
+        Way::Block(row, first) => {
+            return tidy_block(row, first, s, start, end, &mut *out);
         }
         Way::Filters(first) => return tidy_subscribe(first, s, start, end, &mut *out),
         Way::Short(first) => return tidy_short(first, s, &mut *out),

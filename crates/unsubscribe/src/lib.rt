@@ -1,12 +1,12 @@
 // Unsubscribe, after unsubscribe.rs: the fields of a frame from an index to the end of the slice.
 use numbers::fixed;
 use numbers::got::GotU16;
-use properties::place_block;
-use properties::place_block::GotBlock;
+use properties::row_block;
+use properties::row_block::GotBlock;
 use records::error::Error;
 use records::span::Span;
 use records::unsubscribe_record::Unsubscribe;
-use tables::property::OtherPlace;
+use tables::property::OtherRow;
 use wire::got::GotSpan;
 use wire::string;
 ghost use mathlib.Core.Path.{_≡_};
@@ -56,11 +56,7 @@ pub fn read(s: &[u8], at: usize) -> GotUnsubscribe
 {
     match fixed::read_u16(s, at) {
         GotU16::Refused(e) => GotUnsubscribe::Refused(e),
-        GotU16::Value(pkid, next) => match place_block::read_block(
-            OtherPlace::Unsubscribe,
-            s,
-            next,
-        ) {
+        GotU16::Value(pkid, next) => match row_block::read_block(OtherRow::Unsubscribe, s, next) {
             GotBlock::Refused(e) => GotUnsubscribe::Refused(e),
             GotBlock::Value(properties, start) => match read_topics(s, start) {
                 GotTopics::Refused(e) => GotUnsubscribe::Refused(e),

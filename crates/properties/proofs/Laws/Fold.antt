@@ -28,7 +28,7 @@ use Rattle.positions.proofs.Position.{bad-left}
 use Rattle.records.specs.AsNumbers.{toldError}
 use Rattle.records.specs.declared.error.Error.{Error}
 use Rattle.tables.specs.Property.{tableRow, otherOf}
-use Rattle.tables.specs.declared.property.OtherPlace.{OtherPlace}
+use Rattle.tables.specs.declared.property.OtherRow.{OtherRow}
 use Rattle.tables.specs.declared.property.PropertyRow.{PropertyRow}
 use Rattle.tables.specs.declared.property.PropertyRow.the-variants.{Publish, Subscribe, Ack, Unsubscribe}
 use Rattle.property_value.specs.OneProperty.{toldValue, formOf, publishLists, PropertyRead, PropertyPassed}
@@ -141,13 +141,13 @@ publish-lawful = record {
   seen = (λ o v i. said-set 1 i (publishSaid o) refl) & (λ o v i. said-set 2 i (publishSaid o) refl) & (λ o v i. said-set 35 i (publishSaid o) refl) & (λ o v i. said-set 8 i (publishSaid o) refl) & (λ o v i. said-set 9 i (publishSaid o) refl) & (λ o v i. refl) & (λ o v i. refl) & (λ o v i. said-set 3 i (publishSaid o) refl) & nil;
 }
 
-props-seen : (row : OtherPlace) → Each (Seen (propsRow (tableRow (otherOf row)))) (tableRow (otherOf row) .forms)
+props-seen : (row : OtherRow) → Each (Seen (propsRow (tableRow (otherOf row)))) (tableRow (otherOf row) .forms)
 unfolding subscribeRow ackRow unsubscribeRow lastOf
-props-seen OtherPlace.Subscribe = (λ o v i. said-set 11 i (propsSaid o) refl) & (λ o v i. refl) & nil
-props-seen OtherPlace.Ack = (λ o v i. said-set 31 i (propsSaid o) refl) & (λ o v i. refl) & nil
-props-seen OtherPlace.Unsubscribe = (λ o v i. refl) & nil
+props-seen OtherRow.Subscribe = (λ o v i. said-set 11 i (propsSaid o) refl) & (λ o v i. refl) & nil
+props-seen OtherRow.Ack = (λ o v i. said-set 31 i (propsSaid o) refl) & (λ o v i. refl) & nil
+props-seen OtherRow.Unsubscribe = (λ o v i. refl) & nil
 
-pub props-lawful : (row : OtherPlace) → Lawful (propsRow (tableRow (otherOf row)))
+pub props-lawful : (row : OtherRow) → Lawful (propsRow (tableRow (otherOf row)))
 unfolding propsOf lastOf
 props-lawful row = record {
   nil = λ o. refl;

@@ -28,7 +28,7 @@ use Rattle.records.specs.declared.error.Error.{Error}
 use Rattle.kinds.specs.Kinds.{kindRow}
 use Rattle.tables.specs.Property.{tableRow}
 use Rattle.tables.specs.declared.property.PropertyRow.{PropertyRow}
-use Rattle.tables.specs.declared.property.PropertyRow.the-variants as place-of
+use Rattle.tables.specs.declared.property.PropertyRow.the-variants as row-of
 use Rattle.tidy_form.specs.Tidy.{handedOf, rewrite, tidyOf}
 use Rattle.tidy_form.specs.Order.{AsIs, Masked, FrameLaid, shortAck}
 use Rattle.tidy_form.proofs.Tidy.{tidy-refused}
@@ -78,12 +78,12 @@ module _ {s : List ℕ} {start end : ℕ} (a : Accepted s start end) (o : Octets
         frame-tidied s start end before after r a o (rw f g)
 
   -- a frame with a block
-  pub laid-tidied : {place : Row} {T : List ℕ → List ℕ → Type 0} {first : ℕ} {before after : List ℕ} {r : Tidied} → FrameLaid place T (handedOf (a .packet)) first s start end
-      → LaidGiven place T first s start end before after r → FrameTidied s before after r
+  pub laid-tidied : {row : Row} {T : List ℕ → List ℕ → Type 0} {first : ℕ} {before after : List ℕ} {r : Tidied} → FrameLaid row T (handedOf (a .packet)) first s start end
+      → LaidGiven row T first s start end before after r → FrameTidied s before after r
   laid-tidied {before = before} {after = after} {r = r} w g = frame-tidied s start end before after r a o (g (handedOf (a .packet)) w)
 
   -- its properties stand behind a byte at least
-  pub laid-start : {place : Row} {T : List ℕ → List ℕ → Type 0} {first : ℕ} → FrameLaid place T (handedOf (a .packet)) first s start end → 1 ≤ start
+  pub laid-start : {row : Row} {T : List ℕ → List ℕ → Type 0} {first : ℕ} → FrameLaid row T (handedOf (a .packet)) first s start end → 1 ≤ start
   laid-start w = omega (arith, w .starts)
 
   -- no kind that is not carried
@@ -147,29 +147,29 @@ module _ {s : List ℕ} {start end : ℕ} (a : Accepted s start end) (o : Octets
   ack-block : (w : PropertyRow) (first : ℕ) (rs : List ℕ) (t : Bool) → leb end start ≡ t → Kinded a o (some (anAck rs)) → Way.Block w first ≡ ackWay (firstOf (kindOf (getD s 0 0))) t → BlockLaid w first
   ack-block w first rs true h k e = never (cc)
   ack-block w first rs false h k e =
-      let p : w ≡ place-of.Ack = cc in
+      let p : w ≡ row-of.Ack = cc in
       let q : first ≡ firstOf (kindOf (getD s 0 0)) = cc in
       rw p (ack-in a o q k (leb-false end start h))
 
   block-laid : (w : PropertyRow) (first : ℕ) (l : Option Layout) → Kinded a o l → Way.Block w first ≡ wayOf l (getD s 0 0) (leb end start) → BlockLaid w first
   block-laid w first none k e = never (cc)
   block-laid w first (some aPublish) k e =
-      let p : w ≡ place-of.Publish = cc in
+      let p : w ≡ row-of.Publish = cc in
       let q : first ≡ getD s 0 0 = cc in
       rw (p, q) (publish-in a o k)
   block-laid w first (some (anAck rs)) k e = ack-block w first rs (leb end start) refl k e
   block-laid w first (some aSubscribe) k e = never (cc)
   block-laid w first (some (aReply rs)) k e =
-      let p : w ≡ place-of.Ack = cc in
+      let p : w ≡ row-of.Ack = cc in
       let q : first ≡ firstOf (kindOf (getD s 0 0)) = cc in
       rw p (reply-in a o q k)
   block-laid w first (some anUnsubscribe) k e =
-      let p : w ≡ place-of.Unsubscribe = cc in
+      let p : w ≡ row-of.Unsubscribe = cc in
       let q : first ≡ firstOf (kindOf (getD s 0 0)) = cc in
       rw p (unsubscribe-in a o q k)
   block-laid w first (some aPing) k e = never (cc)
 
-  -- a block of this place
+  -- a block of this row
   pub way-block : {w : PropertyRow} {first : ℕ} → Goes (Way.Block w first) → BlockLaid w first
   way-block {w} {first} e = block-laid w first (lookup kinds (kindOf (getD s 0 0))) refl e
 

@@ -70,23 +70,23 @@ module _ {A B : Type 0} {R : A → B → Type 0} {p : Reader A} {p′ : Reader B
 
 -- ---- a property
 
-module _ (place : Row) (s : List ℕ) (at : ℕ) where
-  pub passed-found : {a : PropOf Span} {m : ℕ} → got (a, m) ≡ fromAt (propertyOf asPlaces place (length s)) s at → Passed place s at m
-  passed-found {a} {m} f = record { ahead = λ h. property-ahead place s at a m f; says = λ p ps w. let (b, c, e, k, r) = many-more w in go p ps b c e k r }
+module _ (row : Row) (s : List ℕ) (at : ℕ) where
+  pub passed-found : {a : PropOf Span} {m : ℕ} → got (a, m) ≡ fromAt (propertyOf asPlaces row (length s)) s at → Passed row s at m
+  passed-found {a} {m} f = record { ahead = λ h. property-ahead row s at a m f; says = λ p ps w. let (b, c, e, k, r) = many-more w in go p ps b c e k r }
     where
-      go : (p : Prop) (ps : List Prop) (b c : List ℕ) → drop at s ≡ b ++ c → Exact place p b → Many (Exact place) ps c → Between place s at p ps m
+      go : (p : Prop) (ps : List Prop) (b c : List ℕ) → drop at s ≡ b ++ c → Exact row p b → Many (Exact row) ps c → Between row s at p ps m
       go p ps b c e k r =
-          let n : length b ≡ length (propertyBytes place p) = ap length (k .bytes) in
-          let (i, j) = item-at s at (property-says s place (length s)) (reads-property place (length s)) b c e (k .spelt) (trails-property asPlaces (length s) place) (omega (arith, n)) f in
+          let n : length b ≡ length (propertyBytes row p) = ap length (k .bytes) in
+          let (i, j) = item-at s at (property-says s row (length s)) (reads-property row (length s)) b c e (k .spelt) (trails-property asPlaces (length s) row) (omega (arith, n)) f in
           let l : m - at ≡ length b = omega (arith, i) in
           let z : getD (drop at s) 0 0 ≡ p .0 = rw (e, k .bytes) in
           let o : at + 0 ≡ at = omega arith in
           record { bytes = rw (l, e) (take-at b c (length b) refl ∙ k .bytes); head = rw o at (sym (getD-drop at s 0 0) ∙ z); rest = rw j r }
 
-  pub passed-none : {k : Refusal} → bad k ≡ fromAt (propertyOf asPlaces place (length s)) s at → Passed place s at (length s)
+  pub passed-none : {k : Refusal} → bad k ≡ fromAt (propertyOf asPlaces row (length s)) s at → Passed row s at (length s)
   passed-none f = record {
     ahead = λ h. h;
-    says = λ p ps w. let (b, c, e, k, r) = many-more w in item-read s at (property-says s place (length s)) (reads-property place (length s)) b c e (k .spelt) f;
+    says = λ p ps w. let (b, c, e, k, r) = many-more w in item-read s at (property-says s row (length s)) (reads-property row (length s)) b c e (k .spelt) f;
   }
 
 -- ---- a filter

@@ -127,20 +127,20 @@ props-stand h q t s x a k e i j =
     let z : x ∷ (h ++ (q ++ t)) ≡ (x ∷ (h ++ q)) ++ t = ap (λ (l : List ℕ). x ∷ l) (sym (append-assoc h q t)) in
     ap (drop a) (ap (take k) (e ∙ z) ∙ take-at (x ∷ (h ++ q)) t k (sym (j ∙ ap suc (sym (length-append h q))))) ∙ drop-at (x ∷ h) q a (sym i)
 
-module _ (place : Row) (first : ℕ) (s : List ℕ) (start end : ℕ) (before : List ℕ) where
-  pub front-put : {o₁ o₂ after l f : List ℕ} → o₁ ≡ sets before 0 (first ∷ []) → l ≡ take (start - 1) (drop 1 s) → o₂ ≡ sets o₁ 1 l → f ≡ take end (drop 0 s) → RowPut place f start o₂ after
-      → FrontPut place first s start end before after
+module _ (row : Row) (first : ℕ) (s : List ℕ) (start end : ℕ) (before : List ℕ) where
+  pub front-put : {o₁ o₂ after l f : List ℕ} → o₁ ≡ sets before 0 (first ∷ []) → l ≡ take (start - 1) (drop 1 s) → o₂ ≡ sets o₁ 1 l → f ≡ take end (drop 0 s) → RowPut row f start o₂ after
+      → FrontPut row first s start end before after
   front-put {o₁} {o₂} {after} {l} {f} e₁ i e₂ j P head list w =
       let n : start - 1 ≡ length head = omega (arith, w .starts) in
       let d : drop 1 s ≡ head ++ (w .props ++ w .tail) = ap (drop 1) (w .whole) in
       let k : l ≡ head = i ∙ rw (n, d) (take-at head (w .props ++ w .tail) (length head) refl) in
       let g : drop start f ≡ w .props = ap (drop start) j ∙ props-stand head (w .props) (w .tail) s (w .byte) start end (w .whole) (w .starts) (w .ends) in
-      let v : Stands place f start list = subst (λ (b : List ℕ). Many (Exact place) list b) (sym g) (w .exact) in
+      let v : Stands row f start list = subst (λ (b : List ℕ). Many (Exact row) list b) (sym g) (w .exact) in
       let a : o₂ ≡ sets before 0 (first ∷ head) = sets-then (first ∷ []) head before o₁ o₂ 0 1 e₁ refl (e₂ ∙ ap (sets o₁ 1) k) in
-      sets-then (first ∷ head) (orderedBytes place list) before o₂ after 0 start a (omega (arith, w .starts)) (P list v)
+      sets-then (first ∷ head) (orderedBytes row list) before o₂ after 0 start a (omega (arith, w .starts)) (P list v)
 
-  module _ {T : List ℕ → List ℕ → Type 0} {h : Handed} (w : FrameLaid place T h first s start end) where
-    pub front-at : FrontAt place s start end (w .head) (w .list)
+  module _ {T : List ℕ → List ℕ → Type 0} {h : Handed} (w : FrameLaid row T h first s start end) where
+    pub front-at : FrontAt row s start end (w .head) (w .list)
     front-at = record { byte = w .byte; props = w .props; tail = w .tail; whole = w .whole; starts = w .starts; ends = w .ends; exact = w .exact }
 
     pub tail-at : drop end s ≡ w .tail
@@ -157,26 +157,26 @@ module _ (place : Row) (first : ℕ) (s : List ℕ) (start end : ℕ) (before : 
           w .even,
           length-append (w .head) (w .props ++ w .tail),
           length-append (w .props) (w .tail),
-          length-append (w .head) (orderedBytes place (w .list) ++ w .other),
-          length-append (orderedBytes place (w .list)) (w .other),
+          length-append (w .head) (orderedBytes row (w .list) ++ w .other),
+          length-append (orderedBytes row (w .list)) (w .other),
         )
 
     -- front and rest are all of it
-    pub all-put : {o after : List ℕ} → FrontPut place first s start end before o → after ≡ sets o end (w .other) → after ≡ sets before 0 (frameBytes h)
+    pub all-put : {o after : List ℕ} → FrontPut row first s start end before o → after ≡ sets o end (w .other) → after ≡ sets before 0 (frameBytes h)
     all-put {o} {after} F e =
-        let k : 0 + length (first ∷ (w .head ++ orderedBytes place (w .list))) ≡ end = omega (arith, w .ends, w .light, length-append (w .head) (orderedBytes place (w .list))) in
-        let a : after ≡ sets before 0 ((first ∷ (w .head ++ orderedBytes place (w .list))) ++ w .other) =
-        sets-then (first ∷ (w .head ++ orderedBytes place (w .list))) (w .other) before o after 0 end (F (w .head) (w .list) front-at) (sym k) e in
-        a ∙ ap (sets before 0) (ap (λ (l : List ℕ). first ∷ l) (append-assoc (w .head) (orderedBytes place (w .list)) (w .other)) ∙ sym (w .form))
+        let k : 0 + length (first ∷ (w .head ++ orderedBytes row (w .list))) ≡ end = omega (arith, w .ends, w .light, length-append (w .head) (orderedBytes row (w .list))) in
+        let a : after ≡ sets before 0 ((first ∷ (w .head ++ orderedBytes row (w .list))) ++ w .other) =
+        sets-then (first ∷ (w .head ++ orderedBytes row (w .list))) (w .other) before o after 0 end (F (w .head) (w .list) front-at) (sym k) e in
+        a ∙ ap (sets before 0) (ap (λ (l : List ℕ). first ∷ l) (append-assoc (w .head) (orderedBytes row (w .list)) (w .other)) ∙ sym (w .form))
 
   -- 02, P14: the rest as it stands
-  pub laid-put : {o after l : List ℕ} → FrontPut place first s start end before o → l ≡ take (length s) (drop end s) → after ≡ sets o end l → length s ≤ length before
-      → LaidGiven place AsIs first s start end before after (Tidied.Put (length s) (length s))
+  pub laid-put : {o after l : List ℕ} → FrontPut row first s start end before o → l ≡ take (length s) (drop end s) → after ≡ sets o end l → length s ≤ length before
+      → LaidGiven row AsIs first s start end before after (Tidied.Put (length s) (length s))
   laid-put {o} {after} {l} F i e r h w =
       let k : l ≡ w .other = i ∙ take-all (length s) (drop end s) (omega (arith, length-drop end s)) ∙ tail-at w ∙ sym (w .kept) in
       gives-put (frameBytes h) (length s) before after (length s) (laid-length w) r (all-put w F (e ∙ ap (sets o end) k))
 
-  pub laid-none : {T : List ℕ → List ℕ → Type 0} → length before < length s → LaidGiven place T first s start end before before (Tidied.Refused (Error.NoRoom (length s)) 0)
+  pub laid-none : {T : List ℕ → List ℕ → Type 0} → length before < length s → LaidGiven row T first s start end before before (Tidied.Refused (Error.NoRoom (length s)) 0)
   laid-none r h w = gives-none (frameBytes h) (length s) before (length s) (laid-length w) r
 
 -- its filters with their options bytes

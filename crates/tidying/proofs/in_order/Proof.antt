@@ -11,10 +11,10 @@ use Rattle.tidying.proofs.in_order.Statement.{statement}
 use Rattle.tidying.proofs.in_order.Tie as tie
 
 abbrev Inv-loop : tie.InvT-loop
-Inv-loop place ids s start i₀ n₀ i n = OrderingAll (tableRow place) s ids start n i
+Inv-loop row ids s start i₀ n₀ i n = OrderingAll (tableRow row) s ids start n i
 
 abbrev μ-loop : tie.MeasureT-loop
-μ-loop place ids s start i₀ n₀ i n = length ids - n
+μ-loop row ids s start i₀ n₀ i n = length ids - n
 
 loop-holds : tie.Need-loop-holds Inv-loop μ-loop
 loop-holds c = order-start _ _ _ _
@@ -32,10 +32,10 @@ loop-less : tie.Need-loop-less Inv-loop μ-loop
 loop-less c = omega arith
 
 loop-again : tie.Need-loop-again Inv-loop μ-loop
-loop-again c = order-next (tableRow (c .before .before .before .before .before .before .args .place)) (now (c .before .before .before .before .before .before .args .s)) (now (c .before .before .before .before .before .before .args .ids)) (c .before .before .before .before .before .before .args .start) (c .before .before .before .loop .inv) (c .before .before .loop-test .taken) (c .pass-run .ensures)
+loop-again c = order-next (tableRow (c .before .before .before .before .before .before .args .row)) (now (c .before .before .before .before .before .before .args .s)) (now (c .before .before .before .before .before .before .args .ids)) (c .before .before .before .before .before .before .args .start) (c .before .before .before .loop .inv) (c .before .before .loop-test .taken) (c .pass-run .ensures)
 
 returns : tie.Need-returns Inv-loop μ-loop
-returns c = λ ps v e. order-end (tableRow (c .before .before .before .before .args .place)) (now (c .before .before .before .before .args .s)) (now (c .before .before .before .before .args .ids)) (c .before .before .before .before .args .start) (c .before .loop .inv) (omega arith) (leb-true _ _ e) ps v
+returns c = λ ps v e. order-end (tableRow (c .before .before .before .before .args .row)) (now (c .before .before .before .before .args .s)) (now (c .before .before .before .before .args .ids)) (c .before .before .before .before .args .start) (c .before .loop .inv) (omega arith) (leb-true _ _ e) ps v
 
 pub in-order-spec : {M : Type 1} → statement M
 in-order-spec =

@@ -16,10 +16,10 @@ enum-told : tie.Need-enum-told
 enum-told c = search needs
 
 returns : tie.Need-returns
-returns c = passed-found (tableRow (c .before .before .before .before .before .args .place)) (now (c .before .before .before .before .before .args .s)) (c .before .before .before .before .before .args .at) (rw (c .before .next .given .1) at (c .before .before .before .read-property .ensures .says))
+returns c = passed-found (tableRow (c .before .before .before .before .before .args .row)) (now (c .before .before .before .before .before .args .s)) (c .before .before .before .before .before .args .at) (rw (c .before .next .given .1) at (c .before .before .before .read-property .ensures .says))
 
 returns-2 : tie.Need-returns-2
-returns-2 c = passed-none (tableRow (c .before .before .before .before .args .place)) (now (c .before .before .before .before .args .s)) (c .before .before .before .before .args .at) (rw (c .enum-told .given .1) at (c .before .before .read-property .ensures .says))
+returns-2 c = passed-none (tableRow (c .before .before .before .before .args .row)) (now (c .before .before .before .before .args .s)) (c .before .before .before .before .args .at) (rw (c .enum-told .given .1) at (c .before .before .read-property .ensures .says))
 
 pub pass-property-spec : {M : Type 1} → statement M
 pass-property-spec =

@@ -11,10 +11,10 @@ use Rattle.tidying.proofs.pass_run.Statement.{statement}
 use Rattle.tidying.proofs.pass_run.Tie as tie
 
 abbrev Inv-loop : tie.InvT-loop
-Inv-loop place id s at i₀ i = RunPassed (tableRow place) id s at i
+Inv-loop row id s at i₀ i = RunPassed (tableRow row) id s at i
 
 abbrev μ-loop : tie.MeasureT-loop
-μ-loop place id s at i₀ i = length s - i
+μ-loop row id s at i₀ i = length s - i
 
 loop-holds : tie.Need-loop-holds Inv-loop μ-loop
 loop-holds c = run-start _ _ _ _
@@ -32,7 +32,7 @@ loop-less : tie.Need-loop-less Inv-loop μ-loop
 loop-less c = omega (arith, c .pass-property .ensures .ahead (c .before .before .before .loop-test .taken))
 
 loop-again : tie.Need-loop-again Inv-loop μ-loop
-loop-again c = run-next (tableRow (c .before .before .before .before .before .before .args .place)) (now (c .before .before .before .before .before .before .args .s)) (c .before .before .before .before .before .before .args .id) (c .before .before .before .before .before .before .args .at) (c .before .before .before .before .loop .inv) (c .before .before .before .loop-test .taken) (omega arith) (c .pass-property .ensures)
+loop-again c = run-next (tableRow (c .before .before .before .before .before .before .args .row)) (now (c .before .before .before .before .before .before .args .s)) (c .before .before .before .before .before .before .args .id) (c .before .before .before .before .before .before .args .at) (c .before .before .before .before .loop .inv) (c .before .before .before .loop-test .taken) (omega arith) (c .pass-property .ensures)
 
 returns-2 : tie.Need-returns-2 Inv-loop μ-loop
 returns-2 c = c .before .loop .inv

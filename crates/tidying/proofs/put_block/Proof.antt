@@ -1,4 +1,4 @@
--- `tidying::put_block` is right since each place has its row of the table. Assumes nothing.
+-- `tidying::put_block` is right since each row of the table has its identifiers. Assumes nothing.
 use borrow.Author.Needs.{needs}
 use Rattle.grammar.specs.Tables.{publishRow, subscribeRow, ackRow, unsubscribeRow}
 use Rattle.tidying.proofs.put_block.Statement.{statement}

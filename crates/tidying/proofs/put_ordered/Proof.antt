@@ -22,7 +22,7 @@ same-length : tie.Need-same-length
 same-length c = search needs
 
 returns : tie.Need-returns
-returns c = ordered-put (c .before .before .before .before .before .before .before .before .before .before .args .place) (now (c .before .before .before .before .before .before .before .before .before .before .args .ids)) (now (c .before .before .before .before .before .before .before .before .before .before .args .s)) (c .before .before .before .before .before .before .before .before .before .before .args .start) (now (c .before .before .before .before .before .before .before .before .before .before .args .out)) _ (c .before .before .before .before .before .before .before .before .before .before .pre) (λ ps v. c .before .before .before .before .before .before .in-order .ensures ps v (c .before .before .before .before .before .if1 .taken)) (now (c .before .before .before .piece .result)) (c .before .before .before .piece .ensures .bytes ∙ take-all (length (now (c .before .before .before .before .before .before .before .before .before .before .args .s))) (drop (c .before .before .before .before .before .before .before .before .before .before .args .start) (now (c .before .before .before .before .before .before .before .before .before .before .args .s))) (omega (arith, length-drop (c .before .before .before .before .before .before .before .before .before .before .args .start) (now (c .before .before .before .before .before .before .before .before .before .before .args .s))))) (c .before .before .put-bytes .ensures)
+returns c = ordered-put (c .before .before .before .before .before .before .before .before .before .before .args .row) (now (c .before .before .before .before .before .before .before .before .before .before .args .ids)) (now (c .before .before .before .before .before .before .before .before .before .before .args .s)) (c .before .before .before .before .before .before .before .before .before .before .args .start) (now (c .before .before .before .before .before .before .before .before .before .before .args .out)) _ (c .before .before .before .before .before .before .before .before .before .before .pre) (λ ps v. c .before .before .before .before .before .before .in-order .ensures ps v (c .before .before .before .before .before .if1 .taken)) (now (c .before .before .before .piece .result)) (c .before .before .before .piece .ensures .bytes ∙ take-all (length (now (c .before .before .before .before .before .before .before .before .before .before .args .s))) (drop (c .before .before .before .before .before .before .before .before .before .before .args .start) (now (c .before .before .before .before .before .before .before .before .before .before .args .s))) (omega (arith, length-drop (c .before .before .before .before .before .before .before .before .before .before .args .start) (now (c .before .before .before .before .before .before .before .before .before .before .args .s))))) (c .before .before .put-bytes .ensures)
 
 put-rows-requires : tie.Need-put-rows-requires
 put-rows-requires c κs = search needs
@@ -31,7 +31,7 @@ same-length-2 : tie.Need-same-length-2
 same-length-2 c = search needs
 
 returns-2 : tie.Need-returns-2
-returns-2 c = rows-put (c .before .before .before .before .before .before .before .before .before .args .place) (now (c .before .before .before .before .before .before .before .before .before .args .ids)) (now (c .before .before .before .before .before .before .before .before .before .args .s)) (c .before .before .before .before .before .before .before .before .before .args .start) (now (c .before .before .before .before .before .before .before .before .before .args .out)) _ (c .before .before .before .before .before .before .before .before .before .pre) (c .before .before .put-rows .ensures)
+returns-2 c = rows-put (c .before .before .before .before .before .before .before .before .before .args .row) (now (c .before .before .before .before .before .before .before .before .before .args .ids)) (now (c .before .before .before .before .before .before .before .before .before .args .s)) (c .before .before .before .before .before .before .before .before .before .args .start) (now (c .before .before .before .before .before .before .before .before .before .args .out)) _ (c .before .before .before .before .before .before .before .before .before .pre) (c .before .before .put-rows .ensures)
 
 pub put-ordered-spec : {M : Type 1} → statement M
 put-ordered-spec =

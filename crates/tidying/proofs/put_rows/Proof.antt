@@ -11,16 +11,16 @@ use Rattle.tidying.proofs.put_rows.Statement.{statement}
 use Rattle.tidying.proofs.put_rows.Tie as tie
 
 abbrev Inv-loop : tie.InvT-loop
-Inv-loop place ids s start out₀ to₀ n₀ out to n = (length out ≡ length out₀) × RowsPut (tableRow place) s ids start out₀ out to n
+Inv-loop row ids s start out₀ to₀ n₀ out to n = (length out ≡ length out₀) × RowsPut (tableRow row) s ids start out₀ out to n
 
 abbrev μ-loop : tie.MeasureT-loop
-μ-loop place ids s start out₀ to₀ n₀ out to n = length ids - n
+μ-loop row ids s start out₀ to₀ n₀ out to n = length ids - n
 
 after-requires : tie.Need-after-requires Inv-loop μ-loop
 after-requires c κs = search needs
 
 loop-holds : tie.Need-loop-holds Inv-loop μ-loop
-loop-holds c = (refl, rows-start (tableRow (c .before .before .before .before .args .place)) (now (c .before .before .before .before .args .s)) (now (c .before .before .before .before .args .ids)) (c .before .before .before .before .args .start) (now (c .before .before .before .before .args .out)) (c .after .ensures))
+loop-holds c = (refl, rows-start (tableRow (c .before .before .before .before .args .row)) (now (c .before .before .before .before .args .s)) (now (c .before .before .before .before .args .ids)) (c .before .before .before .before .args .start) (now (c .before .before .before .before .args .out)) (c .after .ensures))
 
 shared-slice-read-put-each : tie.Need-shared-slice-read-put-each Inv-loop μ-loop
 shared-slice-read-put-each c = search needs
@@ -35,13 +35,13 @@ loop-less : tie.Need-loop-less Inv-loop μ-loop
 loop-less c = omega arith
 
 loop-again : tie.Need-loop-again Inv-loop μ-loop
-loop-again c = (omega (arith, c .before .out .given, c .before .before .before .before .before .before .loop .inv .0), rows-next (tableRow (c .before .before .before .before .before .before .before .before .before .before .before .args .place)) (now (c .before .before .before .before .before .before .before .before .before .before .before .args .s)) (now (c .before .before .before .before .before .before .before .before .before .before .before .args .ids)) (c .before .before .before .before .before .before .before .before .before .before .before .args .start) (now (c .before .before .before .before .before .before .before .before .before .before .before .args .out)) (c .before .before .before .before .before .before .loop .inv .1) (c .before .before .before .before .before .loop-test .taken) (c .before .before .put-each .ensures))
+loop-again c = (omega (arith, c .before .out .given, c .before .before .before .before .before .before .loop .inv .0), rows-next (tableRow (c .before .before .before .before .before .before .before .before .before .before .before .args .row)) (now (c .before .before .before .before .before .before .before .before .before .before .before .args .s)) (now (c .before .before .before .before .before .before .before .before .before .before .before .args .ids)) (c .before .before .before .before .before .before .before .before .before .before .before .args .start) (now (c .before .before .before .before .before .before .before .before .before .before .before .args .out)) (c .before .before .before .before .before .before .loop .inv .1) (c .before .before .before .before .before .loop-test .taken) (c .before .before .put-each .ensures))
 
 same-length : tie.Need-same-length Inv-loop μ-loop
 same-length c = c .before .loop .inv .0
 
 returns : tie.Need-returns Inv-loop μ-loop
-returns c = rows-end (tableRow (c .before .before .before .before .before .before .args .place)) (now (c .before .before .before .before .before .before .args .s)) (now (c .before .before .before .before .before .before .args .ids)) (c .before .before .before .before .before .before .args .start) (now (c .before .before .before .before .before .before .args .out)) {n = c .before .loop .n} (c .before .loop .inv .1) (omega arith)
+returns c = rows-end (tableRow (c .before .before .before .before .before .before .args .row)) (now (c .before .before .before .before .before .before .args .s)) (now (c .before .before .before .before .before .before .args .ids)) (c .before .before .before .before .before .before .args .start) (now (c .before .before .before .before .before .before .args .out)) {n = c .before .loop .n} (c .before .loop .inv .1) (omega arith)
 
 pub put-rows-spec : {M : Type 1} → statement M
 put-rows-spec =

@@ -8,7 +8,7 @@ use Rattle.tidying.proofs.tidy_block.Statement.{statement}
 use Rattle.tidying.proofs.tidy_block.Tie as tie
 
 returns : tie.Need-returns
-returns c = laid-none (tableRow (c .before .before .before .args .place)) (c .before .before .before .args .first) (now (c .before .before .before .args .s)) (c .before .before .before .args .start) (c .before .before .before .args .end) (now (c .before .before .before .args .out)) (omega arith)
+returns c = laid-none (tableRow (c .before .before .before .args .row)) (c .before .before .before .args .first) (now (c .before .before .before .args .s)) (c .before .before .before .args .start) (c .before .before .before .args .end) (now (c .before .before .before .args .out)) (omega arith)
 
 put-front-requires : tie.Need-put-front-requires
 put-front-requires c κs = search needs
@@ -23,7 +23,7 @@ same-length : tie.Need-same-length
 same-length c = search needs
 
 returns-2 : tie.Need-returns-2
-returns-2 c = laid-put (tableRow (c .before .before .before .before .before .before .before .before .before .before .before .before .args .place)) (c .before .before .before .before .before .before .before .before .before .before .before .before .args .first) (now (c .before .before .before .before .before .before .before .before .before .before .before .before .args .s)) (c .before .before .before .before .before .before .before .before .before .before .before .before .args .start) (c .before .before .before .before .before .before .before .before .before .before .before .before .args .end) (now (c .before .before .before .before .before .before .before .before .before .before .before .before .args .out)) (c .before .before .before .before .before .before .before .put-front .ensures) (c .before .before .before .piece .ensures .bytes) (c .before .before .put-bytes .ensures) (omega arith)
+returns-2 c = laid-put (tableRow (c .before .before .before .before .before .before .before .before .before .before .before .before .args .row)) (c .before .before .before .before .before .before .before .before .before .before .before .before .args .first) (now (c .before .before .before .before .before .before .before .before .before .before .before .before .args .s)) (c .before .before .before .before .before .before .before .before .before .before .before .before .args .start) (c .before .before .before .before .before .before .before .before .before .before .before .before .args .end) (now (c .before .before .before .before .before .before .before .before .before .before .before .before .args .out)) (c .before .before .before .before .before .before .before .put-front .ensures) (c .before .before .before .piece .ensures .bytes) (c .before .before .put-bytes .ensures) (omega arith)
 
 pub tidy-block-spec : {M : Type 1} → statement M
 tidy-block-spec =

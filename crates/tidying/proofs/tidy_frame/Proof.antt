@@ -13,17 +13,17 @@ shared-slice-read-byte1 c = some-bytes (c .before .before .before .pre .packet) 
 way-of-requires : tie.Need-way-of-requires
 way-of-requires c κs = search needs
 
-enum-known-place : tie.Need-enum-known-place
-enum-known-place c = search needs
+enum-known-row : tie.Need-enum-known-row
+enum-known-row c = search needs
 
 tidy-block-requires : tie.Need-tidy-block-requires
-tidy-block-requires c κs = laid-start (c .before .before .before .before .before .before .before .before .pre) (octets-of (now (c .before .before .before .before .before .before .before .before .args .s)) (λ i. omega (arith, c .before .before .before .before .before .shared-slice-known2 .given i))) (way-block (c .before .before .before .before .before .before .before .before .pre) (octets-of (now (c .before .before .before .before .before .before .before .before .args .s)) (λ i. omega (arith, c .before .before .before .before .before .shared-slice-known2 .given i))) (rw (c .before .before .place .given .1) at (c .before .before .before .before .way-of .ensures)))
+tidy-block-requires c κs = laid-start (c .before .before .before .before .before .before .before .before .pre) (octets-of (now (c .before .before .before .before .before .before .before .before .args .s)) (λ i. omega (arith, c .before .before .before .before .before .shared-slice-known2 .given i))) (way-block (c .before .before .before .before .before .before .before .before .pre) (octets-of (now (c .before .before .before .before .before .before .before .before .args .s)) (λ i. omega (arith, c .before .before .before .before .before .shared-slice-known2 .given i))) (rw (c .before .before .row .given .1) at (c .before .before .before .before .way-of .ensures)))
 
 same-length : tie.Need-same-length
 same-length c = search needs
 
 returns : tie.Need-returns
-returns c = laid-tidied (c .before .before .before .before .before .before .before .before .before .before .before .pre) (octets-of (now (c .before .before .before .before .before .before .before .before .before .before .before .args .s)) (λ i. omega (arith, c .before .before .before .before .before .before .before .before .shared-slice-known2 .given i))) (way-block (c .before .before .before .before .before .before .before .before .before .before .before .pre) (octets-of (now (c .before .before .before .before .before .before .before .before .before .before .before .args .s)) (λ i. omega (arith, c .before .before .before .before .before .before .before .before .shared-slice-known2 .given i))) (rw (c .before .before .before .before .before .place .given .1) at (c .before .before .before .before .before .before .before .way-of .ensures))) (c .before .before .tidy-block .ensures)
+returns c = laid-tidied (c .before .before .before .before .before .before .before .before .before .before .before .pre) (octets-of (now (c .before .before .before .before .before .before .before .before .before .before .before .args .s)) (λ i. omega (arith, c .before .before .before .before .before .before .before .before .shared-slice-known2 .given i))) (way-block (c .before .before .before .before .before .before .before .before .before .before .before .pre) (octets-of (now (c .before .before .before .before .before .before .before .before .before .before .before .args .s)) (λ i. omega (arith, c .before .before .before .before .before .before .before .before .shared-slice-known2 .given i))) (rw (c .before .before .before .before .before .row .given .1) at (c .before .before .before .before .before .before .before .way-of .ensures))) (c .before .before .tidy-block .ensures)
 
 enum-known-first : tie.Need-enum-known-first
 enum-known-first c = search needs
@@ -73,7 +73,7 @@ tidy-frame-spec =
     (tie.spec
     shared-slice-read-byte1
     way-of-requires
-    enum-known-place
+    enum-known-row
     tidy-block-requires
     same-length
     returns

@@ -2,7 +2,7 @@
 use mathlib.Core.Path.{sym, ap, _∙_}
 use Prim.Native.Nat.{ℕ}
 use borrow.Author.Needs.{needs}
-use Rattle.tables.specs.declared.property.PropertyRow.the-variants as place-of
+use Rattle.tables.specs.declared.property.PropertyRow.the-variants as row-of
 use Rattle.tidying.proofs.Laws.Frame.{way-as}
 use Rattle.tidying.specs.Way.{ackWay}
 use Rattle.tidying.specs.declared.Way.{Way}
@@ -28,7 +28,7 @@ returns-2 : tie.Need-returns-2
 returns-2 c = ap Way.Short (c .before .before .before .before .first-byte .ensures) ∙ ap (ackWay _) (sym (c .if1 .taken)) ∙ way-as (c .before .before .before .before .before .args .byte1) (c .before .before .before .before .before .args .bare) (rw (c .before .enum-told2 .given .1) at (c .before .before .before .kind-of .ensures))
 
 returns-3 : tie.Need-returns-3
-returns-3 c = ap (λ (k : ℕ). Way.Block place-of.Ack k) (c .before .before .before .before .first-byte .ensures) ∙ ap (ackWay _) (sym (c .if1 .left)) ∙ way-as (c .before .before .before .before .before .args .byte1) (c .before .before .before .before .before .args .bare) (rw (c .before .enum-told2 .given .1) at (c .before .before .before .kind-of .ensures))
+returns-3 c = ap (λ (k : ℕ). Way.Block row-of.Ack k) (c .before .before .before .before .first-byte .ensures) ∙ ap (ackWay _) (sym (c .if1 .left)) ∙ way-as (c .before .before .before .before .before .args .byte1) (c .before .before .before .before .before .args .bare) (rw (c .before .enum-told2 .given .1) at (c .before .before .before .kind-of .ensures))
 
 enum-told-3 : tie.Need-enum-told-3
 enum-told-3 c = search needs
@@ -40,13 +40,13 @@ enum-told-4 : tie.Need-enum-told-4
 enum-told-4 c = search needs
 
 returns-5 : tie.Need-returns-5
-returns-5 c = ap (λ (k : ℕ). Way.Block place-of.Ack k) (c .before .before .before .first-byte .ensures) ∙ way-as (c .before .before .before .before .args .byte1) (c .before .before .before .before .args .bare) (rw (c .enum-told4 .given .1) at (c .before .before .kind-of .ensures))
+returns-5 c = ap (λ (k : ℕ). Way.Block row-of.Ack k) (c .before .before .before .first-byte .ensures) ∙ way-as (c .before .before .before .before .args .byte1) (c .before .before .before .before .args .bare) (rw (c .enum-told4 .given .1) at (c .before .before .kind-of .ensures))
 
 enum-told-5 : tie.Need-enum-told-5
 enum-told-5 c = search needs
 
 returns-6 : tie.Need-returns-6
-returns-6 c = ap (λ (k : ℕ). Way.Block place-of.Unsubscribe k) (c .before .before .before .first-byte .ensures) ∙ way-as (c .before .before .before .before .args .byte1) (c .before .before .before .before .args .bare) (rw (c .enum-told5 .given .1) at (c .before .before .kind-of .ensures))
+returns-6 c = ap (λ (k : ℕ). Way.Block row-of.Unsubscribe k) (c .before .before .before .first-byte .ensures) ∙ way-as (c .before .before .before .before .args .byte1) (c .before .before .before .before .args .bare) (rw (c .enum-told5 .given .1) at (c .before .before .kind-of .ensures))
 
 enum-told-6 : tie.Need-enum-told-6
 enum-told-6 c = search needs

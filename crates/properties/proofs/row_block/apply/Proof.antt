@@ -1,11 +1,11 @@
--- `properties::place_block::apply` meets its contract: wherever they stand, 31 is a text and 11 a number, and the record keeps no other. Assumes nothing.
+-- `properties::row_block::apply` meets its contract: wherever they stand, 31 is a text and 11 a number, and the record keeps no other. Assumes nothing.
 use mathlib.Core.Path.{refl}
 use borrow.Author.Needs.{needs}
 use borrow.Author.Tests.{ne-eqb}
 use Rattle.tables.specs.Property.{otherOf}
 use Rattle.properties.proofs.Laws.Fold.{plain-is}
-use Rattle.properties.proofs.place_block.apply.Statement.{statement}
-use Rattle.properties.proofs.place_block.apply.Tie as tie
+use Rattle.properties.proofs.row_block.apply.Statement.{statement}
+use Rattle.properties.proofs.row_block.apply.Tie as tie
 
 enum-known-v : tie.Need-enum-known-v
 enum-known-v c = search needs

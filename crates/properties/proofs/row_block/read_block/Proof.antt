@@ -1,4 +1,4 @@
--- `properties::place_block::read_block` meets its contract: the room of the block is what `read_room` found; with no byte in it the block is absent,
+-- `properties::row_block::read_block` meets its contract: the room of the block is what `read_room` found; with no byte in it the block is absent,
 -- else it is what `fill` makes of the slice that ends with it. Assumes nothing.
 use mathlib.Core.Path.{sym, _∙_}
 use native.Mathlib.Omega.{arith}
@@ -9,8 +9,8 @@ use Rattle.tables.specs.Property.{tableRow, otherOf}
 use Rattle.properties.specs.Block.{propsRow}
 use Rattle.properties.proofs.Laws.Fold.{props-lawful}
 use Rattle.properties.proofs.Laws.Block.{room-inside, block-bad, block-absent, block-present}
-use Rattle.properties.proofs.place_block.read_block.Statement.{statement}
-use Rattle.properties.proofs.place_block.read_block.Tie as tie
+use Rattle.properties.proofs.row_block.read_block.Statement.{statement}
+use Rattle.properties.proofs.row_block.read_block.Tie as tie
 
 read-room-requires : tie.Need-read-room-requires
 read-room-requires c κs = search needs

@@ -1,9 +1,9 @@
--- `properties::place_block::has` is right since 31 and 11 are what a record keeps. Assumes nothing.
+-- `properties::row_block::has` is right since 31 and 11 are what a record keeps. Assumes nothing.
 use mathlib.Core.Path.{sym}
 use borrow.Author.Needs.{needs}
 use borrow.Author.Tests.{ne-eqb}
-use Rattle.properties.proofs.place_block.has.Statement.{statement}
-use Rattle.properties.proofs.place_block.has.Tie as tie
+use Rattle.properties.proofs.row_block.has.Statement.{statement}
+use Rattle.properties.proofs.row_block.has.Tie as tie
 
 enum-told : tie.Need-enum-told
 enum-told c = search needs

@@ -1,4 +1,4 @@
--- `properties::place_block::fill` meets its contract. The loop's invariant: the rest of the loop decides the whole. Each property takes a byte at
+-- `properties::row_block::fill` meets its contract. The loop's invariant: the rest of the loop decides the whole. Each property takes a byte at
 -- least, and what is left of the slice is the measure. Assumes nothing.
 use mathlib.Core.Path.{refl, sym, _∙_}
 use native.Mathlib.Omega.{arith}
@@ -8,8 +8,8 @@ use Rattle.records.specs.Said.{toldProperties}
 use Rattle.tables.specs.Property.{tableRow, otherOf}
 use Rattle.properties.specs.Block.{propsRow}
 use Rattle.properties.proofs.Laws.Fold.{FillingBy, leftFrom, filling-start, props-lawful, filling-next, read-ahead, filled-twice, filled-bad, filled-end}
-use Rattle.properties.proofs.place_block.fill.Statement.{statement}
-use Rattle.properties.proofs.place_block.fill.Tie as tie
+use Rattle.properties.proofs.row_block.fill.Statement.{statement}
+use Rattle.properties.proofs.row_block.fill.Tie as tie
 
 abbrev Inv-loop : tie.InvT-loop
 Inv-loop row = FillingBy (propsRow (tableRow (otherOf row))) toldProperties
@@ -27,8 +27,8 @@ shared-slice-read-first c = search needs
 has-requires : tie.Need-has-requires Inv-loop μ-loop
 has-requires c κs = search needs
 
-as-place-requires : tie.Need-as-place-requires Inv-loop μ-loop
-as-place-requires c κs = search needs
+as-row-requires : tie.Need-as-row-requires Inv-loop μ-loop
+as-row-requires c κs = search needs
 
 read-property-requires : tie.Need-read-property-requires Inv-loop μ-loop
 read-property-requires c κs = search needs
@@ -39,7 +39,7 @@ enum-known-k c = search needs
 apply-requires : tie.Need-apply-requires Inv-loop μ-loop
 apply-requires c κs =
     let b = c .before .before .before in
-    rw (c .before .k .given .1, b .before .as-place .ensures) at (b .read-property .ensures .typed)
+    rw (c .before .k .given .1, b .before .as-row .ensures) at (b .read-property .ensures .typed)
 
 loop-less : tie.Need-loop-less Inv-loop μ-loop
 loop-less c =
@@ -51,7 +51,7 @@ loop-again c =
     let b = c .before .before .before .before in
     let d = b .before .before .before .before .before in
     filling-next (d .before .loop .inv) (d .loop-test .taken) (sym (b .before .before .before .has .ensures) ∙ b .before .before .if1 .left)
-    (props-lawful (d .before .before .before .args .row)) (rw (b .before .as-place .ensures) at (b .read-property .ensures)) (c .before .before .k .given .1) (c .apply .ensures)
+    (props-lawful (d .before .before .before .args .row)) (rw (b .before .as-row .ensures) at (b .read-property .ensures)) (c .before .before .k .given .1) (c .apply .ensures)
 
 enum-known-e : tie.Need-enum-known-e Inv-loop μ-loop
 enum-known-e c = search needs
@@ -66,7 +66,7 @@ returns-2 c =
     let b = c .before .before .before in
     let d = b .before .before .before .before .before in
     filled-bad _ refl (d .before .loop .inv) (d .loop-test .taken) (sym (b .before .before .before .has .ensures) ∙ b .before .before .if1 .left)
-    (rw (b .before .as-place .ensures) at (b .read-property .ensures)) (c .before .e .given .1)
+    (rw (b .before .as-row .ensures) at (b .read-property .ensures)) (c .before .e .given .1)
 
 returns-3 : tie.Need-returns-3 Inv-loop μ-loop
 unfolding propsOf lastOf
@@ -82,7 +82,7 @@ fill-spec =
     shared-slice-read-first
     has-requires
     returns
-    as-place-requires
+    as-row-requires
     read-property-requires
     enum-known-k
     apply-requires

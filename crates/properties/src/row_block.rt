@@ -1,4 +1,4 @@
-// The properties at a place, after the `read`s of the property structs of subscribe.rs, puback.rs and their like. A reason string or an
+// The properties of a row, after the `read`s of the property structs of subscribe.rs, puback.rs and their like. A reason string or an
 // identifier given twice is refused; the user properties are left in the block, and the record keeps where it stands.
 use crate::block;
 use property_value::GotProperty;
@@ -10,7 +10,7 @@ use records::span::MaybeSpan;
 use records::span::MaybeU32;
 use records::span::Span;
 use tables::property;
-use tables::property::OtherPlace;
+use tables::property::OtherRow;
 use wire::got::GotSpan;
 ghost use mathlib.Core.Path.{_≡_};
 ghost use mathlib.Core.Option.{some};
@@ -32,7 +32,7 @@ pub enum GotBlock {
 }
 
 // One property more: 31 is a text and 11 a number wherever they stand, and the record keeps no other.
-fn apply(row: OtherPlace, p: Properties, k: u8, v: Value) -> Properties
+fn apply(row: OtherRow, p: Properties, k: u8, v: Value) -> Properties
     requires { ⌜ formAt (tableRow (otherOf row)) k ≡ some (formOf v) ⌝ }
     ensures { λ r. ⌜ toldProperties r ≡ applied (propsRow (tableRow (otherOf row))) (toldProperties p) (k, toldValue v) ⌝ }
 {
@@ -86,7 +86,7 @@ fn has(p: Properties, k: u8) -> bool
 
 // The block that stands at `block`, which ends where the slice does: no read goes past it (D2). The single values, and the place of the lists;
 // 22 where a single one is met again, or the first refusal.
-pub fn fill(row: OtherPlace, s: &[u8], block: Span) -> GotBlock
+pub fn fill(row: OtherRow, s: &[u8], block: Span) -> GotBlock
     ensures { λ r. ⌜ toldBlockAt r ≡ filledAt (propsRow (tableRow (otherOf row))) (now (s .entry)) (toldSpan block) ⌝ }
 {
     let mut p = Properties {
@@ -100,7 +100,7 @@ pub fn fill(row: OtherPlace, s: &[u8], block: Span) -> GotBlock
         if has(p, first) {
             return GotBlock::Refused(Error::DuplicateProperty(first));
         }
-        match property_value::read_property(property::as_place(row), s, at) {
+        match property_value::read_property(property::as_row(row), s, at) {
             GotProperty::Found(k, v, next) => {
                 p = apply(row, p, k, v);
                 at = next;
@@ -113,8 +113,8 @@ pub fn fill(row: OtherPlace, s: &[u8], block: Span) -> GotBlock
     GotBlock::Value(MaybeProperties::Present(p), s.len())
 }
 
-// The block of a place at index `at`: its L, and its properties; absent where L is 0.
-pub fn read_block(row: OtherPlace, s: &[u8], at: usize) -> GotBlock
+// The block of a row at index `at`: its L, and its properties; absent where L is 0.
+pub fn read_block(row: OtherRow, s: &[u8], at: usize) -> GotBlock
     ensures { λ r. ⌜ toldBlockAt r ≡ fromAt (blockOf asPlaces (tableRow (otherOf row)) (propsAs asPlaces) (length (now (s .entry)))) (now (s .entry)) at ⌝ }
 {
     match block::read_room(s, at) {
