@@ -1,6 +1,6 @@
 //! A model of topics by alias, written from 02's P6 and not from the port, held against the library (bindings/c/ecchjulmina.h) on random
 //! messages and tables: good, damaged and of wrong sizes. The last line reads 'no difference', or the first one is printed and the exit
-//! status is 1. `--messages N` and `--seed N` are for trying; `--rows` prints the rows of the program bench_alias, `--lines` what it has to
+//! status is 1. `--messages N` and `--seed N` are for trying; `--rows` prints the rows of the program trial_alias, `--lines` what it has to
 //! write for them.
 use std::collections::HashMap;
 use std::process::exit;
@@ -210,7 +210,7 @@ fn message(r: &mut Random, table: &mut Vec<u8>, known: &mut Option<HashMap<u16, 
     *table = learnt;
 }
 
-// ---- the rows of bench_alias
+// ---- the rows of trial_alias
 
 /// A row has four bytes: what (`-` no alias, `@` alias 0, `A` to `P` 1 to 16, `Q` 17; `<` and `>` no alias on a table a byte too short or too
 /// long; `!` a length byte is damaged; `0` a fresh table), the topic's length in two letters from `a`, sixteen to the first, and its letter. Of

@@ -193,9 +193,9 @@ fn compare(count: u64, seed: u64) {
     println!("no difference");
 }
 
-/// The streams of the program bench_pieces, from its source: a byte string of lengths and bytes.
+/// The streams of the program trial_pieces, from its source: a byte string of lengths and bytes.
 fn table() -> Vec<Vec<u8>> {
-    let source = include_str!("../../../crates/bench_pieces/src/main.rt");
+    let source = include_str!("../../../crates/trial_pieces/src/main.rt");
     let text = source.rsplit_once("streams(").unwrap().1;
     let text = text.split('"').nth(1).unwrap();
     let bytes: Vec<u8> = text.split("\\x").skip(1).map(|b| u8::from_str_radix(&b[..2], 16).unwrap()).collect();
@@ -207,7 +207,7 @@ fn table() -> Vec<Vec<u8>> {
     rows
 }
 
-/// What bench_pieces prints of a stream in pieces of `size` bytes, each with one of no bytes behind it.
+/// What trial_pieces prints of a stream in pieces of `size` bytes, each with one of no bytes behind it.
 fn line(s: &[u8], size: usize, limit: Option<u64>, room: usize) -> String {
     let (mut out, mut at) = (String::new(), 0);
     for ((answer, taken), _) in whole(s, limit, room) {
@@ -227,7 +227,7 @@ fn line(s: &[u8], size: usize, limit: Option<u64>, room: usize) -> String {
     out
 }
 
-/// The file stdout of bench_pieces.
+/// The file stdout of trial_pieces.
 fn rows() {
     let mut rows = 0;
     for s in table() {
