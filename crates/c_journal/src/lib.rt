@@ -3,8 +3,8 @@ use c_layout::store::store;
 use inflight::InFlight;
 use inflight::LIMIT;
 use inflight::Place;
-use inflight::Wait;
 use inflight::code;
+use inflight::wait_of;
 use journal::Found;
 use journal::Saved;
 use journal::Started;
@@ -14,11 +14,11 @@ use journal::save;
 use journal::start;
 ghost use mathlib.Core.Path.{_≡_};
 ghost use mathlib.Core.List.{_∷_, []};
-ghost use Prim.Native.Nat.{_<_, _≤_};
+ghost use Prim.Native.Nat.{_≤_};
 ghost use lib.ListN.{length};
 ghost use lib.Seq.{sets};
 ghost use Rattle.inflight.specs.Rules.{limit};
-ghost use Rattle.inflight.specs.TableAnswer.{codeOf, waitsOf};
+ghost use Rattle.inflight.specs.TableAnswer.{waitsOf};
 ghost use Rattle.journal.specs.Area.{start as startOf, recover as recoverOf};
 ghost use Rattle.journal.specs.JournalAnswer.{saveOf, foundOf};
 ghost use Rattle.c_journal.specs.Bytes.{TakenFrom, stored};
@@ -36,18 +36,6 @@ pub const JOURNAL_ENDED: u32 = 34;
 struct FromCodes {
     fine: bool,
     table: InFlight,
-}
-
-fn wait_of(code: u8) -> Wait
-    requires { ⌜ code < 4 ⌝ }
-    ensures { λ r. ⌜ codeOf r ≡ code ⌝ }
-{
-    match code {
-        0 => Wait::Free,
-        1 => Wait::PubAck,
-        2 => Wait::PubRec,
-        _ => Wait::PubComp,
-    }
 }
 
 fn from_codes(codes: &[u8]) -> FromCodes

@@ -1,15 +1,8 @@
 // Single values as numbers.
 use records::values::Values;
 ghost use mathlib.Core.Path.{_≡_};
-ghost use Rattle.records.specs.AsNumbers.{toldBool, toldValues};
+ghost use Rattle.records.specs.AsNumbers.{toldValues};
 ghost use Rattle.c_layout.specs.Value.{valueOrZero};
-
-// 1 if true, else 0.
-pub fn bit(b: bool) -> u64
-    ensures { λ r. ⌜ r ≡ toldBool b ⌝ }
-{
-    if b { 1 } else { 0 }
-}
 
 // The first value of a refusal, 0 if it has none.
 pub fn first_value(v: Values) -> u64

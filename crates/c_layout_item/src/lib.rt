@@ -2,7 +2,7 @@
 pub mod next;
 
 use c_layout::store::store;
-use c_layout::value::bit;
+use qos_numbers::bit;
 use qos_numbers::qos_number;
 use qos_numbers::rule_number;
 use records::answer::FilterItem;
@@ -72,8 +72,8 @@ fn filter_numbers(item: FilterItem) -> [u64; 6]
                 f.path.start as u64,
                 f.path.len as u64,
                 qos_number(qos) as u64,
-                bit(f.nolocal),
-                bit(f.preserve_retain),
+                bit(f.nolocal) as u64,
+                bit(f.preserve_retain) as u64,
                 rule_number(rule) as u64,
             ]
         }

@@ -1,10 +1,10 @@
 // What is returned and stored of the property, filter or topic at an index: with it the index after it, at which the next one begins.
 use c_layout::store::store;
-use c_layout::value::bit;
 use c_layout::value::first_value;
 use filters::GotFilter;
 use property_value::GotProperty;
 use property_value::Value;
+use qos_numbers::bit;
 use qos_numbers::qos_number;
 use qos_numbers::rule_number;
 use records::error::Error;
@@ -90,8 +90,8 @@ fn next_filter_numbers(filter: GotFilter) -> [u64; 7]
                 f.path.start as u64,
                 f.path.len as u64,
                 qos_number(qos) as u64,
-                bit(f.nolocal),
-                bit(f.preserve_retain),
+                bit(f.nolocal) as u64,
+                bit(f.preserve_retain) as u64,
                 rule_number(rule) as u64,
             ]
         }

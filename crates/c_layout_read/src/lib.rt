@@ -6,11 +6,11 @@ use crate::place::Head;
 use crate::place::Number;
 use crate::place::Text;
 use c_layout::store::store;
-use c_layout::value::bit;
 use c_layout::value::first_value;
 use c_layout::value::second_value;
 use kinds::Kind;
 use kinds::number_of;
+use qos_numbers::bit;
 use qos_numbers::qos_number;
 use records::ack_record::Ack;
 use records::ack_record::AckKind;
@@ -234,9 +234,9 @@ fn publish_head(taken: usize, properties: Bounds, m: Publish) -> Head
         second: 0,
         kind: kind_number(Kind::Publish),
         pkid: m.pkid as u64,
-        dup: bit(m.dup),
+        dup: bit(m.dup) as u64,
         qos: qos_number(qos) as u64,
-        retain: bit(m.retain),
+        retain: bit(m.retain) as u64,
         reason: 0,
         topic,
         payload,

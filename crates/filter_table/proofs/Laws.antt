@@ -27,7 +27,7 @@ use Rattle.positions.proofs.Walk.{Less}
 use Rattle.positions.proofs.Less.{filter-less}
 use Rattle.positions.proofs.Run.{Passed, none-passed, passed-end, passed-bad, passed-next}
 use Rattle.positions.proofs.Trails.{trails-filter}
-use Rattle.records.specs.AsNumbers.{toldError, toldBool, toldQoS, toldRule, toldSpan}
+use Rattle.records.specs.AsNumbers.{toldError, toldQoS, toldRule, toldSpan}
 use Rattle.records.specs.Said.{toldFilter, toldSubscribe, toldPacket}
 use Rattle.records.specs.declared.error.Error.{Error}
 use Rattle.records.specs.declared.qos.QoS.{QoS}
@@ -53,10 +53,6 @@ pub rule-small : (r : RetainForwardRule) → toldRule r ≤ 2
 rule-small OnEverySubscribe = omega arith
 rule-small OnNewSubscribe = omega arith
 rule-small Never = omega arith
-
-pub bit-small : (b : Bool) → toldBool b ≤ 1
-bit-small false = omega arith
-bit-small true = omega arith
 
 -- 02, P7: "the options with bits 6-7 clear", of the byte o that was read
 pub options-clear : (p : Span) (o : ℕ) → optionsOf (mkFilter (p, o)) ≡ o % 64

@@ -3,6 +3,7 @@
 use filters::GotFilter;
 use filters::read_filter;
 use packet;
+use qos_numbers::bit;
 use qos_numbers::qos_number;
 use qos_numbers::rule_number;
 use records::answer::Limit;
@@ -15,7 +16,7 @@ use wire::string;
 ghost use mathlib.Core.Path.{_≡_};
 ghost use Prim.Native.Nat.{_≤_};
 ghost use lib.ListN.{length};
-ghost use Rattle.records.specs.AsNumbers.{toldBool, toldSpan};
+ghost use Rattle.records.specs.AsNumbers.{toldSpan};
 ghost use Rattle.records.specs.Said.{toldFilter};
 ghost use Rattle.filter_table.specs.Table.{entryOf, EntryIs, CountIs, RunIs, RunPlanIs, Planned, fillFrom, Fills};
 
@@ -51,16 +52,6 @@ pub struct Plan {
     pub count: usize,
     // how many bytes the reader took
     pub taken: usize,
-}
-
-// A truth value as a bit.
-fn bit(b: bool) -> u8
-    ensures { λ r. ⌜ r ≡ toldBool b ⌝ }
-{
-    if b {
-        return 1;
-    }
-    0
 }
 
 // A filter as an entry.

@@ -4,6 +4,7 @@ use records::ack_record::Ack;
 use records::ack_record::AckKind;
 use records::qos::QoS;
 ghost use mathlib.Core.Path.{_≡_};
+ghost use Prim.Native.Nat.{min};
 ghost use lib.ListN.{replicate};
 ghost use Rattle.inflight.specs.Rules.{limit, free, firstFree, claimFor, claimed, waitOf, put, settled, becameOf, oneIfWaits, waiting, call, pubAck, pubRec, pubComp, answerBy};
 ghost use Rattle.inflight.specs.TableAnswer.{codeOf, waitsOf, answerOf, afterClaim, afterAnswer};
@@ -66,6 +67,18 @@ pub fn code(w: Wait) -> u8
         Wait::PubAck => 1,
         Wait::PubRec => 2,
         Wait::PubComp => 3,
+    }
+}
+
+// What a number stands for, as P11 stores it; one above 3 for PubComp.
+pub fn wait_of(code: u8) -> Wait
+    ensures { λ r. ⌜ codeOf r ≡ min code 3 ⌝ }
+{
+    match code {
+        0 => Wait::Free,
+        1 => Wait::PubAck,
+        2 => Wait::PubRec,
+        3..=255 => Wait::PubComp,
     }
 }
 

@@ -4,8 +4,8 @@ use crc32::crc32 as crc_of;
 use inflight::InFlight;
 use inflight::LIMIT;
 use inflight::Place;
-use inflight::Wait;
 use inflight::code;
+use inflight::wait_of;
 ghost use mathlib.Core.Path.{_≡_};
 ghost use Prim.Native.Nat.{_+_, _*_, _-_, _/_, _%_, _^_, _≤_, _<_};
 ghost use lib.Dec.{eqb};
@@ -233,18 +233,6 @@ fn is_good(b: &[u8]) -> bool
         return false;
     }
     none_above(b)
-}
-
-fn wait_of(code: u8) -> Wait
-    requires { ⌜ code < 4 ⌝ }
-    ensures { λ r. ⌜ codeOf r ≡ code ⌝ }
-{
-    match code {
-        0 => Wait::Free,
-        1 => Wait::PubAck,
-        2 => Wait::PubRec,
-        _ => Wait::PubComp,
-    }
 }
 
 fn table_of(b: &[u8]) -> InFlight

@@ -5,6 +5,7 @@ use crate::copy::store;
 use crate::copy::store_two;
 use publish_plan::head::PublishHead;
 use publish_plan::sizes::no_pkid;
+use qos_numbers::bit;
 use qos_numbers::qos_number;
 use write_lengths::put_length;
 use write_numbers::fixed;
@@ -18,7 +19,7 @@ ghost use Rattle.grammar.specs.Tables.{Form, pair};
 ghost use Rattle.writing.specs.Handed.{publish, addsUp};
 ghost use Rattle.writing.specs.Spell.{short, string as spelled, rowBytes};
 ghost use Rattle.writing.specs.Write.{firstByte, identBytes};
-ghost use Rattle.records.specs.AsNumbers.{toldBool, toldQoS};
+ghost use Rattle.records.specs.AsNumbers.{toldQoS};
 ghost use Rattle.write_runs.specs.Given.{run as runOf, givenLent, givenPairs};
 ghost use Rattle.publish_plan.specs.Handed.{handed};
 ghost use Rattle.publish_write.specs.Laid.{Laid, Room, numberRows, stringRows, listRows, allRows};
@@ -150,15 +151,6 @@ fn lay_properties(
         subscription_identifiers,
         content_type,
     )
-}
-
-fn bit(b: bool) -> u8
-    ensures { λ r. ⌜ (r ≡ toldBool b) × (r ≤ 1) ⌝ }
-{
-    if b {
-        return 1;
-    }
-    0
 }
 
 fn first_byte(head: PublishHead) -> u8

@@ -1,12 +1,23 @@
-// The numbers of qualities of service and forward rules, and what a number stands for, after the helpers of mqttbytes/mod.rs and
-// subscribe.rs.
+// The numbers of qualities of service, forward rules and flags, and what a number stands for, after the helpers of mqttbytes/mod.rs
+// and subscribe.rs.
 use records::error::Error;
 use records::qos::QoS;
 use records::subscribe_record::GotRule;
 use records::subscribe_record::RetainForwardRule;
 ghost use mathlib.Core.Path.{_≡_};
-ghost use Rattle.records.specs.AsNumbers.{toldQoS, toldRule};
+ghost use Prim.Native.Nat.{_≤_};
+ghost use Rattle.records.specs.AsNumbers.{toldBool, toldQoS, toldRule};
 ghost use Rattle.records.specs.Answered.{toldGotRule, ruleOf};
+
+// The bit of a flag.
+pub fn bit(b: bool) -> u8
+    ensures { λ r. ⌜ (r ≡ toldBool b) × (r ≤ 1) ⌝ }
+{
+    if b {
+        return 1;
+    }
+    0
+}
 
 // The number of a quality of service, in the two bits.
 pub fn qos_number(q: QoS) -> u8

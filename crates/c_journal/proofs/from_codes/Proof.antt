@@ -1,9 +1,10 @@
 -- `c_journal::from_codes` is right since each byte is a state, or the first that is none ends it. Assumes nothing.
+use mathlib.Core.Path.{_∙_}
 use Prim.Native.Nat.{_-_}
 use native.Mathlib.Omega.{arith}
 use borrow.Author.Needs.{needs}
 use Rattle.inflight.specs.Rules.{limit}
-use Rattle.inflight.proofs.Laws.{unmapped}
+use Rattle.inflight.proofs.Laws.{below-four, unmapped}
 use Rattle.c_journal.proofs.Bytes.{Taken, taken-none, taken-more, not-long, not-states, taken-all}
 use Rattle.c_journal.proofs.from_codes.Statement.{statement}
 use Rattle.c_journal.proofs.from_codes.Tie as tie
@@ -30,7 +31,7 @@ returns-2 : tie.Need-returns-2 Inv-loop μ-loop
 returns-2 c = not-states (c .before .before .before .loop .inv) (omega arith) (omega arith) (omega arith)
 
 wait-of-requires : tie.Need-wait-of-requires Inv-loop μ-loop
-wait-of-requires c κs = omega arith
+wait-of-requires c κs = search needs
 
 element-set-from-p : tie.Need-element-set-from-p Inv-loop μ-loop
 element-set-from-p c = omega arith
@@ -42,7 +43,7 @@ loop-less : tie.Need-loop-less Inv-loop μ-loop
 loop-less c = omega arith
 
 loop-again : tie.Need-loop-again Inv-loop μ-loop
-loop-again c = taken-more _ (c .before .before .before .before .loop .inv) (omega arith) (omega arith) (c .wait-of .ensures) (omega arith)
+loop-again c = taken-more _ (c .before .before .before .before .loop .inv) (omega arith) (omega arith) (c .wait-of .ensures ∙ below-four (omega arith)) (omega arith)
 
 returns-3 : tie.Need-returns-3 Inv-loop μ-loop
 returns-3 c = taken-all (c .before .loop .inv) (omega arith) (omega arith)

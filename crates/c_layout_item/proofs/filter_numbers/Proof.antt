@@ -9,9 +9,6 @@ enum-known-item c = search needs
 qos-number-requires : tie.Need-qos-number-requires
 qos-number-requires c κs = search needs
 
-cast-t9 : tie.Need-cast-t9
-cast-t9 c = search needs
-
 bit-requires : tie.Need-bit-requires
 bit-requires c κs = search needs
 
@@ -21,14 +18,11 @@ bit-requires-2 c κs = search needs
 rule-number-requires : tie.Need-rule-number-requires
 rule-number-requires c κs = search needs
 
-cast-t13 : tie.Need-cast-t13
-cast-t13 c = search needs
-
 enum-told : tie.Need-enum-told
 enum-told c = search needs
 
 returns : tie.Need-returns
-returns c = rw (c .before .before .before .before .before .item .given .1, c .before .before .before .qos-number .ensures, c .before .before .bit .ensures, c .before .bit2 .ensures, c .rule-number .ensures)
+returns c = rw (c .before .before .before .before .before .item .given .1, c .before .before .before .qos-number .ensures, c .before .before .bit .ensures .0, c .before .bit2 .ensures .0, c .rule-number .ensures)
 
 returns-2 : tie.Need-returns-2
 returns-2 c = search needs
@@ -39,11 +33,13 @@ filter-numbers-spec =
     (tie.spec
     enum-known-item
     qos-number-requires
-    cast-t9
+    (λ c. search needs)
     bit-requires
+    (λ c. search needs)
     bit-requires-2
+    (λ c. search needs)
     rule-number-requires
-    cast-t13
+    (λ c. search needs)
     enum-told
     returns
     returns-2)

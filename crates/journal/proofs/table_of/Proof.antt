@@ -3,7 +3,7 @@ use Prim.Native.Nat.{_-_}
 use native.Mathlib.Omega.{arith}
 use borrow.Author.Needs.{needs}
 use Rattle.inflight.specs.Rules.{limit}
-use Rattle.inflight.proofs.Laws.{unmapped}
+use Rattle.inflight.proofs.Laws.{below-four, unmapped}
 use Rattle.journal.specs.Block.{waitIn, tableIn}
 use Rattle.journal.proofs.Turns.{Filled, filled-none, filled-more, filled-all, wait-small}
 use Rattle.journal.proofs.table_of.Statement.{statement}
@@ -25,7 +25,7 @@ wait-in-requires : tie.Need-wait-in-requires Inv-loop μ-loop
 wait-in-requires c κs = (c .before .before .before .before .pre, omega arith)
 
 wait-of-requires : tie.Need-wait-of-requires Inv-loop μ-loop
-wait-of-requires c κs = rw (c .wait-in .ensures) (wait-small _ _)
+wait-of-requires c κs = search needs
 
 element-set-from-p : tie.Need-element-set-from-p Inv-loop μ-loop
 element-set-from-p c = omega arith
@@ -37,7 +37,7 @@ loop-less : tie.Need-loop-less Inv-loop μ-loop
 loop-less c = omega arith
 
 loop-again : tie.Need-loop-again Inv-loop μ-loop
-loop-again c = filled-more _ (c .before .before .before .loop .inv) (omega arith) (c .wait-of .ensures ∙ c .before .wait-in .ensures)
+loop-again c = filled-more _ (c .before .before .before .loop .inv) (omega arith) (c .wait-of .ensures ∙ below-four (rw (c .before .wait-in .ensures) (wait-small _ _)) ∙ c .before .wait-in .ensures)
 
 returns : tie.Need-returns Inv-loop μ-loop
 unfolding tableIn

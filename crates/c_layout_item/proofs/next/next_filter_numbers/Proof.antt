@@ -10,9 +10,6 @@ enum-known-filter c = search needs
 qos-number-requires : tie.Need-qos-number-requires
 qos-number-requires c κs = search needs
 
-cast-t12 : tie.Need-cast-t12
-cast-t12 c = search needs
-
 bit-requires : tie.Need-bit-requires
 bit-requires c κs = search needs
 
@@ -22,9 +19,6 @@ bit-requires-2 c κs = search needs
 rule-number-requires : tie.Need-rule-number-requires
 rule-number-requires c κs = search needs
 
-cast-t16 : tie.Need-cast-t16
-cast-t16 c = search needs
-
 enum-known-filter-2 : tie.Need-enum-known-filter-2
 enum-known-filter-2 c = search needs
 
@@ -32,7 +26,7 @@ bad-numbers-requires : tie.Need-bad-numbers-requires
 bad-numbers-requires c κs = search needs
 
 returns : tie.Need-returns
-returns c = rw (c .before .before .before .before .before .filter .given .1, c .before .before .before .qos-number .ensures, c .before .before .bit .ensures, c .before .bit2 .ensures, c .rule-number .ensures)
+returns c = rw (c .before .before .before .before .before .filter .given .1, c .before .before .before .qos-number .ensures, c .before .before .bit .ensures .0, c .before .bit2 .ensures .0, c .rule-number .ensures)
 
 returns-2 : tie.Need-returns-2
 returns-2 c = c .bad-numbers .ensures ∙ rw (c .before .before .filter2 .given .1)
@@ -43,11 +37,13 @@ next-filter-numbers-spec =
     (tie.spec
     enum-known-filter
     qos-number-requires
-    cast-t12
+    (λ c. search needs)
     bit-requires
+    (λ c. search needs)
     bit-requires-2
+    (λ c. search needs)
     rule-number-requires
-    cast-t16
+    (λ c. search needs)
     enum-known-filter-2
     bad-numbers-requires
     returns
