@@ -221,6 +221,13 @@ fn within(out: &mut [u8], tally: &mut [u64], mut d: Desk) -> Desk {
     cut(&mut *out, &mut *tally, d)
 }
 
+// A Publish that is passed over may set an alias: no topic is known any more.
+fn forget(table: &mut [u8], first: u8) {
+    if first / 16 == 3 {
+        put_bytes(&mut *table, 0, &fresh());
+    }
+}
+
 fn passing(out: &mut [u8], tally: &mut [u64], d: Desk) -> Desk {
     if (d.len as u64) < d.skip {
         return within(&mut *out, &mut *tally, d);
@@ -307,6 +314,7 @@ fn step(
 ) -> Desk {
     d.wants = 0;
     if 0 < d.skip {
+        forget(&mut *table, d.first);
         return passing(&mut *out, &mut *tally, d);
     }
     frame(limit, filter, buf, &mut *table, &mut *out, &mut *tally, d)
