@@ -373,6 +373,13 @@ module _ (topic filter : List ℕ) where
     by-short f t =
         rw (add-one (levelLen filter)) (rw (tail-cut filter f, tail-last topic t, levels-head (drop (suc (levelLen filter)) filter)) at tails)
 
+-- a filter that is `#` and nothing else
+pub by-lone : (topic filter : List ℕ) → lone hash filter ≡ true → true ≡ restMatches (levels filter) (levels topic)
+unfolding lone levelLen
+by-lone topic [] e = absurd (false≢true e)
+by-lone topic (c ∷ []) e = rw (eqb-true c hash e) (by-hash topic (hash ∷ []) refl)
+by-lone topic (c ∷ d ∷ l) e = absurd (false≢true e)
+
 -- ---- valid filters
 
 module _ (s : List ℕ) where

@@ -427,5 +427,9 @@ pub fn matches(topic: &[u8], filter: &[u8]) -> bool
     if is_barred(topic, filter) {
         return false;
     }
+    // a filter that is `#` alone, with no search for levels
+    if is_lone(filter, b'#') {
+        return true;
+    }
     rest_matches(topic, filter)
 }

@@ -5,6 +5,7 @@ use native.Mathlib.Omega.{arith}
 use lib.ListN.{length, take, drop, getD}
 use denote.Ref.{now}
 use Rattle.topics.specs.Match.{matchesOf}
+use Rattle.topics.proofs.Laws.{by-lone}
 use borrow.Author.Needs.{needs}
 use Rattle.topics.proofs.matches.Statement.{statement}
 use Rattle.topics.proofs.matches.Tie as tie
@@ -16,12 +17,21 @@ returns : tie.Need-returns
 unfolding matchesOf
 returns c = rw (sym (c .before .is-barred .ensures) ∙ c .if1 .taken)
 
-rest-matches-requires : tie.Need-rest-matches-requires
-rest-matches-requires c κs = search needs
+is-lone-requires : tie.Need-is-lone-requires
+is-lone-requires c κs = search needs
 
 returns-2 : tie.Need-returns-2
 unfolding matchesOf
-returns-2 c = rw (sym (c .before .before .is-barred .ensures) ∙ c .before .if1 .left) (c .rest-matches .ensures)
+returns-2 c =
+    rw (sym (c .before .before .before .is-barred .ensures) ∙ c .before .before .if1 .left)
+    (by-lone _ _ (sym (c .before .is-lone .ensures) ∙ c .if2 .taken))
+
+rest-matches-requires : tie.Need-rest-matches-requires
+rest-matches-requires c κs = search needs
+
+returns-3 : tie.Need-returns-3
+unfolding matchesOf
+returns-3 c = rw (sym (c .before .before .before .before .is-barred .ensures) ∙ c .before .before .before .if1 .left) (c .rest-matches .ensures)
 
 pub matches-spec : {M : Type 1} → statement M
-matches-spec = tie.close (tie.spec is-barred-requires returns rest-matches-requires returns-2)
+matches-spec = tie.close (tie.spec is-barred-requires returns is-lone-requires returns-2 rest-matches-requires returns-3)
