@@ -26,6 +26,7 @@ use Rattle.pieces_rules.proofs.Head.{bad-inj}
 use Rattle.pieces_rules.proofs.Says.{unknown-short, judge-front}
 use Rattle.pieces_rules.proofs.Feed.{put-front}
 use Rattle.pieces_rules.proofs.Calls.{from-buffer, joined-length, call-piece}
+use Rattle.pieces.specs.PieceAnswer.{WholeIn}
 
 -- ---- the header, as `framing` reads it
 
@@ -182,3 +183,34 @@ module _ (st : State) (b p : List ℕ) (limit : Option ℕ) where
     pub goes-on : st .end ≡ none → {o : Step ℕ} → o ≡ called limit b p (st .held) → o ≡ foundOf st b p limit
     unfolding stepBy
     goes-on e q = rw (s, e) q
+
+-- ---- a frame that is whole in the piece
+
+pub no-frame : {A : Type 0} → 0 < 0 → A
+no-frame h = absurd (omega arith)
+
+pub under : (limit : Option ℕ) (f : ℕ) → within limit f ≡ true → 0 < f → (f ≡ f) × (within limit f ≡ true)
+under limit f w h = (refl, w)
+
+pub whole : (limit : Option ℕ) (f n cap r : ℕ) → f ≤ n → f ≤ cap → serves 0 cap ≡ true → (0 < r → (r ≡ f) × (within limit f ≡ true))
+    → 0 < r → (r ≡ f) × (f ≤ n) × (f ≤ cap) × (serves 0 cap ≡ true) × (within limit f ≡ true)
+whole limit f n cap r a b s w h = (w h .0, a, b, s, w h .1)
+
+pub whole-in : (limit : Option ℕ) (cap : ℕ) (s : List ℕ) (x l m : ℕ) → got ((x, l), m) ≡ fromAt headerOf s 0 → (r : ℕ)
+    → (0 < r → (r ≡ m + l) × (m + l ≤ length s) × (m + l ≤ cap) × (serves 0 cap ≡ true) × (within limit (m + l) ≡ true)) → WholeIn limit cap s r
+whole-in limit cap s x l m i r w h =
+    let y = w h in
+    (y .3, rw (y .0) (y .1), rw (y .0) (judge-spans limit cap s x l m i ((x, l), m) (rw (y .4)) (y .2)))
+
+pub is-fresh : {i : ℕ} {e : Option Refusal} → i ≡ 0 → e ≡ none → _≡_ {A = State} (record { held = i; end = e }) fresh
+is-fresh p q = rw (p, q)
+
+pub from-fresh : (limit : Option ℕ) (cap : ℕ) (s : List ℕ) (r : ℕ) {st : State} → st ≡ fresh → WholeIn limit cap s r → 0 < r → (st ≡ fresh) × WholeIn limit cap s r
+from-fresh limit cap s r e w h = (e, w)
+
+pub found-whole : (st : State) (b p : List ℕ) (limit : Option ℕ) (f : ℕ) {st′ : State} → 0 < f → (0 < f → (st ≡ fresh) × WholeIn limit (length b) p f) → st′ ≡ fresh
+    → _≡_ {A = Step ℕ} (record { gives = inPiece f; used = f; state = st′; buffer = b }) (foundOf st b p limit)
+found-whole st b p limit f h w d =
+    let e : st ≡ fresh = w h .0 in
+    let y = w h .1 h in
+    rw e (goes-on fresh b p limit (y .0) refl (whole-piece b p 0 limit f f refl (y .2) (omega arith) (y .1) d))

@@ -1,13 +1,16 @@
 -- What a state and the answer to a piece tell, in numbers and values. Assumes nothing.
+use mathlib.Core.Path.{_≡_}
+use mathlib.Core.Bool.{true}
 use mathlib.Core.Option.{Option, none, some}
 use mathlib.Core.List.{List}
-use Prim.Native.Nat.{ℕ}
+use Prim.Native.Nat.{ℕ, _≤_, _<_}
+use lib.ListN.{length}
 use Rattle.reading.specs.Refusal.{Refusal}
 use Rattle.records.specs.AsNumbers.{toldError}
 use Rattle.pieces_rules.specs.Whole.{frameTooLong}
-use Rattle.pieces_rules.specs.Step.{badBuffer, Gives, more, inPiece, inBuffer, stops}
+use Rattle.pieces_rules.specs.Step.{badBuffer, Gives, more, inPiece, inBuffer, stops, serves}
 use Rattle.pieces_rules.specs.Step as step
-use Rattle.pieces_rules.specs.Judge.{Judge, unknown, forbids, spans}
+use Rattle.pieces_rules.specs.Judge.{Judge, unknown, forbids, spans, judgeOf}
 use Rattle.pieces.specs.declared.Stop.{Stop}
 use Rattle.pieces.specs.declared.End.{End}
 use Rattle.pieces.specs.declared.State.{State}
@@ -46,3 +49,7 @@ abbrev pub toldJudged : Judged → Judge
 toldJudged Judged.Unknown = unknown
 toldJudged (Judged.Length n) = spans n
 toldJudged (Judged.Stopped k) = forbids (toldStop k)
+
+-- 0, or F of a frame that stands whole at the start of s, and that neither the limit nor a buffer of cap bytes refuses
+abbrev pub WholeIn : Option ℕ → ℕ → List ℕ → ℕ → Type 0
+WholeIn limit cap s r = 0 < r → (serves 0 cap ≡ true) × (r ≤ length s) × (spans r ≡ judgeOf limit cap s)

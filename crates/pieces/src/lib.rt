@@ -8,14 +8,16 @@ use records::values::Values;
 use refusal_numbers;
 use write_bytes;
 ghost use mathlib.Core.Path.{_≡_};
+ghost use mathlib.Core.Bool.{true};
 ghost use mathlib.Core.List.{_++_};
 ghost use Prim.Native.Nat.{_+_, _-_, _≤_, _<_, min};
 ghost use lib.ListN.{length, take};
+ghost use Rattle.reading.specs.Refusal.{within};
 ghost use Rattle.records.specs.AsNumbers.{rowOf, valuesOf, toldValues, limitOf};
 ghost use Rattle.pieces_rules.specs.Whole.{lacks, frame};
 ghost use Rattle.pieces_rules.specs.Step.{serves, waiting, fresh, stepFrom, called, foundOf};
 ghost use Rattle.pieces_rules.specs.Judge.{judgeOf, spans};
-ghost use Rattle.pieces.specs.PieceAnswer.{toldStop, toldJudged, toldState, toldStep};
+ghost use Rattle.pieces.specs.PieceAnswer.{toldStop, toldJudged, toldState, toldStep, WholeIn};
 
 // Why a call gives no frame, and takes nothing.
 pub enum Stop {
@@ -251,9 +253,60 @@ fn buffer_serves(held: usize, cap: usize) -> bool
     held <= cap
 }
 
-// The next frame, of the bytes held and the piece behind them. It is called again with the rest of the piece after each `InPiece` and
-// `InBuffer`, until there is none.
-pub fn next_frame(state: State, limit: Limit, buffer: &mut [u8], piece: &[u8]) -> Step
+// f if the limit lets a frame of f bytes pass; else 0.
+fn if_under(f: usize, limit: Limit) -> usize
+    ensures { λ r. ⌜ (0 < r → (r ≡ f) × (within (limitOf limit) f ≡ true)) ⌝ }
+{
+    if let Limit::AtMost(most) = limit {
+        if most < f {
+            return 0;
+        }
+    }
+    f
+}
+
+// f if n bytes, a buffer of cap bytes and the limit let a frame of f bytes pass; else 0.
+fn if_whole(f: usize, n: usize, limit: Limit, cap: usize) -> usize
+    ensures { λ r. ⌜ (0 < r → (r ≡ f) × (f ≤ n) × (f ≤ cap) × (serves 0 cap ≡ true) × (within (limitOf limit) f ≡ true)) ⌝ }
+{
+    if f <= n {
+        if f <= cap {
+            if buffer_serves(0, cap) {
+                return if_under(f, limit);
+            }
+        }
+    }
+    0
+}
+
+// F of a frame that is whole in the piece, and that no refusal stops; else 0. One number, which stays in a register.
+fn whole_length(piece: &[u8], limit: Limit, cap: usize) -> usize
+    ensures { λ r. ⌜ WholeIn (limitOf limit) cap (now (piece .entry)) r ⌝ }
+{
+    match check::parse_fixed_header(piece) {
+        Checked::Refused(_) => return 0,
+        Checked::Header(h) => {
+            let f = h.fixed_header_len + h.remaining_len;
+            return if_whole(f, piece.len(), limit, cap);
+        }
+    }
+}
+
+// The same from a state that holds nothing and has not ended; else 0.
+fn fresh_length(state: State, limit: Limit, cap: usize, piece: &[u8]) -> usize
+    ensures { λ r. ⌜ (0 < r → (toldState state ≡ fresh) × WholeIn (limitOf limit) cap (now (piece .entry)) r) ⌝ }
+{
+    let end = state.end;
+    if state.held == 0 {
+        if let End::Open = end {
+            return whole_length(piece, limit, cap);
+        }
+    }
+    0
+}
+
+// The next frame, as the state, the buffer and the header decide.
+fn next_judged(state: State, limit: Limit, buffer: &mut [u8], piece: &[u8]) -> Step
     ensures { λ r. ⌜ toldStep r (now (buffer .exit)) ≡ foundOf (toldState state) (now (buffer .entry)) (now (piece .entry)) (limitOf limit) ⌝ }
 {
     let held = state.held;
@@ -273,4 +326,20 @@ pub fn next_frame(state: State, limit: Limit, buffer: &mut [u8], piece: &[u8]) -
             state,
         },
     }
+}
+
+// The next frame, of the bytes held and the piece behind them. It is called again with the rest of the piece after each `InPiece` and
+// `InBuffer`, until there is none.
+pub fn next_frame(state: State, limit: Limit, buffer: &mut [u8], piece: &[u8]) -> Step
+    ensures { λ r. ⌜ toldStep r (now (buffer .exit)) ≡ foundOf (toldState state) (now (buffer .entry)) (now (piece .entry)) (limitOf limit) ⌝ }
+{
+    let f = fresh_length(state, limit, buffer.len(), piece);
+    if 0 < f {
+        return Step {
+            given: Given::InPiece(f),
+            used: f,
+            state: start(),
+        };
+    }
+    next_judged(state, limit, &mut *buffer, piece)
 }
