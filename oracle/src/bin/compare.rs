@@ -1,5 +1,5 @@
 //! The crate's text against the port: every short frame, random ones and damaged copies of them, records written; see oracle/README.md.
-//! compare [--seed N] [--share PERCENT] [--listed] [--corpus FILE]
+//! compare [--seed N] [--share PERCENT] [--part I/N] [--stop] [--listed] [--corpus FILE]
 use oracle::compare::corpus::Corpus;
 use oracle::compare::frames::{self, one_in, pick, Frame};
 use oracle::compare::hold::{entries, Hold};
@@ -16,6 +16,11 @@ struct Run {
     start: Instant,
     /// how much of the whole is run, in percent
     share: u64,
+    /// which part of how many, from 0; each is a process of its own
+    part: (u32, u32),
+    /// reads of every short input of a form, and of random frames and damaged copies
+    short: u64,
+    random: u64,
 }
 
 impl Run {
@@ -28,21 +33,30 @@ impl Run {
         );
     }
     fn scaled(&self, n: u64) -> u64 {
-        (n * self.share / 100).max(1)
+        (n * self.share / 100 / self.part.1 as u64).max(1)
+    }
+    fn is_first(&self) -> bool {
+        self.part.0 == 0
+    }
+    /// Whether this part has the first byte.
+    fn has(&self, first: u8) -> bool {
+        first as u32 % self.part.1 == self.part.0
+    }
+    fn read_short(&mut self, s: &[u8]) {
+        self.short += 1;
+        self.hold.read(s, None);
     }
 
     /// Every stream of up to two bytes, and of three with every first byte of a kind (all of them in the whole run).
     fn streams(&mut self) {
-        self.hold.read(&[], None);
-        for a in 0..=255 {
-            self.hold.read(&[a], None);
+        self.read_short(&[]);
+        for a in (0..=255).filter(|a| self.has(*a)).collect::<Vec<_>>() {
+            self.read_short(&[a]);
             for b in 0..=255 {
-                self.hold.read(&[a, b], None);
+                self.read_short(&[a, b]);
             }
-        }
-        for a in (0..=255).filter(|a| self.share == 100 || a % 16 == 0) {
-            for bc in 0..65_536u32 {
-                self.hold.read(&[a, (bc >> 8) as u8, bc as u8], None);
+            for bc in 0..if self.share == 100 || a % 16 == 0 { 65_536u32 } else { 0 } {
+                self.read_short(&[a, (bc >> 8) as u8, bc as u8]);
             }
         }
         self.say("every stream of up to 3 bytes");
@@ -50,11 +64,12 @@ impl Run {
 
     /// Every first byte with every body of one and two bytes.
     fn short_bodies(&mut self) {
-        for first in (0..=255u8).filter(|a| self.share == 100 || a % 16 == 0 || a >> 4 == 3) {
+        let taken = |a: &u8| self.has(*a) && (self.share == 100 || a % 16 == 0 || a >> 4 == 3);
+        for first in (0..=255u8).filter(taken).collect::<Vec<_>>() {
             for a in 0..=255 {
-                self.hold.read(&[first, 1, a], None);
+                self.read_short(&[first, 1, a]);
                 for b in 0..=255 {
-                    self.hold.read(&[first, 2, a, b], None);
+                    self.read_short(&[first, 2, a, b]);
                 }
             }
         }
@@ -63,14 +78,20 @@ impl Run {
 
     /// Every body of three bytes, behind `head`; a sample of them in a part of the whole.
     fn three_behind(&mut self, first: u8, head: &[u8]) {
+        self.three_between(first, head, &[]);
+    }
+
+    /// The same with `tail` behind the three.
+    fn three_between(&mut self, first: u8, head: &[u8], tail: &[u8]) {
         let step = if self.share == 100 { 1 } else { 1009 };
-        let mut s = vec![first, head.len() as u8 + 3];
+        let mut s = vec![first, (head.len() + 3 + tail.len()) as u8];
         s.extend(head);
         let at = s.len();
         s.extend([0; 3]);
-        for n in (0..1u32 << 24).step_by(step) {
-            s[at..].copy_from_slice(&n.to_be_bytes()[1..]);
-            self.hold.read(&s, None);
+        s.extend(tail);
+        for n in (self.part.0..1u32 << 24).step_by(step * self.part.1 as usize) {
+            s[at..at + 3].copy_from_slice(&n.to_be_bytes()[1..]);
+            self.read_short(&s);
         }
     }
 
@@ -92,6 +113,32 @@ impl Run {
             }
         }
         self.say("every 3 bytes behind an identifier, an empty topic, a reason");
+    }
+
+    /// Every block of three bytes in each kind; every three bytes where entries stand, and behind a reason that is none of success.
+    fn bodies_between(&mut self) {
+        for (first, _, head, end) in Self::heads() {
+            self.three_between(first, &[head, &[3]].concat(), end);
+        }
+        for kind in 8..=11 {
+            self.three_behind(first_byte(kind), &[0, 1, 0]);
+        }
+        for (kind, reason) in [(4, 0x10), (5, 0x80), (6, 0x92), (7, 0x92)] {
+            self.three_behind(first_byte(kind), &[0, 1, reason]);
+        }
+        self.say("every block of 3 bytes, every 3 bytes of entries, and behind a reason");
+    }
+
+    /// Every text of three bytes: a topic, a response topic, key and value of a user property, a reason string, a filter, a topic of an Unsubscribe.
+    fn texts_of_three(&mut self) {
+        self.three_between(0x30, &[0, 3], &[0]);
+        self.three_between(0x30, &[0, 0, 6, 8, 0, 3], &[]);
+        self.three_between(0x30, &[0, 0, 8, 38, 0, 3], &[0, 0]);
+        self.three_between(0x40, &[0, 1, 0, 8, 38, 0, 0, 0, 3], &[]);
+        self.three_between(0x90, &[0, 1, 6, 31, 0, 3], &[0]);
+        self.three_between(0x82, &[0, 1, 0, 0, 3], &[0]);
+        self.three_between(0xA2, &[0, 1, 0, 0, 3], &[]);
+        self.say("every text of 3 bytes");
     }
 
     fn read_body(&mut self, first: u8, body: &[u8]) {
@@ -412,6 +459,7 @@ impl Run {
     }
 
     fn random(&mut self, count: u64) {
+        let before = self.hold.reads;
         for i in 0..count {
             let f = frames::well_formed(&mut self.dice);
             let more = frames::winded(&mut self.dice);
@@ -434,6 +482,7 @@ impl Run {
                 }
             }
         }
+        self.random += self.hold.reads - before;
         self.say("random frames and damaged copies");
     }
 
@@ -913,6 +962,7 @@ fn report(run: &Run) {
         "\n{} reads, {} items, {} writes with their sizes, {seconds} s",
         h.reads, h.items, h.writes
     );
+    println!("of the reads {} are every short input of a form, {} random frames and damaged copies", run.short, run.random);
     println!("answers to reads, by refusal (0: accepted): {:?}", &h.read_answers[..24]);
     println!("answers to writes, by refusal (0: accepted): {:?}", &h.write_answers[..24]);
     println!("panics of the crate: {}", h.panics);
@@ -928,26 +978,40 @@ fn report(run: &Run) {
 
 fn main() {
     let mut args = std::env::args().skip(1);
-    let (mut seed, mut share, mut file, mut cap, mut only_listed) = (2026u64, 100, None, 14, false);
+    let (mut seed, mut share, mut part, mut file, mut cap) = (2026u64, 100, (0, 1), None, 14);
+    let (mut only_listed, mut stop) = (false, false);
     while let Some(a) = args.next() {
         let mut value = || args.next().unwrap_or_else(|| panic!("{a} wants a value"));
         match a.as_str() {
             "--seed" => seed = value().parse().unwrap(),
             "--share" => share = value().parse().unwrap(),
+            "--part" => {
+                let of = value();
+                let (i, n) = of.split_once('/').expect("I/N");
+                part = (i.parse::<u32>().unwrap() - 1, n.parse().unwrap());
+                assert!(part.0 < part.1, "a part of {}", part.1);
+            }
             "--cap" => cap = value().parse().unwrap(),
             "--corpus" => file = Some(value()),
             "--listed" => only_listed = true,
+            "--stop" => stop = true,
             _ => panic!("what is {a}?"),
         }
     }
     std::panic::set_hook(Box::new(|_| {}));
-    println!("the port: {}; seed {seed}; {share} percent", port::name());
+    // each part draws other frames and records
+    seed += part.0 as u64;
+    println!("the port: {}; seed {seed}; {share} percent; part {} of {}", port::name(), part.0 + 1, part.1);
     let mut run = Run {
         hold: Hold::new(),
         dice: Dice::new(seed),
         start: Instant::now(),
         share,
+        part,
+        short: 0,
+        random: 0,
     };
+    run.hold.stop = stop;
     match file {
         Some(file) => corpus(&mut run, &file, cap),
         None if only_listed => {
@@ -955,20 +1019,25 @@ fn main() {
             listed(&mut run);
         }
         None => {
-            listed(&mut run);
-            run.every_option_and_reason();
-            run.every_property();
-            run.every_double();
-            run.every_spelling();
-            run.every_nul();
-            run.every_write();
-            run.writes(run.scaled(4_000_000));
+            // what is small is the first part's
+            if run.is_first() {
+                listed(&mut run);
+                run.every_option_and_reason();
+                run.every_property();
+                run.every_double();
+                run.every_spelling();
+                run.every_nul();
+                run.every_write();
+                run.large_writes();
+            }
+            run.writes(run.scaled(5_000_000));
             run.random(run.scaled(4_000_000));
-            run.large_writes();
             run.streams();
             run.short_bodies();
             run.bodies_behind();
             run.bodies_of_three();
+            run.bodies_between();
+            run.texts_of_three();
         }
     }
     report(&run);

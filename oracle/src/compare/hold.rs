@@ -31,6 +31,8 @@ pub struct Hold {
     pub corpus: Option<Corpus>,
     /// print each input with its answers
     pub show: bool,
+    /// end at the first failure
+    pub stop: bool,
     of_port: Lists,
     of_rules: Lists,
     of_crate: Lists,
@@ -125,6 +127,9 @@ impl Hold {
         self.failures += 1;
         if self.failures <= 20 {
             println!("FAILED {which}\n{what}");
+        }
+        if self.stop {
+            std::process::exit(1);
         }
     }
 
