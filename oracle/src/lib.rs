@@ -6,6 +6,7 @@ pub mod v5 {
 pub use v5::mqttbytes::v5 as codec;
 pub use v5::mqttbytes::{Error, QoS};
 pub mod compare;
+pub mod journal;
 pub mod limit;
 pub mod same;
 pub mod state;

@@ -1,4 +1,4 @@
-//! Topics and filters. topics compare [--seed N]: every pair of short texts and long ones made of chance through the port, the crate's text and
+//! Topics and filters. topics compare [--seed N] [--characters N]: every pair of short texts and long ones made of chance through the port, the crate's text and
 //! the model. topics listed: both answers to each input of docs/DIFFERENCES.md. topics bench: ns a call. topics count WHAT SIDE N: N calls
 //! and nothing else, for callgrind.
 use oracle::streams::Dice;
@@ -127,17 +127,17 @@ fn long(dice: &mut Dice) -> (String, String) {
     (topic.join("/"), filter.join("/"))
 }
 
-fn compare(seed: u64) {
+fn compare(seed: u64, characters: usize) {
     std::panic::set_hook(Box::new(|_| {}));
     let start = Instant::now();
     let mut held = Held::default();
-    let all = every(5);
+    let all = every(characters);
     let splits: Vec<Split> = all.iter().map(|s| split(s.as_bytes())).collect();
     all.iter().for_each(|s| held.text(s));
     for topic in &splits {
         splits.iter().for_each(|filter| held.pair(topic, filter));
     }
-    println!("{:4} s  every pair of up to 5 characters of a / + # $ é: {} texts, {} pairs", start.elapsed().as_secs(), held.texts, held.pairs);
+    println!("{:4} s  every pair of up to {characters} characters of a / + # $ é: {} texts, {} pairs", start.elapsed().as_secs(), held.texts, held.pairs);
     let mut dice = Dice::new(seed);
     for _ in 0..1_000_000 {
         let (topic, filter) = long(&mut dice);
@@ -277,8 +277,9 @@ fn count(args: &[String]) {
 
 fn main() {
     let args: Vec<String> = std::env::args().skip(1).collect();
+    let after = |name: &str, or: u64| args.iter().position(|a| a == name).map_or(or, |i| args[i + 1].parse().unwrap());
     match args.first().map(String::as_str) {
-        Some("compare") => compare(if args.get(1).is_some_and(|s| s == "--seed") { args[2].parse().unwrap() } else { 2026 }),
+        Some("compare") => compare(after("--seed", 2026), after("--characters", 5) as usize),
         Some("listed") => listed(),
         Some("bench") => bench(),
         Some("count") => count(&args[1..]),
