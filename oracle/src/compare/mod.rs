@@ -5,6 +5,7 @@ pub mod given;
 pub mod hold;
 pub mod model;
 pub mod model_write;
+pub mod pieces;
 pub mod port;
 pub mod shape;
 pub mod text;
