@@ -127,10 +127,10 @@ someOf fs = not (isEmpty fs)
 -- ---- acknowledgements, by the reasons rs that they may give
 
 -- 01, grammar, PubAck: "at R = 2 success and no block; at R = 3 a reason and no block; from R = 4 a reason and a block that ends the frame"
-pub data AckRest (rs : List ℕ) : ℕ × Option (Props (List ℕ) List) → List ℕ → Type 0 where
-  plain : AckRest rs (0, none) []
-  coded : {c : ℕ} → isIn c rs ≡ true → AckRest rs (c, none) (c ∷ [])
-  full : {c : ℕ} {ps : Option (Props (List ℕ) List)} {b : List ℕ} → isIn c rs ≡ true → Block ackRow propsIf ps b → AckRest rs (c, ps) (c ∷ b)
+pub data AckRest (row : Row) (rs : List ℕ) : ℕ × Option (Props (List ℕ) List) → List ℕ → Type 0 where
+  plain : AckRest row rs (0, none) []
+  coded : {c : ℕ} → isIn c rs ≡ true → AckRest row rs (c, none) (c ∷ [])
+  full : {c : ℕ} {ps : Option (Props (List ℕ) List)} {b : List ℕ} → isIn c rs ≡ true → Block row propsIf ps b → AckRest row rs (c, ps) (c ∷ b)
 
 -- ---- replies, by the reasons rs that they may give
 
@@ -148,7 +148,7 @@ Packet = PacketOf (List ℕ) List
 abbrev pub Fields : Layout → ℕ → Packet → List ℕ → Type 0
 Fields aPublish x =
     Only (publishGood x) (Map (mkPublish x) (Then Bytes (λ _. Then (Ident (flagQos x)) (λ _. Then (Block publishRow publishOf) (λ _. Is Any)))))
-Fields (anAck rs) x = Map (mkAck x) (Then (Big 2) (λ _. AckRest rs))
+Fields (anAck rs) x = Map (mkAck x) (Then (Big 2) (λ _. AckRest ackRow rs))
 Fields aSubscribe x = Map mkSubscribe (Then (Big 2) (λ _. Then (Block subscribeRow propsIf) (λ _. Only someOf (Many FilterOf))))
 Fields (aReply rs) x = Map (mkReply x) (Then (Big 2) (λ _. Then (Block ackRow propsIf) (λ _. Only someOf (Many (ReasonOf rs)))))
 Fields anUnsubscribe x = Map mkUnsubscribe (Then (Big 2) (λ _. Then (Block unsubscribeRow propsIf) (λ _. Only someOf (Many Text))))

@@ -97,18 +97,18 @@ reasons-at rs = fills-only someOf (nr 13 []) (fills-many (splits-plain (reads-on
 
 -- ---- an acknowledgement
 
-ack-block : (end c : ℕ) (r : List ℕ) → length (c ∷ r) ≤ end → (ps : Option (Props Span (λ A. Span))) → ackBlockFit asPlaces end r ≡ got ps → AckRestAt (end - length (c ∷ r)) (c, ps) (c ∷ r)
+ack-block : (row : Row) (end c : ℕ) (r : List ℕ) → length (c ∷ r) ≤ end → (ps : Option (Props Span (λ A. Span))) → ackBlockFit asPlaces row end r ≡ got ps → AckRestAt row (end - length (c ∷ r)) (c, ps) (c ∷ r)
 unfolding ackBlockFit
-ack-block end c [] h = from-got (λ ps. AckRestAt (end - length (c ∷ [])) (c, ps) (c ∷ [])) none coded
-ack-block end c (x ∷ r) h = λ ps e.
+ack-block row end c [] h = from-got (λ ps. AckRestAt row (end - length (c ∷ [])) (c, ps) (c ∷ [])) none coded
+ack-block row end c (x ∷ r) h = λ ps e.
     let n : end - length (x ∷ r) ≡ end - length (c ∷ x ∷ r) + 1 = omega arith in
-    full (subst (λ (m : ℕ). BlockAt ackRow propsFrom m ps (x ∷ r)) n (fills-exact cut (block-at ackRow) .back end (x ∷ r) (omega arith) ps e))
+    full (subst (λ (m : ℕ). BlockAt row propsFrom m ps (x ∷ r)) n (fills-exact cut (block-at row) .back end (x ∷ r) (omega arith) ps e))
 
-ack-rest : (rs : List ℕ) (end : ℕ) (s : List ℕ) → length s ≤ end → (z : ℕ × Option (Props Span (λ A. Span))) → ackRestFit asPlaces rs end s ≡ got z → AckRestAt (end - length s) z s
+ack-rest : (row : Row) (rs : List ℕ) (end : ℕ) (s : List ℕ) → length s ≤ end → (z : ℕ × Option (Props Span (λ A. Span))) → ackRestFit asPlaces row rs end s ≡ got z → AckRestAt row (end - length s) z s
 unfolding ackRestFit
-ack-rest rs end [] h = from-got (λ z. AckRestAt (end - 0) z []) (0, none) plain
-ack-rest rs end (c ∷ r) h = from-guard (isIn c rs) (nr 15 (c ∷ [])) (ackBlockFit asPlaces end r >>= λ ps. got (c, ps)) λ _.
-    from-bind (ackBlockFit asPlaces end r) (λ ps. got (c, ps)) λ ps e. from-got (λ z. AckRestAt (end - length (c ∷ r)) z (c ∷ r)) (c, ps) (ack-block end c r h ps e)
+ack-rest row rs end [] h = from-got (λ z. AckRestAt row (end - 0) z []) (0, none) plain
+ack-rest row rs end (c ∷ r) h = from-guard (isIn c rs) (nr 15 (c ∷ [])) (ackBlockFit asPlaces row end r >>= λ ps. got (c, ps)) λ _.
+    from-bind (ackBlockFit asPlaces row end r) (λ ps. got (c, ps)) λ ps e. from-got (λ z. AckRestAt row (end - length (c ∷ r)) z (c ∷ r)) (c, ps) (ack-block row end c r h ps e)
 
 -- ---- packets
 
@@ -119,7 +119,7 @@ message-at x = fills-map (mkPublish x) (fills-then bytes-at (fills-then (splits-
 fields-back : (l : Layout) (x end : ℕ) (b : List ℕ) → length b ≤ end → (v : Placed) → fieldsFit asPlaces l x end b ≡ got v → FieldsAt l x (end - length b) v b
 unfolding fieldsFit
 fields-back aPublish x end b h = from-guard (notThree (flagQos x)) (nr 11 (3 ∷ [])) (messageFit asPlaces x end b) λ _. message-at x .back end b h
-fields-back (anAck rs) x end b h = fills-map (mkAck x) (fills-then (splits-plain (reads-big cut 2)) (record { back = ack-rest rs })) .back end b h
+fields-back (anAck rs) x end b h = fills-map (mkAck x) (fills-then (splits-plain (reads-big cut 2)) (record { back = ack-rest ackRow rs })) .back end b h
 fields-back aSubscribe x end b h = fills-map mkSubscribe (fills-then (splits-plain (reads-big cut 2)) (fills-then (block-at subscribeRow) (fills-hand (λ vs p. p) filters-at))) .back end b h
 fields-back (aReply rs) x end b h = fills-map (mkReply x) (fills-then (splits-plain (reads-big cut 2)) (fills-then (block-at ackRow) (fills-hand (λ vs p. p) (reasons-at rs)))) .back end b h
 fields-back anUnsubscribe x end b h = fills-map mkUnsubscribe (fills-then (splits-plain (reads-big cut 2)) (fills-then (block-at unsubscribeRow) (fills-hand (λ vs p. p) topics-at))) .back end b h

@@ -57,7 +57,7 @@ two-bytes : {i : ℕ} {b : List ℕ} → Big 2 i b → length b ≡ 2
 two-bytes (big e) = e
 
 -- what follows an acknowledgement's identifier, a
-ack-stands : (rs : List ℕ) (x at : ℕ) (a : List ℕ) {i : ℕ} → Big 2 i a → {z : ℕ × Option (Props Span (λ A. Span))} {d : List ℕ} → AckRestAt (at + length a) z d
+ack-stands : (rs : List ℕ) (x at : ℕ) (a : List ℕ) {i : ℕ} → Big 2 i a → {z : ℕ × Option (Props Span (λ A. Span))} {d : List ℕ} → AckRestAt ackRow (at + length a) z d
     → StandsAt x at (anAck rs) (a ++ d) (onSome (λ ps. ps .user) (z .1)) (endingAt (λ ps. ps .user) (at + length (a ++ d)) (z .1))
 ack-stands rs x at a i plain = unsent (short {b = a ++ []} (omega (arith, length-append a [], two-bytes i)))
 ack-stands rs x at a i (coded {c = c}) = unsent (short {b = a ++ (c ∷ [])} (omega (arith, length-append a (c ∷ []), two-bytes i)))

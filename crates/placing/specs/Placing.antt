@@ -91,15 +91,15 @@ abbrev pub RunAt : {A : Type 0} → GramAt A → GramAt Span
 RunAt G = HandedAt (λ vs p. p) (ManyAt G)
 
 -- 01, grammar, PubAck: "at R = 2 ..; at R = 3 ..; from R = 4 a reason and a block"
-pub data AckRestAt (at : ℕ) : ℕ × Option (Props Span (λ A. Span)) → List ℕ → Type 0 where
-  plain : AckRestAt at (0, none) []
-  coded : {c : ℕ} → AckRestAt at (c, none) (c ∷ [])
-  full : {c : ℕ} {ps : Option (Props Span (λ A. Span))} {b : List ℕ} → BlockAt ackRow propsFrom (at + 1) ps b → AckRestAt at (c, ps) (c ∷ b)
+pub data AckRestAt (row : Row) (at : ℕ) : ℕ × Option (Props Span (λ A. Span)) → List ℕ → Type 0 where
+  plain : AckRestAt row at (0, none) []
+  coded : {c : ℕ} → AckRestAt row at (c, none) (c ∷ [])
+  full : {c : ℕ} {ps : Option (Props Span (λ A. Span))} {b : List ℕ} → BlockAt row propsFrom (at + 1) ps b → AckRestAt row at (c, ps) (c ∷ b)
 
 -- 01, grammar: what fills a frame of each layout whose first byte is x
 abbrev pub FieldsAt : Layout → ℕ → GramAt Placed
 FieldsAt aPublish x at = Map (mkPublish x) (ThenAt BytesAt (ThenAt (λ _. Ident (flagQos x)) (ThenAt (BlockAt publishRow publishFrom) (StringAt Any))) at)
-FieldsAt (anAck rs) x at = Map (mkAck x) (ThenAt (λ _. Big 2) AckRestAt at)
+FieldsAt (anAck rs) x at = Map (mkAck x) (ThenAt (λ _. Big 2) (AckRestAt ackRow) at)
 FieldsAt aSubscribe x at = Map mkSubscribe (ThenAt (λ _. Big 2) (ThenAt (BlockAt subscribeRow propsFrom) (RunAt FilterAt)) at)
 FieldsAt (aReply rs) x at = Map (mkReply x) (ThenAt (λ _. Big 2) (ThenAt (BlockAt ackRow propsFrom) (RunAt (λ _. ReasonOf rs))) at)
 FieldsAt anUnsubscribe x at = Map mkUnsubscribe (ThenAt (λ _. Big 2) (ThenAt (BlockAt unsubscribeRow propsFrom) (RunAt TextAt)) at)

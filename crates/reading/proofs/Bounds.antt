@@ -111,18 +111,18 @@ module _ (end : ℕ) where
   unfolding propsOf
   plain-block row = block-bounds row (λ b e ps. propsOf Span (λ A. Span) (λ vs. spanOf b e) ps) (λ ps. ps .user) (λ b e ps. refl) end
 
-  ack-rest : (rs r : List ℕ) (z : ℕ × Option (Props Span (λ A. Span))) → ackRestFit asPlaces rs end r ≡ got z → ackBounds end r ≡ got (endingAt (λ ps. ps .user) end (z .1))
+  ack-rest : (row : Row) (rs r : List ℕ) (z : ℕ × Option (Props Span (λ A. Span))) → ackRestFit asPlaces row rs end r ≡ got z → ackBounds end r ≡ got (endingAt (λ ps. ps .user) end (z .1))
   unfolding ackRestFit ackBlockFit exactFit
-  ack-rest rs [] = from-got (λ (z : ℕ × Option (Props Span (λ A. Span))). got (end, end) ≡ got (endingAt (λ ps. ps .user) end (z .1))) (0, none) refl
-  ack-rest rs (c ∷ []) = from-guard (isIn c rs) _ _ λ _. from-got (λ (z : ℕ × Option (Props Span (λ A. Span))). got (end, end) ≡ got (endingAt (λ ps. ps .user) end (z .1))) (c, none) refl
-  ack-rest rs (c ∷ x ∷ r) =
+  ack-rest row rs [] = from-got (λ (z : ℕ × Option (Props Span (λ A. Span))). got (end, end) ≡ got (endingAt (λ ps. ps .user) end (z .1))) (0, none) refl
+  ack-rest row rs (c ∷ []) = from-guard (isIn c rs) _ _ λ _. from-got (λ (z : ℕ × Option (Props Span (λ A. Span))). got (end, end) ≡ got (endingAt (λ ps. ps .user) end (z .1))) (c, none) refl
+  ack-rest row rs (c ∷ x ∷ r) =
       from-guard (isIn c rs) _ _ λ _.
-      from-bind {C = λ (z : ℕ × Option (Props Span (λ A. Span))). afterLength end (x ∷ r) ≡ got (endingAt (λ ps. ps .user) end (z .1))} (exactFit (blockOf asPlaces ackRow (propsAs asPlaces) end) cut (x ∷ r)) _ λ o e.
+      from-bind {C = λ (z : ℕ × Option (Props Span (λ A. Span))). afterLength end (x ∷ r) ≡ got (endingAt (λ ps. ps .user) end (z .1))} (exactFit (blockOf asPlaces row (propsAs asPlaces) end) cut (x ∷ r)) _ λ o e.
       from-got (λ (z : ℕ × Option (Props Span (λ A. Span))). afterLength end (x ∷ r) ≡ got (endingAt (λ ps. ps .user) end (z .1))) (c, o)
-      (from-bind {C = λ (y : Option (Props Span (λ A. Span))). afterLength end (x ∷ r) ≡ got (endingAt (λ ps. ps .user) end y)} (blockOf asPlaces ackRow (propsAs asPlaces) end (x ∷ r)) _ (λ oq f.
+      (from-bind {C = λ (y : Option (Props Span (λ A. Span))). afterLength end (x ∷ r) ≡ got (endingAt (λ ps. ps .user) end y)} (blockOf asPlaces row (propsAs asPlaces) end (x ∷ r)) _ (λ oq f.
       from-guard (isEmpty (oq .1)) _ _ λ h.
       from-got (λ (y : Option (Props Span (λ A. Span))). afterLength end (x ∷ r) ≡ got (endingAt (λ ps. ps .user) end y)) (oq .0)
-      (plain-block ackRow (x ∷ r) oq f ∙ ap (λ (m : ℕ). got (endingAt (λ (ps : Props Span (λ A. Span)). ps .user) m (oq .0))) (at-end (oq .1) (nil-of (oq .1) h)))) o e)
+      (plain-block row (x ∷ r) oq f ∙ ap (λ (m : ℕ). got (endingAt (λ (ps : Props Span (λ A. Span)). ps .user) m (oq .0))) (at-end (oq .1) (nil-of (oq .1) h)))) o e)
 
   -- an identifier, a block, entries to the end
   entries-bounds : {A : Type 0} (row : Row) (q : ℕ → Filler A) (b : List ℕ) (z : ℕ × (Option (Props Span (λ A. Span)) × Span))
@@ -146,7 +146,7 @@ module _ (end : ℕ) where
   fields-bounds (anAck rs) x b =
       from-bind {C = λ (v : Placed). fieldBounds (anAck rs) x end b ≡ got (boundsIn v end)} _ _ λ z e.
       from-got (λ (v : Placed). fieldBounds (anAck rs) x end b ≡ got (boundsIn v end)) (mkAck x z)
-      (then-bounds (bigOf cut 2) _ (ackBounds end) (λ c. endingAt (λ ps. ps .user) end (c .1)) (λ _. ack-rest rs) b z e)
+      (then-bounds (bigOf cut 2) _ (ackBounds end) (λ c. endingAt (λ ps. ps .user) end (c .1)) (λ _. ack-rest ackRow rs) b z e)
   fields-bounds aSubscribe x b =
       from-bind {C = λ (v : Placed). fieldBounds aSubscribe x end b ≡ got (boundsIn v end)} _ _ λ z e.
       from-got (λ (v : Placed). fieldBounds aSubscribe x end b ≡ got (boundsIn v end)) (mkSubscribe z) (entries-bounds subscribeRow (filtersFit asPlaces) b z e)

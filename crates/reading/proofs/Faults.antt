@@ -85,27 +85,27 @@ refuses-block row f = refuses-sized crossed (reads-num cut 4) (refuses-num cut 4
 
 -- ---- bodies
 
-module _ (rs : List ℕ) (end : ℕ) where
-  ack-block : RefusesBy (exactFit (blockOf asBytes ackRow (propsAs asBytes) end) cut) (ExactFault (Block ackRow propsIf) (BlockFault ackRow) cut)
-  ack-block = refuses-exact (refuses-block ackRow (propsAs asBytes) end) (reads-props ackRow end) cut
+module _ (row : Row) (rs : List ℕ) (end : ℕ) where
+  ack-block : RefusesBy (exactFit (blockOf asBytes row (propsAs asBytes) end) cut) (ExactFault (Block row propsIf) (BlockFault row) cut)
+  ack-block = refuses-exact (refuses-block row (propsAs asBytes) end) (reads-props row end) cut
 
-  block-fault : (c : ℕ) (r : List ℕ) (k : Refusal) → isIn c rs ≡ true → ackBlockFit asBytes end r ≡ bad k → AckFault rs (c ∷ r) k
+  block-fault : (c : ℕ) (r : List ℕ) (k : Refusal) → isIn c rs ≡ true → ackBlockFit asBytes row end r ≡ bad k → AckFault row rs (c ∷ r) k
   unfolding ackBlockFit
   block-fault c [] k h e = got-bad e
   block-fault c (x ∷ r) k h e = block h (ack-block .fault (x ∷ r) k e)
 
-  rest-fault : (s : List ℕ) (k : Refusal) → ackRestFit asBytes rs end s ≡ bad k → AckFault rs s k
+  rest-fault : (s : List ℕ) (k : Refusal) → ackRestFit asBytes row rs end s ≡ bad k → AckFault row rs s k
   unfolding ackRestFit
   rest-fault [] k = got-bad
-  rest-fault (c ∷ r) k = of-guard (isIn c rs) (nr 15 (c ∷ [])) _ k (λ h i. subst (AckFault rs (c ∷ r)) i (reason h))
-      λ h. of-bind (ackBlockFit asBytes end r) _ k (block-fault c r k h) (λ ps e e′. got-bad e′)
+  rest-fault (c ∷ r) k = of-guard (isIn c rs) (nr 15 (c ∷ [])) _ k (λ h i. subst (AckFault row rs (c ∷ r)) i (reason h))
+      λ h. of-bind (ackBlockFit asBytes row end r) _ k (block-fault c r k h) (λ ps e e′. got-bad e′)
 
-  rest-refuse : (s : List ℕ) (k : Refusal) → AckFault rs s k → ackRestFit asBytes rs end s ≡ bad k
+  rest-refuse : (s : List ℕ) (k : Refusal) → AckFault row rs s k → ackRestFit asBytes row rs end s ≡ bad k
   unfolding ackRestFit ackBlockFit
   rest-refuse _ _ (reason h) = rw h
   rest-refuse _ k (block {x = x} {r = r} h f) = rw (h, ack-block .refuse (x ∷ r) k f)
 
-  refuses-rest : RefusesBy (ackRestFit asBytes rs end) (AckFault rs)
+  refuses-rest : RefusesBy (ackRestFit asBytes row rs end) (AckFault row rs)
   refuses-rest = record { fault = rest-fault; refuse = rest-refuse }
 
 -- ---- one or more, to the end
@@ -181,7 +181,7 @@ module _ (x end : ℕ) where
   refuses-fields : (f : Layout) → RefusesBy (fieldsFit asBytes f x end) (FieldsFault f x)
   unfolding fieldsFit
   refuses-fields aPublish = record { fault = publish-fault; refuse = publish-refuse }
-  refuses-fields (anAck rs) = refuses-fit (mkAck x) (refuses-end (refuses-big cut 2) (reads-big cut 2) (refuses-rest rs end))
+  refuses-fields (anAck rs) = refuses-fit (mkAck x) (refuses-end (refuses-big cut 2) (reads-big cut 2) (refuses-rest ackRow rs end))
   refuses-fields aSubscribe =
       refuses-fit mkSubscribe
       (refuses-end (refuses-big cut 2) (reads-big cut 2)

@@ -6,7 +6,7 @@ use mathlib.Core.List.{List, [], _∷_}
 use Prim.Native.Nat.{ℕ, zero, suc}
 use Rattle.grammar.specs.Choice.{isIn}
 use Rattle.grammar.specs.Gram.{Gram}
-use Rattle.grammar.specs.Tables.{Form, u8, u16, u32, number, text, bytes, pair, Row, Layout, aPublish, anAck, aSubscribe, aReply, anUnsubscribe, aPing}
+use Rattle.grammar.specs.Tables.{Form, u8, u16, u32, number, text, bytes, pair, Row, ackRow, Layout, aPublish, anAck, aSubscribe, aReply, anUnsubscribe, aPing}
 use Rattle.grammar.specs.Record.{flagQos}
 use Rattle.reading.specs.Refusal.{Refusal, nr}
 use Rattle.reading.specs.Fault.{Fault, Sound, OnlyFault, under, fails, underBy, failsBy, ThenFault, first, second, SizedFault, sizes, crosses, fills, ChainFault, now, later, HeadFault, noHead, head, behind, ExactFault, before, follows, IsFault, isnt, ByteFault, noByte, BigFault, fewer, NumFault, endless, long, BytesFault, TextFault, ValueFault, PropertyFault, noId, unknown, value, BlockFault, AckFault, reason, block, IdentFault, SomeFault, noEntry, entry, FiltersFault, PublishFault, qos, fields, FieldsFault}
@@ -86,9 +86,9 @@ kept-property row _ k (value {f = t} {s = s} e f) = kept-value t s k f
 kept-block : (row : Row) → Kept (BlockFault row)
 kept-block row = kept-sized (λ _ _. refl) (kept-num refl refl) (kept-chain (λ σ. kept-head (λ _. refl) (kept-property row)) [])
 
-kept-ack : (rs : List ℕ) → Kept (AckFault rs)
-kept-ack rs _ _ (reason h) = refl
-kept-ack rs _ k (block {x = x} {r = r} h f) = kept-exact refl (kept-block _) (x ∷ r) k f
+kept-ack : (row : Row) (rs : List ℕ) → Kept (AckFault row rs)
+kept-ack row rs _ _ (reason h) = refl
+kept-ack row rs _ k (block {x = x} {r = r} h f) = kept-exact refl (kept-block _) (x ∷ r) k f
 
 kept-ident : (q : ℕ) → Kept (IdentFault q)
 kept-ident zero = kept-sound
@@ -107,7 +107,7 @@ kept-publish x s k (fields h f) = kept-then kept-bytes (kept-then (kept-ident (f
 
 kept-fields : (f : Layout) (x : ℕ) → Kept (FieldsFault f x)
 kept-fields aPublish x = kept-publish x
-kept-fields (anAck rs) x = kept-then (kept-big refl) (kept-ack rs)
+kept-fields (anAck rs) x = kept-then (kept-big refl) (kept-ack ackRow rs)
 kept-fields aSubscribe x = kept-then (kept-big refl) (kept-then (kept-block _) kept-filters)
 kept-fields (aReply rs) x = kept-then (kept-big refl) (kept-then (kept-block _) (kept-some (kept-only (λ _. refl) (kept-byte refl))))
 kept-fields anUnsubscribe x = kept-then (kept-big refl) (kept-then (kept-block _) (kept-some kept-text))

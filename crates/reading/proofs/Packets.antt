@@ -22,32 +22,32 @@ use Rattle.reading.proofs.Fields.{reads-byte, byte-solid, reads-big, bi
 pub reads-props : (row : Row) (end : ℕ) → Reads (blockOf asBytes row (propsAs asBytes) end) (Block row propsIf)
 reads-props row = reads-block row (propsAs asBytes) propsIf (λ _ _ _. refl)
 
-module _ (rs : List ℕ) (end : ℕ) where
-  full-whole : (c : ℕ) (ps : Option (Props (List ℕ) List)) (b : List ℕ) → isIn c rs ≡ true → Block ackRow propsIf ps b → ackRestFit asBytes rs end (c ∷ b) ≡ got (c, ps)
+module _ (row : Row) (rs : List ℕ) (end : ℕ) where
+  full-whole : (c : ℕ) (ps : Option (Props (List ℕ) List)) (b : List ℕ) → isIn c rs ≡ true → Block row propsIf ps b → ackRestFit asBytes row rs end (c ∷ b) ≡ got (c, ps)
   unfolding ackRestFit ackBlockFit
-  full-whole c ps [] h g = absurd (block-solid ackRow propsIf ps [] g refl)
-  full-whole c ps (x ∷ b) h g = rw (h, fills-exact cut (reads-props ackRow end) .whole ps (x ∷ b) g)
+  full-whole c ps [] h g = absurd (block-solid row propsIf ps [] g refl)
+  full-whole c ps (x ∷ b) h g = rw (h, fills-exact cut (reads-props row end) .whole ps (x ∷ b) g)
 
-  rest-whole : (a : ℕ × Option (Props (List ℕ) List)) (b : List ℕ) → AckRest rs a b → ackRestFit asBytes rs end b ≡ got a
+  rest-whole : (a : ℕ × Option (Props (List ℕ) List)) (b : List ℕ) → AckRest row rs a b → ackRestFit asBytes row rs end b ≡ got a
   unfolding ackRestFit ackBlockFit
   rest-whole _ _ plain = refl
   rest-whole _ _ (coded h) = rw h
   rest-whole _ _ (full {c = c} {ps = ps} {b = b} h g) = full-whole c ps b h g
 
-  block-back : (c : ℕ) (b : List ℕ) → isIn c rs ≡ true → (ps : Option (Props (List ℕ) List)) → ackBlockFit asBytes end b ≡ got ps → AckRest rs (c, ps) (c ∷ b)
+  block-back : (c : ℕ) (b : List ℕ) → isIn c rs ≡ true → (ps : Option (Props (List ℕ) List)) → ackBlockFit asBytes row end b ≡ got ps → AckRest row rs (c, ps) (c ∷ b)
   unfolding ackBlockFit
-  block-back c [] h = from-got (λ ps. AckRest rs (c, ps) (c ∷ [])) none (coded h)
-  block-back c (x ∷ r) h = λ ps e. full h (fills-exact cut (reads-props ackRow end) .back (x ∷ r) ps e)
+  block-back c [] h = from-got (λ ps. AckRest row rs (c, ps) (c ∷ [])) none (coded h)
+  block-back c (x ∷ r) h = λ ps e. full h (fills-exact cut (reads-props row end) .back (x ∷ r) ps e)
 
-  rest-back : (b : List ℕ) (z : ℕ × Option (Props (List ℕ) List)) → ackRestFit asBytes rs end b ≡ got z → AckRest rs z b
+  rest-back : (b : List ℕ) (z : ℕ × Option (Props (List ℕ) List)) → ackRestFit asBytes row rs end b ≡ got z → AckRest row rs z b
   unfolding ackRestFit
-  rest-back [] = from-got (λ z. AckRest rs z []) (0, none) plain
+  rest-back [] = from-got (λ z. AckRest row rs z []) (0, none) plain
   rest-back (c ∷ r) =
-      from-guard (isIn c rs) _ (ackBlockFit asBytes end r >>= λ ps. got (c, ps)) λ h.
-      from-bind (ackBlockFit asBytes end r) (λ ps. got (c, ps)) λ ps e.
-      from-got (λ z. AckRest rs z (c ∷ r)) (c, ps) (block-back c r h ps e)
+      from-guard (isIn c rs) _ (ackBlockFit asBytes row end r >>= λ ps. got (c, ps)) λ h.
+      from-bind (ackBlockFit asBytes row end r) (λ ps. got (c, ps)) λ ps e.
+      from-got (λ z. AckRest row rs z (c ∷ r)) (c, ps) (block-back c r h ps e)
 
-  fills-rest : Fills (ackRestFit asBytes rs end) (AckRest rs)
+  fills-rest : Fills (ackRestFit asBytes row rs end) (AckRest row rs)
   fills-rest = record { whole = rest-whole; back = rest-back }
 
 -- ---- Publish and Subscribe
@@ -109,7 +109,7 @@ fills-fields aPublish x end =
     (λ _. fills-then (reads-ident (flagQos x))
     (λ _. fills-then (reads-publish-block end)
     (λ _. fills-string anyBytes Any cut any-fine end)))))
-fills-fields (anAck rs) x end = fills-map (mkAck x) (fills-then (reads-big cut 2) (λ _. fills-rest rs end))
+fills-fields (anAck rs) x end = fills-map (mkAck x) (fills-then (reads-big cut 2) (λ _. fills-rest ackRow rs end))
 fills-fields aSubscribe x end =
     fills-map mkSubscribe
     (fills-then (reads-big cut 2)

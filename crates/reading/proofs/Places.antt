@@ -178,24 +178,24 @@ module _ (s : List ℕ) where
   -- ---- acknowledgements
 
   -- a reason, and a block
-  abbrev Rest : ℕ × Option (Props Span (λ A. Span)) → ℕ × Option (Props (List ℕ) List) → Type 0
-  Rest = Both (Via (λ c. c)) (Reading (ifSome (sayProps s ackRow)))
+  abbrev Rest : Row → ℕ × Option (Props Span (λ A. Span)) → ℕ × Option (Props (List ℕ) List) → Type 0
+  Rest row = Both (Via (λ c. c)) (Reading (ifSome (sayProps s row)))
 
-  block-like : (end : ℕ) (l : List ℕ) → Stands s end l → Like (Reading (ifSome (sayProps s ackRow))) (ackBlockFit asPlaces end l) (ackBlockFit asBytes end l)
+  block-like : (row : Row) (end : ℕ) (l : List ℕ) → Stands s end l → Like (Reading (ifSome (sayProps s row))) (ackBlockFit asPlaces row end l) (ackBlockFit asBytes row end l)
   unfolding ackBlockFit
-  block-like end [] w = gots refl
-  block-like end (x ∷ r) w = drops-exact (props-says ackRow end) cut .like (x ∷ r) w
+  block-like row end [] w = gots refl
+  block-like row end (x ∷ r) w = drops-exact (props-says row end) cut .like (x ∷ r) w
 
-  rest-like : (rs : List ℕ) (end : ℕ) (l : List ℕ) → Stands s end l → Like Rest (ackRestFit asPlaces rs end l) (ackRestFit asBytes rs end l)
+  rest-like : (row : Row) (rs : List ℕ) (end : ℕ) (l : List ℕ) → Stands s end l → Like (Rest row) (ackRestFit asPlaces row rs end l) (ackRestFit asBytes row rs end l)
   unfolding ackRestFit
-  rest-like rs end [] w = gots (refl, refl)
-  rest-like rs end (c ∷ r) w =
+  rest-like row rs end [] w = gots (refl, refl)
+  rest-like row rs end (c ∷ r) w =
       like-guard (isIn c rs) (nr 15 (c ∷ [])) _ _ λ _.
-      like-bind (ackBlockFit asPlaces end r) (ackBlockFit asBytes end r) _ _ (block-like end r (stands-rest (c ∷ r) (c ∷ []) r refl w)) λ ps qs _ _ h.
+      like-bind (ackBlockFit asPlaces row end r) (ackBlockFit asBytes row end r) _ _ (block-like row end r (stands-rest (c ∷ r) (c ∷ []) r refl w)) λ ps qs _ _ h.
       gots (refl, h)
 
-  rest-says : (rs : List ℕ) (end : ℕ) → Drops s end Rest (ackRestFit asPlaces rs end) (ackRestFit asBytes rs end)
-  rest-says rs end = record { like = rest-like rs end }
+  rest-says : (row : Row) (rs : List ℕ) (end : ℕ) → Drops s end (Rest row) (ackRestFit asPlaces row rs end) (ackRestFit asBytes row rs end)
+  rest-says row rs end = record { like = rest-like row rs end }
 
   -- ---- every layout
 
@@ -219,7 +219,7 @@ module _ (s : List ℕ) where
   fields-like aPublish x end q l w =
       like-guard (notThree (flagQos x)) (nr 11 (3 ∷ [])) (messageFit asPlaces x end l) (messageFit asBytes x end l) λ _. message-says x end .like l w
   fields-like (anAck rs) x end q l w =
-      drops-map (drops-then (forgets-same (bigOf cut 2)) (reads-big cut 2) (rest-says rs end)) {Q = Reading (say s)} (mkAck x) (mkAck x) (λ a b r. rw (r .1 .1, r .0, r .1 .0)) .like l w
+      drops-map (drops-then (forgets-same (bigOf cut 2)) (reads-big cut 2) (rest-says ackRow rs end)) {Q = Reading (say s)} (mkAck x) (mkAck x) (λ a b r. rw (r .1 .1, r .0, r .1 .0)) .like l w
   fields-like aSubscribe x end q l w =
       drops-map
       (drops-then (forgets-same (bigOf cut 2)) (reads-big cut 2)

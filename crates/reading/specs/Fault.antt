@@ -134,9 +134,9 @@ BlockFault row = SizedFault Spells (NumFault (nr 7 []) 4) crossing (ChainFault (
 -- ---- bodies
 
 -- 01, rows 15 and 7: "not one of the nine"; "bytes after a PubAck's block"
-pub data AckFault (rs : List ℕ) : List ℕ → Refusal → Type 0 where
-  reason : {c : ℕ} {r : List ℕ} → isIn c rs ≡ false → AckFault rs (c ∷ r) (nr 15 (c ∷ []))
-  block : {c x : ℕ} {r : List ℕ} {k : Refusal} → isIn c rs ≡ true → ExactFault (Block ackRow propsIf) (BlockFault ackRow) (nr 7 []) (x ∷ r) k → AckFault rs (c ∷ x ∷ r) k
+pub data AckFault (row : Row) (rs : List ℕ) : List ℕ → Refusal → Type 0 where
+  reason : {c : ℕ} {r : List ℕ} → isIn c rs ≡ false → AckFault row rs (c ∷ r) (nr 15 (c ∷ []))
+  block : {c x : ℕ} {r : List ℕ} {k : Refusal} → isIn c rs ≡ true → ExactFault (Block row propsIf) (BlockFault row) (nr 7 []) (x ∷ r) k → AckFault row rs (c ∷ x ∷ r) k
 
 -- 01, row 12: "Publish, QoS 1 or 2, identifier 0"
 abbrev pub IdentFault : ℕ → Fault
@@ -172,7 +172,7 @@ pub data PublishFault (x : ℕ) : List ℕ → Refusal → Type 0 where
 -- 01, reading order: "fields left to right"
 abbrev pub FieldsFault : Layout → ℕ → Fault
 FieldsFault aPublish x = PublishFault x
-FieldsFault (anAck rs) x = ThenFault (Big 2) (BigFault (nr 7 []) 2) (AckFault rs)
+FieldsFault (anAck rs) x = ThenFault (Big 2) (BigFault (nr 7 []) 2) (AckFault ackRow rs)
 FieldsFault aSubscribe x = ThenFault (Big 2) (BigFault (nr 7 []) 2) (ThenFault (Block subscribeRow propsIf) (BlockFault subscribeRow) FiltersFault)
 FieldsFault (aReply rs) x = ThenFault (Big 2) (BigFault (nr 7 []) 2) (ThenFault (Block ackRow propsIf) (BlockFault ackRow) (SomeFault (ReasonOf rs) (ReasonFault rs)))
 FieldsFault anUnsubscribe x = ThenFault (Big 2) (BigFault (nr 7 []) 2) (ThenFault (Block unsubscribeRow propsIf) (BlockFault unsubscribeRow) (SomeFault Text TextFault))

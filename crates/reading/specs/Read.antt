@@ -175,16 +175,16 @@ module _ (h : Shape) where
   -- ---- bodies
 
   -- 01, grammar, PubAck: "at R = 3 a reason and no block; from R = 4 a reason and a block that ends the frame"; row 7: "bytes after a PubAck's block"
-  unfoldable pub ackBlockFit : ℕ → Filler (Option (Props (h .Str) (h .Run)))
-  ackBlockFit end [] = got none
-  ackBlockFit end (x ∷ r) = exactFit (blockOf ackRow propsAs end) cut (x ∷ r)
+  unfoldable pub ackBlockFit : Row → ℕ → Filler (Option (Props (h .Str) (h .Run)))
+  ackBlockFit row end [] = got none
+  ackBlockFit row end (x ∷ r) = exactFit (blockOf row propsAs end) cut (x ∷ r)
 
   -- 01, grammar, PubAck: "at R = 2 success and no block"; row 15: "not one of the nine", tested before the block
-  unfoldable pub ackRestFit : List ℕ → ℕ → Filler (ℕ × Option (Props (h .Str) (h .Run)))
-  ackRestFit rs end [] = got (0, none)
-  ackRestFit rs end (c ∷ r) = do
+  unfoldable pub ackRestFit : Row → List ℕ → ℕ → Filler (ℕ × Option (Props (h .Str) (h .Run)))
+  ackRestFit row rs end [] = got (0, none)
+  ackRestFit row rs end (c ∷ r) = do
     guard (isIn c rs) (nr 15 (c ∷ []))
-    ps ← ackBlockFit end r
+    ps ← ackBlockFit row end r
     got (c, ps)
 
   -- 01, rows 14 and 11: "within a filter the forward rule before QoS"
@@ -209,7 +209,7 @@ module _ (h : Shape) where
   fieldsFit aPublish x end b = do
     guard (notThree (flagQos x)) (nr 11 (3 ∷ []))
     messageFit x end b
-  fieldsFit (anAck rs) x end b = mapFit (mkAck x) (thenFit (bigOf cut 2) (λ _. ackRestFit rs end)) b
+  fieldsFit (anAck rs) x end b = mapFit (mkAck x) (thenFit (bigOf cut 2) (λ _. ackRestFit ackRow rs end)) b
   fieldsFit aSubscribe x end b =
       mapFit mkSubscribe (thenFit (bigOf cut 2) (λ _. thenFit (blockOf subscribeRow propsAs end) (λ _. handFit (λ vs. h .run (Filter (h .Str)) vs) filtersFit end))) b
   fieldsFit (aReply rs) x end b =

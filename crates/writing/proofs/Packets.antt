@@ -192,7 +192,7 @@ ack-block t u o o′ p l = says-block ackRow propsIf (ackGiven t u) ack-apart (a
 ack-rest : (k : ℕ) (h : AckHanded) (t : AckTyped k h) → Each (InBlock (h .block) (ackGiven (h .text) (h .user))) (ackRow .forms) → isIn (h .reason) (reasonsOf k) ≡ true
     → Each Writable (propsFields ackRow (ackGiven (h .text) (h .user)))
     → (b : Bool) → isPlain h ≡ b → length (cond b [] (h .reason ∷ block ackRow (ackGiven (h .text) (h .user)))) ≤ most
-    → Says (AckRest (reasonsOf k)) (h .reason, propsIf (map propOf (entries ackRow (ackGiven (h .text) (h .user))))) (cond b [] (h .reason ∷ block ackRow (ackGiven (h .text) (h .user))))
+    → Says (AckRest ackRow (reasonsOf k)) (h .reason, propsIf (map propOf (entries ackRow (ackGiven (h .text) (h .user))))) (cond b [] (h .reason ∷ block ackRow (ackGiven (h .text) (h .user))))
 ack-rest k h t w c p true e l =
     let (success, absent) = plain-when h .0 e in
     rw (nothing-entries ackRow (h .block) (ackGiven (h .text) (h .user)) w absent, success) (record { spelled = plain; octets = nil })
