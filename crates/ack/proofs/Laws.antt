@@ -33,12 +33,12 @@ beside i v = got (i, v)
 module _ (s : List ℕ) (at : ℕ) (rs : List ℕ) (k x : ℕ) (h : kindOf x ≡ k) where
   pub ident-bad : (c : Refusal) → bad c ≡ fromAt (bigOf cut 2) s at → bad c ≡ fieldsFit asPlaces (anAck rs) x (length s) (drop at s)
   unfolding fieldsFit mapFit
-  ident-bad c e = sym (rw (fill-bad (bigOf cut 2) s at (λ _. ackRestFit asPlaces rs (length s)) c (sym e)))
+  ident-bad c e = sym (rw (fill-bad (bigOf cut 2) s at (λ _. ackRestFit asPlaces ackRow rs (length s)) c (sym e)))
 
   -- the identifier i ends at m
   pub ident-got : (i m : ℕ) → got (i, m) ≡ fromAt (bigOf cut 2) s at → onGot (ack k) (afterIdent rs i (length s) (drop m s)) ≡ fieldsFit asPlaces (anAck rs) x (length s) (drop at s)
   unfolding fieldsFit mapFit
-  ident-got i m e = sym (rw (fill-got (bigOf cut 2) s at (trails-big cut 2) i m (sym e) (λ _. ackRestFit asPlaces rs (length s)), h) (on (ackRestFit asPlaces rs (length s) (drop m s))))
+  ident-got i m e = sym (rw (fill-got (bigOf cut 2) s at (trails-big cut 2) i m (sym e) (λ _. ackRestFit asPlaces ackRow rs (length s)), h) (on (ackRestFit asPlaces ackRow rs (length s) (drop m s))))
     where
       on : (n : Fit (ℕ × Block)) → ((n >>= beside i) >>= λ v. got (ack k (record { ident = v .0; reason = v .1 .0; props = v .1 .1 }))) ≡ onGot (ack k) (n >>= acked i)
       on (got z) = refl
@@ -54,8 +54,8 @@ module _ (rs : List ℕ) (s : List ℕ) (at i : ℕ) where
 
   module _ (h : at < length s) where
     -- a reason stands there
-    rest-some : ackRestFit asPlaces rs (length s) (drop at s)
-        ≡ (guard (isIn (getD s at 0) rs) (nr 15 (getD s at 0 ∷ [])) >> (ackBlockFit asPlaces (length s) (drop (at + 1) s) >>= λ ps. got (getD s at 0, ps)))
+    rest-some : ackRestFit asPlaces ackRow rs (length s) (drop at s)
+        ≡ (guard (isIn (getD s at 0) rs) (nr 15 (getD s at 0 ∷ [])) >> (ackBlockFit asPlaces ackRow (length s) (drop (at + 1) s) >>= λ ps. got (getD s at 0, ps)))
     unfolding ackRestFit
     rest-some = rw (drop-cons s at 0 h, add-one at)
 
@@ -63,7 +63,7 @@ module _ (rs : List ℕ) (s : List ℕ) (at i : ℕ) where
     reason-bad e = rw (rest-some, e)
 
     pub reason-got : isIn (getD s at 0) rs ≡ true → behindReason i (getD s at 0) (length s) (drop (at + 1) s) ≡ afterIdent rs i (length s) (drop at s)
-    reason-got e = rw (rest-some, e) (go (ackBlockFit asPlaces (length s) (drop (at + 1) s)))
+    reason-got e = rw (rest-some, e) (go (ackBlockFit asPlaces ackRow (length s) (drop (at + 1) s)))
       where
         go : (n : Fit Block) → (n >>= λ ps. acked i (getD s at 0, ps)) ≡ ((n >>= λ ps. got (getD s at 0, ps)) >>= acked i)
         go (got ps) = refl
@@ -72,14 +72,14 @@ module _ (rs : List ℕ) (s : List ℕ) (at i : ℕ) where
 -- ---- what follows the reason
 
 module _ (i c end : ℕ) (b : List ℕ) where
-  pub behind-bad : {k : Refusal} → bad k ≡ ackBlockFit asPlaces end b → bad k ≡ behindReason i c end b
+  pub behind-bad : {k : Refusal} → bad k ≡ ackBlockFit asPlaces ackRow end b → bad k ≡ behindReason i c end b
   behind-bad e = rw (sym e)
 
-  pub behind-got : {ps : Block} → got ps ≡ ackBlockFit asPlaces end b → acked i (c, ps) ≡ behindReason i c end b
+  pub behind-got : {ps : Block} → got ps ≡ ackBlockFit asPlaces ackRow end b → acked i (c, ps) ≡ behindReason i c end b
   behind-got e = rw (sym e)
 
 -- R = 3
-pub block-none : (s : List ℕ) (at : ℕ) → length s ≤ at → got none ≡ ackBlockFit asPlaces (length s) (drop at s)
+pub block-none : (s : List ℕ) (at : ℕ) → length s ≤ at → got none ≡ ackBlockFit asPlaces ackRow (length s) (drop at s)
 unfolding ackBlockFit
 block-none s at h = rw (drop-of-length-le s h)
 
@@ -88,11 +88,11 @@ abbrev blockAt : List ℕ → ℕ → Fit (Block × ℕ)
 blockAt s at = fromAt (blockOf asPlaces ackRow (propsAs asPlaces) (length s)) s at
 
 module _ (s : List ℕ) (at : ℕ) (h : at < length s) where
-  block-exact : ackBlockFit asPlaces (length s) (drop at s) ≡ exactFit (blockOf asPlaces ackRow (propsAs asPlaces) (length s)) cut (drop at s)
+  block-exact : ackBlockFit asPlaces ackRow (length s) (drop at s) ≡ exactFit (blockOf asPlaces ackRow (propsAs asPlaces) (length s)) cut (drop at s)
   unfolding ackBlockFit
   block-exact = rw (drop-cons s at 0 h)
 
-  pub block-bad : (k : Refusal) → bad k ≡ blockAt s at → bad k ≡ ackBlockFit asPlaces (length s) (drop at s)
+  pub block-bad : (k : Refusal) → bad k ≡ blockAt s at → bad k ≡ ackBlockFit asPlaces ackRow (length s) (drop at s)
   unfolding exactFit
   block-bad k e = sym (block-exact ∙ rw (bad-left (blockOf asPlaces ackRow (propsAs asPlaces) (length s)) s at k (sym e)))
 
@@ -101,10 +101,10 @@ module _ (s : List ℕ) (at : ℕ) (h : at < length s) where
     block-left : blockOf asPlaces ackRow (propsAs asPlaces) (length s) (drop at s) ≡ got (ps, drop n s)
     block-left = got-left (blockOf asPlaces ackRow (propsAs asPlaces) (length s)) s at (trails-block asPlaces (length s) ackRow (propsAs asPlaces)) ps n (sym e)
 
-    pub bytes-after : n < length s → bad cut ≡ ackBlockFit asPlaces (length s) (drop at s)
+    pub bytes-after : n < length s → bad cut ≡ ackBlockFit asPlaces ackRow (length s) (drop at s)
     unfolding exactFit
     bytes-after l = sym (block-exact ∙ rw (block-left, drop-cons s n 0 l))
 
-    pub block-ends : length s ≤ n → got ps ≡ ackBlockFit asPlaces (length s) (drop at s)
+    pub block-ends : length s ≤ n → got ps ≡ ackBlockFit asPlaces ackRow (length s) (drop at s)
     unfolding exactFit
     block-ends l = sym (block-exact ∙ rw (block-left, drop-of-length-le s l))

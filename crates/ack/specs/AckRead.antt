@@ -2,6 +2,7 @@
 use mathlib.Core.Option.{Option}
 use mathlib.Core.List.{List}
 use Prim.Native.Nat.{ℕ}
+use Rattle.grammar.specs.Tables.{ackRow}
 use Rattle.grammar.specs.Record.{Val, Props}
 use Rattle.grammar.specs.Record as record-of
 use Rattle.reading.specs.Reader.{Fit, got, bad, _>>=_}
@@ -31,11 +32,11 @@ acked i v = got (record { ident = i; reason = v .0; props = v .1 })
 
 -- 01, grammar, PubAck: what follows the reason c, in bytes that end at index `end`
 abbrev pub behindReason : ℕ → ℕ → ℕ → List ℕ → Fit (record-of.Ack place.Span (λ A. place.Span))
-behindReason i c end b = ackBlockFit asPlaces end b >>= λ ps. acked i (c, ps)
+behindReason i c end b = ackBlockFit asPlaces ackRow end b >>= λ ps. acked i (c, ps)
 
 -- 01, grammar, PubAck: what follows the identifier, where the reasons are rs
 abbrev pub afterIdent : List ℕ → ℕ → ℕ → List ℕ → Fit (record-of.Ack place.Span (λ A. place.Span))
-afterIdent rs i end b = ackRestFit asPlaces rs end b >>= acked i
+afterIdent rs i end b = ackRestFit asPlaces ackRow rs end b >>= acked i
 
 -- ---- the reason string
 

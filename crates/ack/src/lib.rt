@@ -15,7 +15,7 @@ use wire::string;
 ghost use mathlib.Core.Path.{_≡_};
 ghost use Prim.Native.Nat.{ℕ};
 ghost use lib.ListN.{length, drop};
-ghost use Rattle.grammar.specs.Tables.{anAck, reasonsOf};
+ghost use Rattle.grammar.specs.Tables.{ackRow, anAck, reasonsOf};
 ghost use Rattle.grammar.specs.Record as record-of;
 ghost use Rattle.grammar.specs.Record.{kindOf};
 ghost use Rattle.reading.specs.Read.{ackBlockFit, fieldsFit};
@@ -37,7 +37,7 @@ enum GotLastBlock {
 
 // What follows the reason: nothing at R = 3, else a block that ends the frame.
 fn read_last_block(s: &[u8], at: usize) -> GotLastBlock
-    ensures { λ r. ⌜ toldLastBlock r ≡ ackBlockFit asPlaces (length (now (s .entry))) (drop at (now (s .entry))) ⌝ }
+    ensures { λ r. ⌜ toldLastBlock r ≡ ackBlockFit asPlaces ackRow (length (now (s .entry))) (drop at (now (s .entry))) ⌝ }
 {
     if s.len() <= at {
         return GotLastBlock::Value(MaybeProperties::Absent);

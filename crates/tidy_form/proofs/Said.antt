@@ -190,7 +190,7 @@ record RestSaid (rs : List ℕ) (v : ℕ × Option (Props (List ℕ) List)) (n :
 no-props : (n : ℕ) → 1 ≤ n → FromList ackRow propsIf none n
 no-props n h = record { list = []; is = refl; suits = nil; light = omega arith }
 
-rest-said : (rs : List ℕ) → isIn 0 rs ≡ true → (v : ℕ × Option (Props (List ℕ) List)) (b : List ℕ) → AckRest rs v b → Octets b → RestSaid rs v (length b)
+rest-said : (rs : List ℕ) → isIn 0 rs ≡ true → (v : ℕ × Option (Props (List ℕ) List)) (b : List ℕ) → AckRest ackRow rs v b → Octets b → RestSaid rs v (length b)
 rest-said rs z _ _ plain o = record { reason = z; octet = omega arith; size = 1; props = no-props 1 (omega arith); light = λ _. omega arith }
 rest-said rs z _ _ (coded t) o = record { reason = t; octet = each-head o; size = 1; props = no-props 1 (omega arith); light = λ _. omega arith }
 rest-said rs z _ _ (full {ps = ps} {b = b} t g) o = record { reason = t; octet = each-head o; size = length b; props = has-block ackRow propsIf ps b g (each-tail o); light = λ l. omega arith }
