@@ -46,29 +46,29 @@ module _ {A B : Type 0} {p : ℕ → Reader A} {G : GramAt A} (f : A → B) (R :
         from-got (Cut (Map f (G (end - length s))) s) (f (y .0), y .1) (b, e₁, mapped g);
   }
 
-module _ {A B : Type 0} {p : ℕ → Reader A} {q : ℕ → Reader B} {G : GramAt A} {H : GramAt B} (R : SplitsAt p G) (S : SplitsAt q H) where
-  pub splits-then : SplitsAt (λ end. thenOf (p end) (λ _. q end)) (ThenAt G H)
+module _ {A B : Type 0} {p : ℕ → Reader A} {q : A → ℕ → Reader B} {G : GramAt A} {H : A → GramAt B} (R : SplitsAt p G) (S : (a : A) → SplitsAt (q a) (H a)) where
+  pub splits-then : SplitsAt (λ end. thenOf (p end) (λ a. q a end)) (ThenAt G H)
   unfolding thenOf
   splits-then = record {
-    split = λ end s h. from-bind (p end s) (λ y. q end (y .1) >>= λ w. got ((y .0, w .0), w .1)) λ y e.
+    split = λ end s h. from-bind (p end s) (λ y. q (y .0) end (y .1) >>= λ w. got ((y .0, w .0), w .1)) λ y e.
         let (b, e₁, g) = R .split end s h y e in
         let (l, n) = further end s b (y .1) e₁ h in
-        from-bind (q end (y .1)) (λ w. got ((y .0, w .0), w .1)) λ w e₂.
-        let (d, e₃, k) = S .split end (y .1) l w e₂ in
+        from-bind (q (y .0) end (y .1)) (λ w. got ((y .0, w .0), w .1)) λ w e₂.
+        let (d, e₃, k) = S (y .0) .split end (y .1) l w e₂ in
         from-got (Cut (ThenAt G H (end - length s)) s) ((y .0, w .0), w .1)
-        (b ++ d, e₁ ∙ ap (λ (i : List ℕ). b ++ i) e₃ ∙ sym (append-assoc b d (w .1)), both g (subst (λ (m : ℕ). H m (w .0) d) n k));
+        (b ++ d, e₁ ∙ ap (λ (i : List ℕ). b ++ i) e₃ ∙ sym (append-assoc b d (w .1)), both g (subst (λ (m : ℕ). H (y .0) m (w .0) d) n k));
   }
 
-module _ {A B : Type 0} {p : ℕ → Reader A} {q : ℕ → Filler B} {G : GramAt A} {H : GramAt B} (R : SplitsAt p G) (S : FillsAt q H) where
-  pub fills-then : FillsAt (λ end. thenFit (p end) (λ _. q end)) (ThenAt G H)
+module _ {A B : Type 0} {p : ℕ → Reader A} {q : A → ℕ → Filler B} {G : GramAt A} {H : A → GramAt B} (R : SplitsAt p G) (S : (a : A) → FillsAt (q a) (H a)) where
+  pub fills-then : FillsAt (λ end. thenFit (p end) (λ a. q a end)) (ThenAt G H)
   unfolding thenFit
   fills-then = record {
-    back = λ end s h. from-bind (p end s) (λ y. q end (y .1) >>= λ w. got (y .0, w)) λ y e.
+    back = λ end s h. from-bind (p end s) (λ y. q (y .0) end (y .1) >>= λ w. got (y .0, w)) λ y e.
         let (b, e₁, g) = R .split end s h y e in
         let (l, n) = further end s b (y .1) e₁ h in
-        from-bind (q end (y .1)) (λ w. got (y .0, w)) λ w e₂.
+        from-bind (q (y .0) end (y .1)) (λ w. got (y .0, w)) λ w e₂.
         from-got (λ z. ThenAt G H (end - length s) z s) (y .0, w)
-        (subst (λ (t : List ℕ). ThenAt G H (end - length s) (y .0, w) t) (sym e₁) (both g (subst (λ (m : ℕ). H m w (y .1)) n (S .back end (y .1) l w e₂))));
+        (subst (λ (t : List ℕ). ThenAt G H (end - length s) (y .0, w) t) (sym e₁) (both g (subst (λ (m : ℕ). H (y .0) m w (y .1)) n (S (y .0) .back end (y .1) l w e₂))));
   }
 
 module _ {A : Type 0} {n : Reader ℕ} {N : Gram ℕ} {q : ℕ → Filler A} {H : GramAt A} (k : ℕ → List ℕ → Refusal) (R : Reads n N) (S : FillsAt q H) where

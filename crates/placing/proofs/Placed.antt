@@ -44,7 +44,7 @@ value-at u32 = splits-map num (splits-plain (reads-big cut 4))
 value-at number = splits-map num (splits-plain (reads-only notZero (λ _. nr 23 []) (reads-num cut 4)))
 value-at text = splits-map str text-at
 value-at bytes = splits-map str bytes-at
-value-at pair = splits-map duoOf (splits-then text-at text-at)
+value-at pair = splits-map duoOf (splits-then text-at (λ _. text-at))
 
 -- a value behind its identifier
 behind-one : (place : Row) (end i : ℕ) (s : List ℕ) → length (i ∷ s) ≤ end → (o : Option Form) → formAt place i ≡ o → (z : PropOf Span × List ℕ) → valueAt asPlaces o i end s ≡ got z
@@ -81,7 +81,7 @@ block-at place = splits-sized crossed (reads-num cut 4) (fills-hand propsFrom (p
 
 filter-at : SplitsAt (filterOf asPlaces) FilterAt
 unfolding filterOf
-filter-at = splits-map mkFilter (splits-then text-at (splits-plain (reads-only qosFine (λ _. nr 11 (3 ∷ [])) (reads-only ruleFine (λ _. nr 14 (3 ∷ [])) (reads-byte cut)))))
+filter-at = splits-map mkFilter (splits-then text-at (λ _. splits-plain (reads-only qosFine (λ _. nr 11 (3 ∷ [])) (reads-only ruleFine (λ _. nr 14 (3 ∷ [])) (reads-byte cut)))))
 
 filters-at : FillsAt (filtersFit asPlaces) (ManyAt FilterAt)
 unfolding filtersFit
@@ -114,15 +114,15 @@ ack-rest row rs end (c ∷ r) h = from-guard (isIn c rs) (nr 15 (c ∷ [])) (ack
 
 message-at : (x : ℕ) → FillsAt (messageFit asPlaces x) (FieldsAt aPublish x)
 unfolding messageFit
-message-at x = fills-map (mkPublish x) (fills-then bytes-at (fills-then (splits-plain (reads-ident (flagQos x))) (fills-then publish-block-at (fills-string anyBytes Any cut any-fine))))
+message-at x = fills-map (mkPublish x) (fills-then bytes-at (λ _. fills-then (splits-plain (reads-ident (flagQos x))) (λ _. fills-then publish-block-at (λ _. fills-string anyBytes Any cut any-fine))))
 
 fields-back : (l : Layout) (x end : ℕ) (b : List ℕ) → length b ≤ end → (v : Placed) → fieldsFit asPlaces l x end b ≡ got v → FieldsAt l x (end - length b) v b
 unfolding fieldsFit
 fields-back aPublish x end b h = from-guard (notThree (flagQos x)) (nr 11 (3 ∷ [])) (messageFit asPlaces x end b) λ _. message-at x .back end b h
-fields-back (anAck rs) x end b h = fills-map (mkAck x) (fills-then (splits-plain (reads-big cut 2)) (record { back = ack-rest ackRow rs })) .back end b h
-fields-back aSubscribe x end b h = fills-map mkSubscribe (fills-then (splits-plain (reads-big cut 2)) (fills-then (block-at subscribeRow) (fills-hand (λ vs p. p) filters-at))) .back end b h
-fields-back (aReply rs) x end b h = fills-map (mkReply x) (fills-then (splits-plain (reads-big cut 2)) (fills-then (block-at ackRow) (fills-hand (λ vs p. p) (reasons-at rs)))) .back end b h
-fields-back anUnsubscribe x end b h = fills-map mkUnsubscribe (fills-then (splits-plain (reads-big cut 2)) (fills-then (block-at unsubscribeRow) (fills-hand (λ vs p. p) topics-at))) .back end b h
+fields-back (anAck rs) x end b h = fills-map (mkAck x) (fills-then (splits-plain (reads-big cut 2)) (λ _. record { back = ack-rest ackRow rs })) .back end b h
+fields-back aSubscribe x end b h = fills-map mkSubscribe (fills-then (splits-plain (reads-big cut 2)) (λ _. fills-then (block-at subscribeRow) (λ _. fills-hand (λ vs p. p) filters-at))) .back end b h
+fields-back (aReply rs) x end b h = fills-map (mkReply x) (fills-then (splits-plain (reads-big cut 2)) (λ _. fills-then (block-at ackRow) (λ _. fills-hand (λ vs p. p) (reasons-at rs)))) .back end b h
+fields-back anUnsubscribe x end b h = fills-map mkUnsubscribe (fills-then (splits-plain (reads-big cut 2)) (λ _. fills-then (block-at unsubscribeRow) (λ _. fills-hand (λ vs p. p) topics-at))) .back end b h
 fields-back aPing x end b h = fills-map (mkPing x) (fills-plain (fills-is anyBytes Any cut any-fine)) .back end b h
 
 layout-back : (x end : ℕ) (b : List ℕ) → length b ≤ end → (o : Option Layout) → lookup kinds (kindOf x) ≡ o → (v : Placed) → layoutFit asPlaces o x end b ≡ got v

@@ -24,8 +24,8 @@ abbrev pub placeOf : ℕ → List ℕ → Span
 placeOf at b = record { start = at; len = length b }
 
 -- G, then H behind it
-pub data ThenAt {A B : Type 0} (G : GramAt A) (H : GramAt B) (at : ℕ) : A × B → List ℕ → Type 0 where
-  both : {a : A} {c : B} {b d : List ℕ} → G at a b → H (at + length b) c d → ThenAt G H at (a, c) (b ++ d)
+pub data ThenAt {A B : Type 0} (G : GramAt A) (H : A → GramAt B) (at : ℕ) : A × B → List ℕ → Type 0 where
+  both : {a : A} {c : B} {b d : List ℕ} → G at a b → H a (at + length b) c d → ThenAt G H at (a, c) (b ++ d)
 
 -- a number, then as many bytes, which stand behind it
 pub data SizedAt {A : Type 0} (N : Gram ℕ) (H : GramAt A) (at : ℕ) : A → List ℕ → Type 0 where
@@ -62,7 +62,7 @@ SpeltAt u32 at = Map num (Big 4)
 SpeltAt number at = Map num (Only notZero Spells)
 SpeltAt text at = Map str (TextAt at)
 SpeltAt bytes at = Map str (BytesAt at)
-SpeltAt pair at = Map duoOf (ThenAt TextAt TextAt at)
+SpeltAt pair at = Map duoOf (ThenAt TextAt (λ _. TextAt) at)
 
 -- 01, grammar: "A property is an identifier byte and a value"
 pub data PropertyAt (place : Row) (at : ℕ) : PropOf Span → List ℕ → Type 0 where
@@ -84,7 +84,7 @@ propsFrom ps p = unlessEmpty (propsOf Span (λ A. Span) (λ vs. p)) ps
 
 -- 01, grammar, Subscribe: "text, then an options byte"
 abbrev pub FilterAt : GramAt (Filter Span)
-FilterAt at = Map mkFilter (ThenAt TextAt (λ _. Only qosFine (Only ruleFine Byte)) at)
+FilterAt at = Map mkFilter (ThenAt TextAt (λ _ _. Only qosFine (Only ruleFine Byte)) at)
 
 -- 01, "What must change shape": "the place of the block or filters": entries, handed back as the place of all of them
 abbrev pub RunAt : {A : Type 0} → GramAt A → GramAt Span
@@ -98,11 +98,11 @@ pub data AckRestAt (row : Row) (at : ℕ) : ℕ × Option (Props Span (λ A. Spa
 
 -- 01, grammar: what fills a frame of each layout whose first byte is x
 abbrev pub FieldsAt : Layout → ℕ → GramAt Placed
-FieldsAt aPublish x at = Map (mkPublish x) (ThenAt BytesAt (ThenAt (λ _. Ident (flagQos x)) (ThenAt (BlockAt publishRow publishFrom) (StringAt Any))) at)
-FieldsAt (anAck rs) x at = Map (mkAck x) (ThenAt (λ _. Big 2) (AckRestAt ackRow) at)
-FieldsAt aSubscribe x at = Map mkSubscribe (ThenAt (λ _. Big 2) (ThenAt (BlockAt subscribeRow propsFrom) (RunAt FilterAt)) at)
-FieldsAt (aReply rs) x at = Map (mkReply x) (ThenAt (λ _. Big 2) (ThenAt (BlockAt ackRow propsFrom) (RunAt (λ _. ReasonOf rs))) at)
-FieldsAt anUnsubscribe x at = Map mkUnsubscribe (ThenAt (λ _. Big 2) (ThenAt (BlockAt unsubscribeRow propsFrom) (RunAt TextAt)) at)
+FieldsAt aPublish x at = Map (mkPublish x) (ThenAt BytesAt (λ _. ThenAt (λ _. Ident (flagQos x)) (λ _. ThenAt (BlockAt publishRow publishFrom) (λ _. StringAt Any))) at)
+FieldsAt (anAck rs) x at = Map (mkAck x) (ThenAt (λ _. Big 2) (λ _. AckRestAt ackRow) at)
+FieldsAt aSubscribe x at = Map mkSubscribe (ThenAt (λ _. Big 2) (λ _. ThenAt (BlockAt subscribeRow propsFrom) (λ _. RunAt FilterAt)) at)
+FieldsAt (aReply rs) x at = Map (mkReply x) (ThenAt (λ _. Big 2) (λ _. ThenAt (BlockAt ackRow propsFrom) (λ _. RunAt (λ _. ReasonOf rs))) at)
+FieldsAt anUnsubscribe x at = Map mkUnsubscribe (ThenAt (λ _. Big 2) (λ _. ThenAt (BlockAt unsubscribeRow propsFrom) (λ _. RunAt TextAt)) at)
 FieldsAt aPing x at = Map (mkPing x) (Is Any)
 
 -- 01, grammar: "A frame is one byte .., a variable length number R, then R bytes": the fields stand behind the first byte and the number

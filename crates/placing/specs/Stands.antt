@@ -23,8 +23,8 @@ blockPlace (ping k) = none
 
 -- 01, grammar: the fields h that a layout has before its block, behind `at` bytes, where x is the first byte: "topic, identifier if QoS is 1 or 2", "identifier", "from R = 4 a reason and a block"
 pub data HeadAt (x at : ℕ) : Layout → List ℕ → Type 0 where
-  of-publish : {z : Span × ℕ} {h : List ℕ} → ThenAt BytesAt (λ _. Ident (flagQos x)) at z h → HeadAt x at aPublish h
-  of-ack : {rs h : List ℕ} {z : ℕ × ℕ} → ThenAt (λ _. Big 2) (λ _. Byte) at z h → HeadAt x at (anAck rs) h
+  of-publish : {z : Span × ℕ} {h : List ℕ} → ThenAt BytesAt (λ _ _. Ident (flagQos x)) at z h → HeadAt x at aPublish h
+  of-ack : {rs h : List ℕ} {z : ℕ × ℕ} → ThenAt (λ _. Big 2) (λ _ _. Byte) at z h → HeadAt x at (anAck rs) h
   of-subscribe : {i : ℕ} {h : List ℕ} → Big 2 i h → HeadAt x at aSubscribe h
   of-reply : {i : ℕ} {rs h : List ℕ} → Big 2 i h → HeadAt x at (aReply rs) h
   of-unsubscribe : {i : ℕ} {h : List ℕ} → Big 2 i h → HeadAt x at anUnsubscribe h

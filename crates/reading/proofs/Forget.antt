@@ -139,21 +139,21 @@ module _ {s : List ℕ} {end : ℕ} where
       left l y w j = let (b, e, g) = T .split l y j in stands-rest l b (y .1) e w
 
       -- p, then q at what is left; c joins what they say
-      then-like : {B B′ C C′ : Type 0} {Q : B → B′ → Type 0} {S : C → C′ → Type 0} (q : Filler B) (q′ : Filler B′) (c : A → B → C) (c′ : A′ → B′ → C′)
-          → ((l : List ℕ) → Stands s end l → Like Q (q l) (q′ l)) → ((a : A) (b : A′) (u : B) (v : B′) → R a b → Q u v → S (c a u) (c′ b v))
-          → (l : List ℕ) → Stands s end l → Like S (p l >>= λ x. q (x .1) >>= λ u. got (c (x .0) u)) (p′ l >>= λ y. q′ (y .1) >>= λ v. got (c′ (y .0) v))
+      then-like : {B B′ C C′ : Type 0} {Q : B → B′ → Type 0} {S : C → C′ → Type 0} (q : A → Filler B) (q′ : A′ → Filler B′) (c : A → B → C) (c′ : A′ → B′ → C′)
+          → ((a : A) (b : A′) → R a b → (l : List ℕ) → Stands s end l → Like Q (q a l) (q′ b l)) → ((a : A) (b : A′) (u : B) (v : B′) → R a b → Q u v → S (c a u) (c′ b v))
+          → (l : List ℕ) → Stands s end l → Like S (p l >>= λ x. q (x .0) (x .1) >>= λ u. got (c (x .0) u)) (p′ l >>= λ y. q′ (y .0) (y .1) >>= λ v. got (c′ (y .0) v))
       then-like q q′ c c′ h t l w = like-bind (p l) (p′ l) _ _ (F .like l w) λ x y i j r.
-          rw (r .1) (like-bind (q (y .1)) (q′ (y .1)) _ _ (h (y .1) (left l y w j)) λ u v _ _ k. gots (t (x .0) (y .0) u v (r .0) k))
+          rw (r .1) (like-bind (q (x .0) (y .1)) (q′ (y .0) (y .1)) _ _ (h (x .0) (y .0) (r .0) (y .1) (left l y w j)) λ u v _ _ k. gots (t (x .0) (y .0) u v (r .0) k))
 
       pub forgets-then : {B B′ : Type 0} {Q : B → B′ → Type 0} {q : Reader B} {q′ : Reader B′} → Forgets s end Q q q′
           → Forgets s end (Both R Q) (thenOf p (λ _. q)) (thenOf p′ (λ _. q′))
       unfolding thenOf
-      forgets-then {q = q} {q′ = q′} H = record { like = then-like q q′ (λ a u. ((a, u .0), u .1)) (λ b v. ((b, v .0), v .1)) (H .like) (λ a b u v r h. ((r, h .0), h .1)) }
+      forgets-then {q = q} {q′ = q′} H = record { like = then-like (λ _. q) (λ _. q′) (λ a u. ((a, u .0), u .1)) (λ b v. ((b, v .0), v .1)) (λ _ _ _. H .like) (λ a b u v r h. ((r, h .0), h .1)) }
 
       pub drops-then : {B B′ : Type 0} {Q : B → B′ → Type 0} {q : Filler B} {q′ : Filler B′} → Drops s end Q q q′
           → Drops s end (Both R Q) (thenFit p (λ _. q)) (thenFit p′ (λ _. q′))
       unfolding thenFit
-      drops-then {q = q} {q′ = q′} H = record { like = then-like q q′ (λ a u. (a, u)) (λ b v. (b, v)) (H .like) (λ a b u v r h. (r, h)) }
+      drops-then {q = q} {q′ = q′} H = record { like = then-like (λ _. q) (λ _. q′) (λ a u. (a, u)) (λ b v. (b, v)) (λ _ _ _. H .like) (λ a b u v r h. (r, h)) }
 
   -- one after the other, where both sum up the same
   module _ {S A A′ : Type 0} {f : A → A′} (step : S → A → S) (step′ : S → A′ → S) {p : S → Reader A} {p′ : S → Reader A′}

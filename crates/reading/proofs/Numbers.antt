@@ -27,7 +27,7 @@ kept-only : {A : Type 0} {t : A → Bool} {c : A → Refusal} {G : Gram A} {F : 
 kept-only C K s k (under f) = K s k f
 kept-only C K _ _ (fails {a = a} r g h) = C a
 
-kept-then : {A : Type 0} {G : Gram A} {F H : Fault} → Kept F → Kept H → Kept (ThenFault G F H)
+kept-then : {A : Type 0} {G : Gram A} {F H : Fault} → Kept F → Kept H → Kept (ThenFault G F (λ _. H))
 kept-then K L s k (first f) = K s k f
 kept-then K L _ k (second {r = r} g h) = L r k h
 

@@ -130,26 +130,26 @@ unfolding handFit
 refuses-hand f Q end = refuses-via (Q end) (λ s a. f a s end)
 
 -- one after the other, whatever is made of the two values
-module _ {A B C : Type 0} {p : Reader A} {q : List ℕ → Fit B} {G : Gram A} {F H : Fault} (P : RefusesBy p F) (R : Reads p G) (Q : RefusesBy q H) (g : A → B → C) where
-  pair-fault : (s : List ℕ) (k : Refusal) → (p s >>= λ x. q (x .1) >>= λ y. got (g (x .0) y)) ≡ bad k → ThenFault G F H s k
-  pair-fault s k = of-bind (p s) _ k (λ e. first (P .fault s k e)) λ x e. of-bind (q (x .1)) _ k
-      (λ e′. let (b, e₁, r) = R .split s x e in rw e₁ (second r (Q .fault (x .1) k e′))) (λ y e′ e″. got-bad e″)
+module _ {A B C : Type 0} {p : Reader A} {q : A → List ℕ → Fit B} {G : Gram A} {F : Fault} {H : A → Fault} (P : RefusesBy p F) (R : Reads p G) (Q : (a : A) → RefusesBy (q a) (H a)) (g : A → B → C) where
+  pair-fault : (s : List ℕ) (k : Refusal) → (p s >>= λ x. q (x .0) (x .1) >>= λ y. got (g (x .0) y)) ≡ bad k → ThenFault G F H s k
+  pair-fault s k = of-bind (p s) _ k (λ e. first (P .fault s k e)) λ x e. of-bind (q (x .0) (x .1)) _ k
+      (λ e′. let (b, e₁, r) = R .split s x e in rw e₁ (second r (Q (x .0) .fault (x .1) k e′))) (λ y e′ e″. got-bad e″)
 
-  pair-refuse : (s : List ℕ) (k : Refusal) → ThenFault G F H s k → (p s >>= λ x. q (x .1) >>= λ y. got (g (x .0) y)) ≡ bad k
+  pair-refuse : (s : List ℕ) (k : Refusal) → ThenFault G F H s k → (p s >>= λ x. q (x .0) (x .1) >>= λ y. got (g (x .0) y)) ≡ bad k
   pair-refuse s k (first h) = rw (P .refuse s k h)
-  pair-refuse _ k (second {a = a} {b = b} {r = r} h f) = rw (R .whole a b r h, Q .refuse r k f)
+  pair-refuse _ k (second {a = a} {b = b} {r = r} h f) = rw (R .whole a b r h, Q a .refuse r k f)
 
-  refuses-pair : RefusesBy (λ s. p s >>= λ x. q (x .1) >>= λ y. got (g (x .0) y)) (ThenFault G F H)
+  refuses-pair : RefusesBy (λ s. p s >>= λ x. q (x .0) (x .1) >>= λ y. got (g (x .0) y)) (ThenFault G F H)
   refuses-pair = record { fault = pair-fault; refuse = pair-refuse }
 
 module _ {A B : Type 0} {p : Reader A} {G : Gram A} {F H : Fault} (P : RefusesBy p F) (R : Reads p G) where
-  pub refuses-then : {q : Reader B} → RefusesBy q H → RefusesBy (thenOf p (λ _. q)) (ThenFault G F H)
+  pub refuses-then : {q : Reader B} → RefusesBy q H → RefusesBy (thenOf p (λ _. q)) (ThenFault G F (λ _. H))
   unfolding thenOf
-  refuses-then Q = refuses-pair P R Q (λ a y. ((a, y .0), y .1))
+  refuses-then Q = refuses-pair P R (λ _. Q) (λ a y. ((a, y .0), y .1))
 
-  pub refuses-end : {q : Filler B} → RefusesBy q H → RefusesBy (thenFit p (λ _. q)) (ThenFault G F H)
+  pub refuses-end : {q : Filler B} → RefusesBy q H → RefusesBy (thenFit p (λ _. q)) (ThenFault G F (λ _. H))
   unfolding thenFit
-  refuses-end Q = refuses-pair P R Q (λ a c. (a, c))
+  refuses-end Q = refuses-pair P R (λ _. Q) (λ a c. (a, c))
 
 module _ {A : Type 0} {p : Reader A} {F : Fault} (P : RefusesBy p F) where
   module _ {G : Gram A} (R : Reads p G) where

@@ -35,9 +35,9 @@ pub data OnlyByFault {A : Type 0} (t : A → ℕ → Bool) (c : A → ℕ → Re
   failsBy : {a : A} {b : List ℕ} (r : List ℕ) → G a b → t a (length b) ≡ false → OnlyByFault t c G F (b ++ r) (c a (length b))
 
 -- the first breaks, or is good and the second breaks
-pub data ThenFault {A : Type 0} (G : Gram A) (F H : Fault) : List ℕ → Refusal → Type 0 where
+pub data ThenFault {A : Type 0} (G : Gram A) (F : Fault) (H : A → Fault) : List ℕ → Refusal → Type 0 where
   first : {s : List ℕ} {k : Refusal} → F s k → ThenFault G F H s k
-  second : {a : A} {b r : List ℕ} {k : Refusal} → G a b → H r k → ThenFault G F H (b ++ r) k
+  second : {a : A} {b r : List ℕ} {k : Refusal} → G a b → H a r k → ThenFault G F H (b ++ r) k
 
 -- the length breaks; or is more than the bytes r that are left; or what fills so many bytes breaks
 pub data SizedFault (N : Gram ℕ) (F : Fault) (c : ℕ → List ℕ → Refusal) (H : Fault) : List ℕ → Refusal → Type 0 where
@@ -115,7 +115,7 @@ ValueFault u32 = BigFault (nr 7 []) 4
 ValueFault number = OnlyFault notZero (λ _. nr 23 []) Spells (NumFault (nr 7 []) 4)
 ValueFault text = TextFault
 ValueFault bytes = BytesFault
-ValueFault pair = ThenFault Text TextFault TextFault
+ValueFault pair = ThenFault Text TextFault (λ _. TextFault)
 
 -- 01, row 10: "identifier not in its place's row"
 pub data PropertyFault (row : Row) : List ℕ → Refusal → Type 0 where
@@ -145,7 +145,7 @@ IdentFault (suc q) = OnlyFault notZero (λ _. nr 12 []) (Big 2) (BigFault (nr 7 
 
 -- 01, rows 14 and 11: "both rule bits set"; "both QoS bits set"
 abbrev pub FilterFault : Fault
-FilterFault = ThenFault Text TextFault (OnlyFault qosFine (λ _. nr 11 (3 ∷ [])) (Only ruleFine Byte) (OnlyFault ruleFine (λ _. nr 14 (3 ∷ [])) Byte (ByteFault (nr 7 []))))
+FilterFault = ThenFault Text TextFault (λ _. OnlyFault qosFine (λ _. nr 11 (3 ∷ [])) (Only ruleFine Byte) (OnlyFault ruleFine (λ _. nr 14 (3 ∷ [])) Byte (ByteFault (nr 7 []))))
 
 -- 01, row 13: "no filters"; 02, P1: "with no entry gets 13"
 pub data SomeFault {A : Type 0} (G : Gram A) (F : Fault) : List ℕ → Refusal → Type 0 where
@@ -162,7 +162,7 @@ ReasonFault rs = OnlyFault (λ c. isIn c rs) (λ c. nr 15 (c ∷ [])) Byte (Byte
 
 -- 01: "Topic as bytes, ..; u16 identifier ..; block; the rest is payload", where QoS is q
 abbrev pub MessageFault : ℕ → Fault
-MessageFault q = ThenFault Bytes BytesFault (ThenFault (Ident q) (IdentFault q) (ThenFault (Block publishRow publishOf) (BlockFault publishRow) Sound))
+MessageFault q = ThenFault Bytes BytesFault (λ _. ThenFault (Ident q) (IdentFault q) (λ _. ThenFault (Block publishRow publishOf) (BlockFault publishRow) (λ _. Sound)))
 
 -- 01, row 11, and reading order: "then QoS for Publish; then fields left to right"
 pub data PublishFault (x : ℕ) : List ℕ → Refusal → Type 0 where
@@ -172,10 +172,10 @@ pub data PublishFault (x : ℕ) : List ℕ → Refusal → Type 0 where
 -- 01, reading order: "fields left to right"
 abbrev pub FieldsFault : Layout → ℕ → Fault
 FieldsFault aPublish x = PublishFault x
-FieldsFault (anAck rs) x = ThenFault (Big 2) (BigFault (nr 7 []) 2) (AckFault ackRow rs)
-FieldsFault aSubscribe x = ThenFault (Big 2) (BigFault (nr 7 []) 2) (ThenFault (Block subscribeRow propsIf) (BlockFault subscribeRow) FiltersFault)
-FieldsFault (aReply rs) x = ThenFault (Big 2) (BigFault (nr 7 []) 2) (ThenFault (Block ackRow propsIf) (BlockFault ackRow) (SomeFault (ReasonOf rs) (ReasonFault rs)))
-FieldsFault anUnsubscribe x = ThenFault (Big 2) (BigFault (nr 7 []) 2) (ThenFault (Block unsubscribeRow propsIf) (BlockFault unsubscribeRow) (SomeFault Text TextFault))
+FieldsFault (anAck rs) x = ThenFault (Big 2) (BigFault (nr 7 []) 2) (λ _. AckFault ackRow rs)
+FieldsFault aSubscribe x = ThenFault (Big 2) (BigFault (nr 7 []) 2) (λ _. ThenFault (Block subscribeRow propsIf) (BlockFault subscribeRow) (λ _. FiltersFault))
+FieldsFault (aReply rs) x = ThenFault (Big 2) (BigFault (nr 7 []) 2) (λ _. ThenFault (Block ackRow propsIf) (BlockFault ackRow) (λ _. SomeFault (ReasonOf rs) (ReasonFault rs)))
+FieldsFault anUnsubscribe x = ThenFault (Big 2) (BigFault (nr 7 []) 2) (λ _. ThenFault (Block unsubscribeRow propsIf) (BlockFault unsubscribeRow) (λ _. SomeFault Text TextFault))
 FieldsFault aPing x = Sound
 
 -- 01, rows 4 to 6, in this order; x is the first byte, x / 16 the kind
@@ -191,7 +191,7 @@ pub data BodyFault (x : ℕ) : List ℕ → Refusal → Type 0 where
 abbrev pub FrameFault : Option ℕ → Fault
 FrameFault limit =
     ThenFault Byte (ByteFault (nr 1 (2 ∷ [])))
-    (SizedFault (OnlyBy (passes limit) Spells) (OnlyByFault (passes limit) (exceeds limit) Spells (NumFault (nr 1 (1 ∷ [])) 4)) lacking Sound)
+    (λ _. SizedFault (OnlyBy (passes limit) Spells) (OnlyByFault (passes limit) (exceeds limit) Spells (NumFault (nr 1 (1 ∷ [])) 4)) lacking Sound)
 
 -- ---- the one answer to a stream
 
