@@ -102,7 +102,8 @@ impl Pieces {
         self.state[ECCH_STATE_HELD] as usize
     }
 
-    /// Takes a piece in: call `next` of what is returned until it gives None. What is left undone when it is dropped is lost.
+    /// Takes a piece in: call `next` of what is returned until it gives None. Frames that were not asked for when it is dropped are passed over;
+    /// the next piece goes on behind this one all the same.
     pub fn push<'a>(&'a mut self, piece: &'a [u8]) -> Pushed<'a> {
         Pushed { pieces: self, piece, done: false }
     }
@@ -134,6 +135,7 @@ pub enum Stopped {
 }
 
 /// A piece that is being taken in.
+#[must_use = "the frames of the piece are given by `next`; those that are not asked for are passed over"]
 pub struct Pushed<'a> {
     pieces: &'a mut Pieces,
     piece: &'a [u8],
@@ -177,5 +179,12 @@ impl Pushed<'_> {
         };
         self.piece = &piece[item[ECCH_FRAME_USED] as usize..];
         Some(Answer::Frame { frame, copied, read: places::read(frame, *limit).0 })
+    }
+}
+
+/// The rest of the piece is taken in, or the next one would be read from the middle of a frame.
+impl Drop for Pushed<'_> {
+    fn drop(&mut self) {
+        while self.next().is_some() {}
     }
 }

@@ -277,3 +277,19 @@ fn buffers_and_packets() {
     assert!(matches!(all[..], [Ok(ecchjulmina::Packet::PingReq(_)), Err(Stopped::Frame(ecchjulmina::Error::InvalidPacketType(15))), Err(Stopped::Stream(Stop::FrameTooLong))]));
     assert!(matches!(reader.packets(b"")[..], [Err(Stopped::Stream(Stop::FrameTooLong))]));
 }
+
+/// A piece of which one frame alone is asked for: the others are passed over, and the next piece goes on in the middle of the last.
+#[test]
+fn dropped_early() {
+    let mut reader = Pieces::new(16, None).unwrap();
+    {
+        let mut pushed = reader.push(b"\xC0\x00\xD0\x00\xC0\x00\x40\x02\x00");
+        assert!(matches!(pushed.next(), Some(Answer::Frame { frame: b"\xC0\x00", .. })));
+    }
+    assert_eq!(reader.held(), 3);
+    let mut pushed = reader.push(b"\x07\xD0");
+    assert!(matches!(pushed.next(), Some(Answer::Frame { frame: b"\x40\x02\x00\x07", copied: true, .. })));
+    assert!(pushed.next().is_none());
+    drop(pushed);
+    assert_eq!(reader.held(), 1);
+}
