@@ -7,6 +7,7 @@ use native.Mathlib.Omega.{arith}
 use lib.Dec.{eqb}
 use lib.ListN.{length}
 use lib.Seq.{sets}
+use Rattle.grammar.specs.Octets.{Each, _&_}
 use Rattle.grammar.specs.Tables.{ackRow, reasonsOf, firstOf}
 use Rattle.reading.specs.Reader.{Fit, got, _>>_}
 use Rattle.writing.specs.Lists.{flat}
@@ -14,13 +15,16 @@ use Rattle.writing.specs.Handed.{AckHanded, ack, ackGiven, blockBelongs, belong
 use Rattle.writing.specs.Size.{most, withLength, propsSize, isPlain, restIs, cap}
 use Rattle.writing.specs.Spell.{wide, short, propsBytes}
 use Rattle.writing.specs.Order.{judge, code, fieldTests, propsFields, fieldsOf}
+use Rattle.writing.specs.Refuse.{Writable}
 use Rattle.writing.specs.Write.{firstByte, frameBytes}
-use Rattle.writing.proofs.ForCode.{ack-frame, cap-small, cap-length}
+use Rattle.writing.proofs.ForCode.{ack-frame, cap-length}
 use Rattle.writing.proofs.Judge.{fields-more}
 use Rattle.writing.proofs.Says.{length-wide}
 use Rattle.write_sizes.proofs.Laws.{cap-left}
+use Rattle.write_lengths.specs.Fitting.{fitShort}
 use Rattle.write_properties.specs.Put.{Put}
 use Rattle.write_properties.specs.Behind.{Behind}
+use Rattle.write_properties.proofs.Fits.{cap-fits}
 use Rattle.write_properties.proofs.Laws.{store-next, put-next, next-last}
 use Rattle.write_order.specs.Found.{beforeSize, afterLimit}
 use Rattle.write_order.proofs.Laws.{before-size-fields}
@@ -69,31 +73,34 @@ module _ (k : ℕ) (h : AckHanded) where
   unfolding restIs
   length-small e s = let t : 3 + withLength (propsSize ackRow (ackGiven (h .text) (h .user))) ≤ most = rw e at s in omega arith
 
+  -- its fields are the reason and those of the block
+  pub block-writable : Each Writable (fieldsOf (ack k h)) → Each Writable (propsFields ackRow (ackGiven (h .text) (h .user)))
+  unfolding fieldsOf
+  block-writable (c & w) = w
+
   module _ (before out₁ out₂ : List ℕ) (len n first : ℕ) (l : len ≡ cap (restIs (ack k h)))
-      (p : Put before 0 (firstOf k ∷ short len) out₁ n) (m : first ≡ min (0 + n) (length out₁)) (q : out₂ ≡ sets out₁ first (wide 2 (h .ident)))
+      (p : Put before 0 (firstOf k ∷ fitShort len) out₁ n) (m : first ≡ min (0 + n) (length out₁)) (q : out₂ ≡ sets out₁ first (wide 2 (h .ident)))
       (e : belongs (ack k h) ≡ true) (s : restIs (ack k h) ≤ most) where
-    frame : frameBytes (ack k h) ≡ (firstOf k ∷ short len) ++ (wide 2 (h .ident) ++ cond (isPlain h) [] behind)
+    frame : frameBytes (ack k h) ≡ (firstOf k ∷ fitShort len) ++ (wide 2 (h .ident) ++ cond (isPlain h) [] behind)
     unfolding firstByte
-    frame =
-        let i : len ≡ restIs (ack k h) = l ∙ cap-small (restIs (ack k h)) s in
-        ack-frame k h e ∙ rw i
+    frame = ack-frame k h e ∙ rw (cap-fits len (restIs (ack k h)) l s)
 
     pub put-plain : isPlain h ≡ true → out₂ ≡ sets before 0 (frameBytes (ack k h))
     put-plain t =
-        let f : frameBytes (ack k h) ≡ (firstOf k ∷ short len) ++ wide 2 (h .ident) = frame ∙ rw (t, append-nil (wide 2 (h .ident))) in
+        let f : frameBytes (ack k h) ≡ (firstOf k ∷ fitShort len) ++ wide 2 (h .ident) = frame ∙ rw (t, append-nil (wide 2 (h .ident))) in
         next-last (put-next p m) (wide 2 (h .ident)) q ∙ ap (sets before 0) (sym f)
 
     pub put-full : isPlain h ≡ false → (out₃ : List ℕ) (second : ℕ) → second ≡ min (first + 2) (length out₂) → out₃ ≡ sets out₂ second behind → out₃ ≡ sets before 0 (frameBytes (ack k h))
     put-full t out₃ second o r =
-        let f : frameBytes (ack k h) ≡ (firstOf k ∷ short len) ++ (wide 2 (h .ident) ++ behind) = frame ∙ rw t in
+        let f : frameBytes (ack k h) ≡ (firstOf k ∷ fitShort len) ++ (wide 2 (h .ident) ++ behind) = frame ∙ rw t in
         next-last (put-next p m) (wide 2 (h .ident) ++ behind) (next-last (store-next (wide 2 (h .ident)) q (sym (length-wide 2 (h .ident))) o) behind r) ∙ ap (sets before 0) (sym f)
 
   pub put-behind : (before out₁ out₂ : List ℕ) (at next last : ℕ) → out₁ ≡ sets before at (h .reason ∷ []) → next ≡ min (at + 1) (length out₁)
-      → (propsSize ackRow (ackGiven (h .text) (h .user)) ≤ most
+      → (propsSize ackRow (ackGiven (h .text) (h .user)) ≤ most → Each Writable (propsFields ackRow (ackGiven (h .text) (h .user)))
       → Behind out₁ next (short (propsSize ackRow (ackGiven (h .text) (h .user))) ++ propsBytes ackRow (ackGiven (h .text) (h .user))) out₂ last)
-      → propsSize ackRow (ackGiven (h .text) (h .user)) ≤ most → out₂ ≡ sets before at behind
-  put-behind before out₁ out₂ at next last q₁ m₁ p₂ s =
-      next-last (store-next (h .reason ∷ []) {l = before} {n = 1} q₁ refl m₁) (short (propsSize ackRow (ackGiven (h .text) (h .user))) ++ propsBytes ackRow (ackGiven (h .text) (h .user))) (p₂ s .stores)
+      → propsSize ackRow (ackGiven (h .text) (h .user)) ≤ most → Each Writable (propsFields ackRow (ackGiven (h .text) (h .user))) → out₂ ≡ sets before at behind
+  put-behind before out₁ out₂ at next last q₁ m₁ p₂ s w =
+      next-last (store-next (h .reason ∷ []) {l = before} {n = 1} q₁ refl m₁) (short (propsSize ackRow (ackGiven (h .text) (h .user))) ++ propsBytes ackRow (ackGiven (h .text) (h .user))) (p₂ s w .stores)
 
 -- ---- whether it is a plain success
 

@@ -13,20 +13,21 @@ use write_numbers::fixed;
 use write_runs::run;
 use write_tests::Tested;
 ghost use mathlib.Core.Path.{_≡_};
-ghost use mathlib.Core.Bool.{true};
 ghost use mathlib.Core.List.{[], _∷_, _++_};
 ghost use Prim.Native.Nat.{_≤_};
 ghost use lib.Seq.{sets};
+ghost use Rattle.grammar.specs.Octets.{Each};
 ghost use Rattle.grammar.specs.Tables.{ackRow, reasonsOf, firstOf};
 ghost use Rattle.writing.specs.Handed.{ack, belongs as belongsOf};
 ghost use Rattle.writing.specs.Spell.{short, propsBytes};
 ghost use Rattle.writing.specs.Size.{most, propsSize, isPlain, restIs, cap};
-ghost use Rattle.writing.specs.Order.{judge, code, fieldTests};
-ghost use Rattle.writing.specs.Write.{frameBytes, sizeOf, Written as WrittenOf};
+ghost use Rattle.writing.specs.Order.{judge, code, fieldTests, propsFields};
+ghost use Rattle.writing.specs.Refuse.{Writable};
+ghost use Rattle.writing.specs.Write.{sizeOf, Written as WrittenOf};
 ghost use Rattle.records.specs.AsNumbers.{limitOf, toldAckKind};
 ghost use Rattle.records.specs.Answered.{toldSized, toldWritten};
 ghost use Rattle.write_tests.specs.Tested.{toldTested};
-ghost use Rattle.write_order.specs.Found.{beforeSize};
+ghost use Rattle.write_order.specs.Found.{beforeSize, Stored};
 ghost use Rattle.ack_write.specs.Handed.{handed, givenFor};
 
 // What is handed over by value; the reason string and the user properties are lent beside it.
@@ -115,7 +116,7 @@ fn put_reason(out: &mut [u8], at: usize, reason: u8)
     fixed::put_u8(&mut *out, at, reason);
 }
 
-// The reason, L and the properties.
+// The reason, L and the properties, where they can be written.
 fn put_block(
     out: &mut [u8],
     at: usize,
@@ -124,7 +125,7 @@ fn put_block(
     user: &[u8],
     user_lengths: &[usize],
 )
-    ensures { λ r. ⌜ (propsSize ackRow (givenFor m (now («reason_string» .entry)) (now (user .entry)) (now («user_lengths» .entry))) ≤ most → now (out .exit) ≡ sets (now (out .entry)) at (m .reason ∷ (short (propsSize ackRow (givenFor m (now («reason_string» .entry)) (now (user .entry)) (now («user_lengths» .entry)))) ++ propsBytes ackRow (givenFor m (now («reason_string» .entry)) (now (user .entry)) (now («user_lengths» .entry)))))) ⌝ }
+    ensures { λ r. ⌜ (propsSize ackRow (givenFor m (now («reason_string» .entry)) (now (user .entry)) (now («user_lengths» .entry))) ≤ most → Each Writable (propsFields ackRow (givenFor m (now («reason_string» .entry)) (now (user .entry)) (now («user_lengths» .entry)))) → now (out .exit) ≡ sets (now (out .entry)) at (m .reason ∷ (short (propsSize ackRow (givenFor m (now («reason_string» .entry)) (now (user .entry)) (now («user_lengths» .entry)))) ++ propsBytes ackRow (givenFor m (now («reason_string» .entry)) (now (user .entry)) (now («user_lengths» .entry)))))) ⌝ }
 {
     put_reason(&mut *out, at, m.reason);
     let next = run::after(out.len(), at, 1);
@@ -138,9 +139,9 @@ fn put_block(
     );
 }
 
-// The frame.
+// The frame, of what can be written.
 fn put(out: &mut [u8], m: AckHead, reason_string: &[u8], user: &[u8], user_lengths: &[usize])
-    ensures { λ r. ⌜ (belongsOf (ack (toldAckKind (m .kind)) (handed m (now («reason_string» .entry)) (now (user .entry)) (now («user_lengths» .entry)))) ≡ true → restIs (ack (toldAckKind (m .kind)) (handed m (now («reason_string» .entry)) (now (user .entry)) (now («user_lengths» .entry)))) ≤ most → now (out .exit) ≡ sets (now (out .entry)) 0 (frameBytes (ack (toldAckKind (m .kind)) (handed m (now («reason_string» .entry)) (now (user .entry)) (now («user_lengths» .entry)))))) ⌝ }
+    ensures { λ r. ⌜ Stored (ack (toldAckKind (m .kind)) (handed m (now («reason_string» .entry)) (now (user .entry)) (now («user_lengths» .entry)))) (now (out .entry)) (now (out .exit)) ⌝ }
 {
     let len = rest(m, reason_string, user, user_lengths);
     let kind = m.kind;

@@ -3,6 +3,7 @@ use mathlib.Core.Path.{_≡_, refl}
 use mathlib.Core.Bool.{true}
 use mathlib.Core.List.{_∷_, append-nil}
 use Prim.Native.Nat.{ℕ}
+use native.Mathlib.Omega.{arith}
 use Rattle.reading.specs.Reader.{got}
 use Rattle.writing.specs.Handed.{ping, belongs}
 use Rattle.writing.specs.Size.{restIs, cap}
@@ -11,6 +12,8 @@ use Rattle.writing.specs.Order.{judge, fieldsOf}
 use Rattle.grammar.specs.Tables.{firstOf}
 use Rattle.writing.specs.Write.{firstByte, frameBytes}
 use Rattle.writing.proofs.ForCode.{ping-frame}
+use Rattle.write_lengths.specs.Fitting.{fitShort}
+use Rattle.write_lengths.proofs.Fits.{short-fits}
 use Rattle.write_order.specs.Found.{Found}
 
 module _ (k : ℕ) where
@@ -26,6 +29,6 @@ module _ (k : ℕ) where
   unfolding belongs judge fieldsOf
   ping-found = record { early = refl; rest = ping-rest; late = refl }
 
-  pub ping-bytes : (x : ℕ) → x ≡ firstOf k → x ∷ short 0 ≡ frameBytes (ping k)
+  pub ping-bytes : (x : ℕ) → x ≡ firstOf k → x ∷ fitShort 0 ≡ frameBytes (ping k)
   unfolding firstByte
-  ping-bytes x e = rw (ping-frame k, append-nil (short 0), e)
+  ping-bytes x e = rw (short-fits 0 (omega arith), ping-frame k, append-nil (short 0), e)

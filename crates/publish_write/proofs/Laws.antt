@@ -8,11 +8,13 @@ use native.Mathlib.Omega.{arith}
 use lib.Dec.{eqb}
 use lib.ListN.{length}
 use lib.Seq.{sets}
+use Rattle.grammar.specs.Octets.{Each}
 use Rattle.grammar.specs.Tables.{publishRow}
 use Rattle.reading.specs.Reader.{got}
 use Rattle.writing.specs.Handed.{PublishHanded, publish, one, lent, pairs, several, publishGiven, addsUp, nothingGiven, rowBelongs, belongs}
 use Rattle.writing.specs.Spell.{short, string, propsBytes}
 use Rattle.writing.specs.Size.{most, propsSize, restIs, cap}
+use Rattle.writing.specs.Refuse.{Fine}
 use Rattle.writing.specs.Write.{firstByte, identBytes, frameBytes, answerOf}
 use Rattle.writing.proofs.ForCode.{publish-belongs, publish-frame, cap-small}
 use Rattle.writing.proofs.Belong.{belongs-when}
@@ -65,14 +67,17 @@ module _ (h : PublishHanded) where
         → belongs (publish h) ≡ true → restIs (publish h) ≤ most → after ≡ sets before 0 (frameBytes (publish h))
     put-frame before s b l = s ∙ ap (sets before 0) (sym (frame-is b l))
 
-    -- where the answer is a size, the frame fits, and the lengths add up
+    -- where the answer is a size, the frame fits, the lengths add up, and R, L and each identifier can be written
     pub frame-fits : (limit : Option ℕ) (before : List ℕ) (n : ℕ) → got n ≡ answerOf limit (length before) (publish h)
-        → (addsUp (h .user) ≡ true) × Room before 1 (behind rest props rows)
+        → (addsUp (h .user) ≡ true) × Room before 1 (behind rest props rows) × Each Fine (h .subscriptions) × (props ≤ most) × (rest ≤ most)
     frame-fits limit before n s =
         let a = answered-when limit (length before) (publish h) n .0 (sym s) in
         let c = a .0 .countable .belongs in
         let b = belongs-when (publish h) .1 c in
-        let x = ap length (frame-is b (a .0 .countable .rest)) in
+        let r = a .0 .countable .rest in
+        let x = ap length (frame-is b r) in
         let y = length-frame (publish h) c in
         let z = a .0 .fits in
-        (user-adds b, record { fits = omega (arith, x, y, z) })
+        let u = e ∙ cap-small (restIs (publish h)) r in
+        let v = f ∙ cap-small (propsSize publishRow (publishGiven h)) (length-small r) in
+        (user-adds b, record { fits = omega (arith, x, y, z) }, a .0 .numbers, omega (arith, v, length-small r), omega (arith, u, r))

@@ -5,8 +5,18 @@ use Prim.Native.Nat.{ℕ, zero, suc, _+_, _≤_, _<_}
 use native.Mathlib.Omega.{arith}
 use lib.ListN.{length, take, drop, set, length-append, length-drop, take-append-drop}
 use lib.Seq.{sets, length-sets, set-set, set-comm, length-take-le, take-take, drop-drop, take-add, drop-at}
+use Rattle.grammar.specs.Octets.{Each}
+use Rattle.grammar.specs.Tables.{number}
+use Rattle.writing.specs.Handed.{several}
+use Rattle.writing.specs.Spell.{short, rowBytes}
+use Rattle.writing.specs.Size.{most}
+use Rattle.writing.specs.Refuse.{Fine}
 use Rattle.write_bytes.proofs.Laws.{sets-append, put-more}
+use Rattle.write_lengths.specs.Fitting.{fitShort}
+use Rattle.write_lengths.proofs.Fits.{short-fits}
 use Rattle.write_properties.specs.Put.{Put}
+use Rattle.write_properties.specs.Fitting.{fitRow}
+use Rattle.write_properties.proofs.Fits.{several-fit}
 use Rattle.publish_write.specs.Laid.{Laid, Room}
 
 -- ---- chunks that overlap
@@ -79,8 +89,16 @@ module _ {l l₁ l₂ xs : List ℕ} {at m : ℕ} (p : Laid l at xs l₁ m) wher
 pub store-laid : (xs l l₁ : List ℕ) (at : ℕ) → l₁ ≡ sets l at xs → Laid l at xs l₁ (at + length xs)
 store-laid xs l l₁ at e = record { stores = e; place = refl }
 
-pub stored-laid : (xs l l₁ : List ℕ) (at n : ℕ) → l₁ ≡ sets l at xs → n ≡ length xs → Laid l at xs l₁ (at + n)
+stored-laid : (xs l l₁ : List ℕ) (at n : ℕ) → l₁ ≡ sets l at xs → n ≡ length xs → Laid l at xs l₁ (at + n)
 stored-laid xs l l₁ at n e f = record { stores = e; place = rw f }
+
+-- a length that can be written
+pub length-laid : (n : ℕ) → n ≤ most → {l l₁ : List ℕ} {at k : ℕ} → (l₁ ≡ sets l at (fitShort n)) × (k ≡ length (fitShort n)) → Laid l at (short n) l₁ (at + k)
+length-laid n h {l} {l₁} {at} {k} (e, f) = let i = short-fits n h in stored-laid (short n) l l₁ at k (rw i at e) (rw i at f)
+
+-- subscription identifiers that can be
+pub ids-laid : (ids : List ℕ) → Each Fine ids → {l l₁ : List ℕ} {at n : ℕ} → Put l at (fitRow (11, number) (several ids)) l₁ n → Laid l at (rowBytes (11, number) (several ids)) l₁ (at + n)
+ids-laid ids f p = put-laid (rw (several-fit 11 ids f) at p)
 
 -- room for both is room for the first, and for the second behind it
 pub room-first : (l xs ys : List ℕ) (at : ℕ) → Room l at (xs ++ ys) → Room l at xs

@@ -15,9 +15,12 @@ ghost use mathlib.Core.List.{List, _∷_, _++_};
 ghost use Prim.Native.Nat.{ℕ, _+_, _≤_};
 ghost use lib.ListN.{length, take, drop};
 ghost use lib.Seq.{sets};
+ghost use Rattle.grammar.specs.Octets.{Each};
 ghost use Rattle.grammar.specs.Tables.{Form, pair};
 ghost use Rattle.writing.specs.Handed.{publish, addsUp};
 ghost use Rattle.writing.specs.Spell.{short, string as spelled, rowBytes};
+ghost use Rattle.writing.specs.Size.{most};
+ghost use Rattle.writing.specs.Refuse.{Fine};
 ghost use Rattle.writing.specs.Write.{firstByte, identBytes};
 ghost use Rattle.records.specs.AsNumbers.{toldQoS};
 ghost use Rattle.write_runs.specs.Given.{run as runOf, givenLent, givenPairs};
@@ -117,7 +120,7 @@ fn lay_lists(
     subscription_identifiers: &[u32],
     content_type: &[u8],
 ) -> usize
-    requires { ⌜ (addsUp (runOf (now user) (now «user_lengths»)) ≡ true) × Room (now out) at (listRows head (now user) (now «user_lengths») (now «subscription_identifiers») (now «content_type»)) ⌝ }
+    requires { ⌜ (addsUp (runOf (now user) (now «user_lengths»)) ≡ true) × Room (now out) at (listRows head (now user) (now «user_lengths») (now «subscription_identifiers») (now «content_type»)) × Each Fine (now «subscription_identifiers») ⌝ }
     ensures { λ r. ⌜ Laid (now (out .entry)) at (listRows head (now (user .entry)) (now («user_lengths» .entry)) (now («subscription_identifiers» .entry)) (now («content_type» .entry))) (now (out .exit)) r ⌝ }
 {
     let second = lay_pairs(&mut *out, at, user, user_lengths);
@@ -137,7 +140,7 @@ fn lay_properties(
     subscription_identifiers: &[u32],
     content_type: &[u8],
 ) -> usize
-    requires { ⌜ (addsUp (runOf (now user) (now «user_lengths»)) ≡ true) × Room (now out) at (allRows head (now «response_topic») (now «correlation_data») (now user) (now «user_lengths») (now «subscription_identifiers») (now «content_type»)) ⌝ }
+    requires { ⌜ (addsUp (runOf (now user) (now «user_lengths»)) ≡ true) × Room (now out) at (allRows head (now «response_topic») (now «correlation_data») (now user) (now «user_lengths») (now «subscription_identifiers») (now «content_type»)) × Each Fine (now «subscription_identifiers») ⌝ }
     ensures { λ r. ⌜ Laid (now (out .entry)) at (allRows head (now («response_topic» .entry)) (now («correlation_data» .entry)) (now (user .entry)) (now («user_lengths» .entry)) (now («subscription_identifiers» .entry)) (now («content_type» .entry))) (now (out .exit)) r ⌝ }
 {
     let strings = lay_numbers(&mut *out, at, head);
@@ -174,7 +177,7 @@ fn lay_pkid(out: &mut [u8], at: usize, qos: u8, pkid: u16) -> usize
 
 // R, the topic and the identifier, from index 1 on.
 fn lay_front(out: &mut [u8], head: PublishHead, rest: usize, topic: &[u8]) -> usize
-    requires { ⌜ Room (now out) 1 (short rest ++ (spelled (now topic) ++ identBytes (toldQoS (head .qos)) (head .pkid))) ⌝ }
+    requires { ⌜ Room (now out) 1 (short rest ++ (spelled (now topic) ++ identBytes (toldQoS (head .qos)) (head .pkid))) × (rest ≤ most) ⌝ }
     ensures { λ r. ⌜ Laid (now (out .entry)) 1 (short rest ++ (spelled (now (topic .entry)) ++ identBytes (toldQoS (head .qos)) (head .pkid))) (now (out .exit)) r ⌝ }
 {
     let qos = head.qos;
@@ -197,7 +200,7 @@ fn lay_back(
     content_type: &[u8],
     payload: &[u8],
 )
-    requires { ⌜ (addsUp (runOf (now user) (now «user_lengths»)) ≡ true) × Room (now out) at (short properties ++ (allRows head (now «response_topic») (now «correlation_data») (now user) (now «user_lengths») (now «subscription_identifiers») (now «content_type») ++ now payload)) ⌝ }
+    requires { ⌜ (addsUp (runOf (now user) (now «user_lengths»)) ≡ true) × Room (now out) at (short properties ++ (allRows head (now «response_topic») (now «correlation_data») (now user) (now «user_lengths») (now «subscription_identifiers») (now «content_type») ++ now payload)) × Each Fine (now «subscription_identifiers») × (properties ≤ most) ⌝ }
     ensures { λ r. ⌜ now (out .exit) ≡ sets (now (out .entry)) at (short properties ++ (allRows head (now («response_topic» .entry)) (now («correlation_data» .entry)) (now (user .entry)) (now («user_lengths» .entry)) (now («subscription_identifiers» .entry)) (now («content_type» .entry)) ++ now (payload .entry))) ⌝ }
 {
     let second = at + put_length(&mut *out, at, properties);
@@ -230,7 +233,7 @@ pub fn lay_frame(
     content_type: &[u8],
     payload: &[u8],
 )
-    requires { ⌜ (addsUp (runOf (now user) (now «user_lengths»)) ≡ true) × Room (now out) 1 ((short rest ++ (spelled (now topic) ++ identBytes (toldQoS (head .qos)) (head .pkid))) ++ (short properties ++ (allRows head (now «response_topic») (now «correlation_data») (now user) (now «user_lengths») (now «subscription_identifiers») (now «content_type») ++ now payload))) ⌝ }
+    requires { ⌜ (addsUp (runOf (now user) (now «user_lengths»)) ≡ true) × Room (now out) 1 ((short rest ++ (spelled (now topic) ++ identBytes (toldQoS (head .qos)) (head .pkid))) ++ (short properties ++ (allRows head (now «response_topic») (now «correlation_data») (now user) (now «user_lengths») (now «subscription_identifiers») (now «content_type») ++ now payload))) × Each Fine (now «subscription_identifiers») × (properties ≤ most) × (rest ≤ most) ⌝ }
     ensures { λ r. ⌜ now (out .exit) ≡ sets (now (out .entry)) 0 (firstByte (publish (handed head (now (topic .entry)) (now («response_topic» .entry)) (now («correlation_data» .entry)) (now (user .entry)) (now («user_lengths» .entry)) (now («subscription_identifiers» .entry)) (now («content_type» .entry)) (now (payload .entry)))) ∷ ((short rest ++ (spelled (now (topic .entry)) ++ identBytes (toldQoS (head .qos)) (head .pkid))) ++ (short properties ++ (allRows head (now («response_topic» .entry)) (now («correlation_data» .entry)) (now (user .entry)) (now («user_lengths» .entry)) (now («subscription_identifiers» .entry)) (now («content_type» .entry)) ++ now (payload .entry))))) ⌝ }
 {
     store(&mut *out, 0, first_byte(head));

@@ -8,6 +8,7 @@ use native.Mathlib.Numerals.{add-one}
 use lib.ListN.{length, drop, getD, drop-of-length-le}
 use lib.Seq.{sets, drop-cons}
 use Rattle.grammar.specs.Choice.{isEmpty}
+use Rattle.grammar.specs.Octets.{Each}
 use Rattle.grammar.specs.Tables.{ackRow, reasonsOf, firstOf}
 use Rattle.reading.specs.Refusal.{nr}
 use Rattle.reading.specs.Reader.{Fit, got, bad, _>>_, guard}
@@ -16,16 +17,19 @@ use Rattle.writing.specs.Handed.{ReplyHanded, reply, ackGiven, blockBelongs, be
 use Rattle.writing.specs.Size.{most, withLength, propsSize, restIs, cap}
 use Rattle.writing.specs.Spell.{wide, short, propsBytes}
 use Rattle.writing.specs.Order.{judge, code, fieldTests, propsFields, fieldsOf}
+use Rattle.writing.specs.Refuse.{Writable}
 use Rattle.writing.specs.Write.{firstByte, frameBytes}
 use Rattle.writing.proofs.Judge.{judge-append}
-use Rattle.writing.proofs.Each.{flat-append}
-use Rattle.writing.proofs.ForCode.{reply-frame, cap-small, cap-length}
+use Rattle.writing.proofs.Each.{each-left, flat-append}
+use Rattle.writing.proofs.ForCode.{reply-frame, cap-length}
 use Rattle.writing.proofs.Says.{length-wide}
 use Rattle.write_sizes.proofs.Laws.{cap-left}
+use Rattle.write_lengths.specs.Fitting.{fitShort}
 use Rattle.write_properties.specs.Put.{Put}
 use Rattle.write_properties.specs.Behind.{Behind}
+use Rattle.write_properties.proofs.Fits.{cap-fits}
 use Rattle.write_properties.proofs.Laws.{store-next, put-next, next-last}
-use Rattle.write_order.specs.Found.{beforeSize, afterLimit}
+use Rattle.write_order.specs.Found.{beforeSize, afterLimit, Stored}
 use Rattle.write_order.proofs.Laws.{before-size-fields}
 
 -- ---- the i-th reason of a list, and the rest
@@ -96,19 +100,23 @@ module _ (k : ℕ) (h : ReplyHanded) where
   unfolding restIs
   length-small s = omega arith
 
+  -- its fields are those of the block and the reasons
+  block-writable : Each Writable (fieldsOf (reply k h)) → Each Writable (propsFields ackRow (ackGiven (h .text) (h .user)))
+  unfolding fieldsOf
+  block-writable w = each-left (propsFields ackRow (ackGiven (h .text) (h .user))) (map (code (reasonsOf k)) (h .reasons)) w
+
   pub put-frame : (before out₁ out₂ out₃ out₄ : List ℕ) (byte len n first second third : ℕ) → byte ≡ firstOf k → len ≡ cap (restIs (reply k h))
-      → Put before 0 (byte ∷ short len) out₁ n → first ≡ min (0 + n) (length out₁)
+      → Put before 0 (byte ∷ fitShort len) out₁ n → first ≡ min (0 + n) (length out₁)
       → out₂ ≡ sets out₁ first (wide 2 (h .ident)) → second ≡ min (first + 2) (length out₂)
-      → (propsSize ackRow (ackGiven (h .text) (h .user)) ≤ most → Behind out₂ second block out₃ third)
+      → (propsSize ackRow (ackGiven (h .text) (h .user)) ≤ most → Each Writable (propsFields ackRow (ackGiven (h .text) (h .user))) → Behind out₂ second block out₃ third)
       → out₄ ≡ sets out₃ third (h .reasons)
-      → belongs (reply k h) ≡ true → restIs (reply k h) ≤ most → out₄ ≡ sets before 0 (frameBytes (reply k h))
+      → Stored (reply k h) before out₄
   unfolding firstByte
-  put-frame before out₁ out₂ out₃ out₄ byte len n first second third o l p₁ m₁ q₂ m₂ p₃ q₄ e s =
-      let i : len ≡ restIs (reply k h) = l ∙ cap-small (restIs (reply k h)) s in
+  put-frame before out₁ out₂ out₃ out₄ byte len n first second third o l p₁ m₁ q₂ m₂ p₃ q₄ e s w z =
       next-last (put-next p₁ m₁) (wide 2 (h .ident) ++ (block ++ h .reasons))
       (next-last (store-next (wide 2 (h .ident)) q₂ (sym (length-wide 2 (h .ident))) m₂) (block ++ h .reasons)
-      (next-last (p₃ (length-small s)) (h .reasons) q₄))
-      ∙ ap (sets before 0) (sym (spelt i))
+      (next-last (p₃ (length-small s) (block-writable w)) (h .reasons) q₄))
+      ∙ ap (sets before 0) (sym spelt)
     where
-      spelt : len ≡ restIs (reply k h) → frameBytes (reply k h) ≡ (byte ∷ short len) ++ (wide 2 (h .ident) ++ (block ++ h .reasons))
-      spelt i = reply-frame k h e ∙ rw (i, o, append-assoc (short (propsSize ackRow (ackGiven (h .text) (h .user)))) (propsBytes ackRow (ackGiven (h .text) (h .user))) (h .reasons))
+      spelt : frameBytes (reply k h) ≡ (byte ∷ fitShort len) ++ (wide 2 (h .ident) ++ (block ++ h .reasons))
+      spelt = reply-frame k h e ∙ rw (cap-fits len (restIs (reply k h)) l s, o, append-assoc (short (propsSize ackRow (ackGiven (h .text) (h .user)))) (propsBytes ackRow (ackGiven (h .text) (h .user))) (h .reasons))

@@ -14,23 +14,21 @@ use write_numbers::fixed;
 use write_runs::run;
 use write_tests::Tested;
 ghost use mathlib.Core.Path.{_≡_};
-ghost use mathlib.Core.Bool.{true, not};
+ghost use mathlib.Core.Bool.{not};
 ghost use mathlib.Core.List.{[], map};
-ghost use Prim.Native.Nat.{_≤_};
-ghost use lib.Seq.{sets};
 ghost use Rattle.grammar.specs.Choice.{isEmpty};
 ghost use Rattle.grammar.specs.Tables.{reasonsOf, firstOf};
 ghost use Rattle.reading.specs.Refusal.{nr};
 ghost use Rattle.reading.specs.Reader.{guard};
 ghost use Rattle.writing.specs.Lists.{flat};
 ghost use Rattle.writing.specs.Handed.{reply, belongs as belongsOf};
-ghost use Rattle.writing.specs.Size.{most, restIs, cap};
+ghost use Rattle.writing.specs.Size.{restIs, cap};
 ghost use Rattle.writing.specs.Order.{judge, code, fieldTests};
-ghost use Rattle.writing.specs.Write.{frameBytes, sizeOf, Written as WrittenOf};
+ghost use Rattle.writing.specs.Write.{sizeOf, Written as WrittenOf};
 ghost use Rattle.records.specs.AsNumbers.{limitOf, toldReplyKind};
 ghost use Rattle.records.specs.Answered.{toldSized, toldWritten};
 ghost use Rattle.write_tests.specs.Tested.{toldTested};
-ghost use Rattle.write_order.specs.Found.{beforeSize};
+ghost use Rattle.write_order.specs.Found.{beforeSize, Stored};
 ghost use Rattle.reply_write.specs.Handed.{handed};
 
 // What is handed over by value; the reason string, the user properties and the reasons are lent beside it.
@@ -151,7 +149,7 @@ fn first_byte(kind: ReplyKind) -> u8
     kinds::first_byte(number_of(Kind::Reply(kind)))
 }
 
-// The frame.
+// The frame, of what can be written.
 fn put(
     out: &mut [u8],
     m: ReplyHead,
@@ -160,7 +158,7 @@ fn put(
     user_lengths: &[usize],
     reasons: &[u8],
 )
-    ensures { λ r. ⌜ (belongsOf (reply (toldReplyKind (m .kind)) (handed m (now («reason_string» .entry)) (now (user .entry)) (now («user_lengths» .entry)) (now (reasons .entry)))) ≡ true → restIs (reply (toldReplyKind (m .kind)) (handed m (now («reason_string» .entry)) (now (user .entry)) (now («user_lengths» .entry)) (now (reasons .entry)))) ≤ most → now (out .exit) ≡ sets (now (out .entry)) 0 (frameBytes (reply (toldReplyKind (m .kind)) (handed m (now («reason_string» .entry)) (now (user .entry)) (now («user_lengths» .entry)) (now (reasons .entry)))))) ⌝ }
+    ensures { λ r. ⌜ Stored (reply (toldReplyKind (m .kind)) (handed m (now («reason_string» .entry)) (now (user .entry)) (now («user_lengths» .entry)) (now (reasons .entry)))) (now (out .entry)) (now (out .exit)) ⌝ }
 {
     let len = rest(m, reason_string, user, user_lengths, reasons);
     let kind = m.kind;

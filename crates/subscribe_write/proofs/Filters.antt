@@ -2,31 +2,35 @@
 use mathlib.Core.Path.{_≡_, refl, sym, ap, _∙_}
 use mathlib.Core.Bool.{not}
 use mathlib.Core.Logic.{_⊎_, inl, inr}
-use mathlib.Core.List.{List, [], _∷_}
+use mathlib.Core.List.{List, [], _∷_, map}
 use Prim.Native.Nat.{ℕ, _+_, _*_, _/_, _%_, _≤_, _<_, min}
 use native.Mathlib.Omega.{arith}
 use native.Mathlib.Numerals.{add-one}
 use lib.ListN.{length, drop, getD, length-append, drop-of-length-le}
 use lib.Seq.{sets, drop-cons}
 use Rattle.grammar.specs.Choice.{isEmpty}
+use Rattle.grammar.specs.Octets.{Each, _&_}
 use Rattle.grammar.specs.Sentence.{qosFine, ruleFine}
 use Rattle.reading.specs.Refusal.{Refusal, nr}
 use Rattle.reading.specs.Reader.{got, bad, _>>_, guard}
-use Rattle.writing.specs.Lists.{beside}
+use Rattle.writing.specs.Lists.{beside, flat}
 use Rattle.writing.specs.Handed.{Run, strings, filtersOf}
-use Rattle.writing.specs.Spell.{wide, string, filterBytes}
+use Rattle.writing.specs.Spell.{wide, filterBytes}
 use Rattle.writing.specs.Size.{cap}
-use Rattle.writing.specs.Order.{Test, judge, word, filter, fieldTests}
+use Rattle.writing.specs.Order.{Test, judge, word, filter, fieldTests, filterField}
+use Rattle.writing.specs.Refuse.{Writable}
 use Rattle.writing.proofs.Tests.{eq-when, eq-not, le-or}
 use Rattle.writing.proofs.Judge.{judge-append}
-use Rattle.writing.proofs.Sizes.{length-string}
 use Rattle.writing.proofs.ForCode.{runFrom, stringAt, strings-done}
 use Rattle.write_numbers.proofs.Laws.Put.{wide-one}
 use Rattle.write_runs.specs.Given.{run}
 use Rattle.write_runs.proofs.Laws.Run.{strings-cut}
 use Rattle.write_sizes.proofs.Laws.{cap-left}
+use Rattle.write_strings.specs.Fitting.{fitString}
+use Rattle.write_strings.proofs.Fits.{string-fits, string-most}
 use Rattle.write_properties.specs.Put.{Put}
 use Rattle.write_properties.proofs.Laws.{sets-next}
+use Rattle.subscribe_write.specs.Fitting.{fitFilter}
 
 -- ---- the i-th filter, its text at index p of the run; the rest of the run is from index q on
 
@@ -97,16 +101,21 @@ module _ (s : List ℕ) (o : ℕ) where
 
   -- ---- and put
 
-  filter-length : length (filterBytes (s, o)) ≡ 3 + length s
-  filter-length = omega (arith, length-append (string s) (o % 64 ∷ []), length-string s)
+  filter-length : length (fitFilter (s, o)) ≡ length (fitString s) + 1
+  filter-length = length-append (fitString s) (o % 64 ∷ [])
 
-  pub filter-count : (l : List ℕ) (at : ℕ) (l₁ : List ℕ) (k : ℕ) → Put l at (filterBytes (s, o)) l₁ k → k ≡ 3 + length s
-  filter-count l at l₁ k p = p .count ∙ filter-length
+  pub filter-most : (l : List ℕ) (at : ℕ) (l₁ : List ℕ) (k : ℕ) → Put l at (fitFilter (s, o)) l₁ k → k ≤ 3 + length s
+  filter-most l at l₁ k p = omega (arith, p .count, filter-length, string-most s)
 
-  pub put-filter : (l l₁ l₂ : List ℕ) (at m : ℕ) → l₁ ≡ sets l at (string s) → m ≡ min (at + (2 + length s)) (length l₁) → l₂ ≡ sets l₁ m (wide 1 (o % 64)) → Put l at (filterBytes (s, o)) l₂ (3 + length s)
-  put-filter l l₁ l₂ at m e n f =
+  pub put-filter : (l l₁ l₂ : List ℕ) (at n m : ℕ) → (l₁ ≡ sets l at (fitString s)) × (n ≡ length (fitString s)) → m ≡ min (at + n) (length l₁) → l₂ ≡ sets l₁ m (wide 1 (o % 64)) → Put l at (fitFilter (s, o)) l₂ (1 + n)
+  put-filter l l₁ l₂ at n m (e, c) p f =
       let w : wide 1 (o % 64) ≡ o % 64 ∷ [] = sym (wide-one (omega arith)) in
       record {
-        stores = sets-next l l₁ l₂ (string s) (o % 64 ∷ []) at m e (n ∙ rw (sym (length-string s))) (f ∙ rw w);
-        count = sym filter-length;
+        stores = sets-next l l₁ l₂ (fitString s) (o % 64 ∷ []) at m e (p ∙ rw c) (f ∙ rw w);
+        count = omega (arith, c, filter-length);
       }
+
+-- those that were tested are put as they are written
+pub filters-fit : (fs : List (List ℕ × ℕ)) → Each Writable (map filterField fs) → flat fitFilter fs ≡ flat filterBytes fs
+filters-fit [] p = refl
+filters-fit (f ∷ fs) (p & ps) = rw (string-fits (f .0) (p .0), filters-fit fs ps)

@@ -7,24 +7,32 @@ use native.Mathlib.Omega.{arith}
 use lib.ListN.{length}
 use lib.Seq.{sets}
 use Rattle.grammar.specs.Choice.{isEmpty}
+use Rattle.grammar.specs.Octets.{Each}
 use Rattle.grammar.specs.Tables.{number, pair, subscribeRow, firstOf}
 use Rattle.reading.specs.Refusal.{nr}
 use Rattle.reading.specs.Reader.{Fit, _>>_, guard}
 use Rattle.writing.specs.Lists.{flat}
-use Rattle.writing.specs.Handed.{SubscribeHanded, subscribe, one, pairs, subscribeGiven, filtersOf, filters, filtersBelong, rowBelongs, belongs}
+use Rattle.writing.specs.Handed.{SubscribeHanded, subscribe, one, pairs, subscribeGiven, strings, filtersOf, filters, filtersBelong, rowBelongs, belongs}
 use Rattle.writing.specs.Size.{most, withLength, givenSize, propsSize, filtersSize, restIs, cap}
 use Rattle.writing.specs.Spell.{wide, short, rowBytes, propsBytes, filterBytes}
-use Rattle.writing.specs.Order.{judge, fieldTests, filterField, numberTests, orNone}
+use Rattle.writing.specs.Order.{judge, word, fieldTests, propsFields, filterField, fieldsOf, numberTests, orNone}
+use Rattle.writing.specs.Refuse.{Writable, Fine}
 use Rattle.writing.specs.Write.{firstByte, frameBytes}
-use Rattle.writing.proofs.ForCode.{judgeAll, subscribe-belongs, subscribe-tests, subscribe-sum, subscribe-frame, cap-small, cap-length}
+use Rattle.writing.proofs.ForCode.{judgeAll, subscribe-belongs, subscribe-tests, subscribe-sum, subscribe-frame, cap-length}
+use Rattle.writing.proofs.Each.{each-left, each-right}
 use Rattle.writing.proofs.Pins.{subscribe-props}
 use Rattle.writing.proofs.Says.{length-wide}
 use Rattle.write_sizes.proofs.Laws.{cap-left, cap-both, cap-last}
+use Rattle.write_lengths.specs.Fitting.{fitShort}
 use Rattle.write_properties.specs.Put.{Put}
 use Rattle.write_properties.specs.Behind.{Behind}
+use Rattle.write_properties.specs.Fitting.{fitRow}
+use Rattle.write_properties.proofs.Fits.{cap-fits, one-fits, pairs-fit}
 use Rattle.write_properties.proofs.Laws.{store-next, put-next, next-last, next-then}
-use Rattle.write_order.specs.Found.{beforeSize, afterLimit}
+use Rattle.write_order.specs.Found.{beforeSize, afterLimit, Stored}
 use Rattle.write_order.proofs.Laws.{before-size-fields}
+use Rattle.subscribe_write.specs.Fitting.{fitFilter}
+use Rattle.subscribe_write.proofs.Filters.{filters-fit}
 
 first-byte : (h : SubscribeHanded) → firstByte (subscribe h) ≡ firstOf 8
 unfolding firstByte
@@ -76,30 +84,42 @@ module _ (h : SubscribeHanded) where
   unfolding restIs
   length-small s = omega arith
 
+  -- its fields are those of the block, which are the strings of the user properties, and the filters
+  block-writable : Each Writable (fieldsOf (subscribe h)) → Each Writable (propsFields subscribeRow (subscribeGiven h))
+  unfolding fieldsOf
+  block-writable w = each-left (propsFields subscribeRow (subscribeGiven h)) (map filterField (filters h)) w
+
+  user-writable : Each Writable (propsFields subscribeRow (subscribeGiven h)) → Each Writable (map word (strings (h .user)))
+  unfolding propsFields subscribeRow subscribeGiven
+  user-writable w = each-left (map word (strings (h .user))) [] w
+
+  filters-writable : Each Writable (fieldsOf (subscribe h)) → Each Writable (map filterField (filters h))
+  unfolding fieldsOf
+  filters-writable w = each-right (propsFields subscribeRow (subscribeGiven h)) (map filterField (filters h)) w
+
   pub put-frame : (before out₁ out₂ out₃ out₄ : List ℕ) (len n first second third j : ℕ) → len ≡ cap (restIs (subscribe h))
-      → Put before 0 (firstOf 8 ∷ short len) out₁ n → first ≡ min (0 + n) (length out₁)
+      → Put before 0 (firstOf 8 ∷ fitShort len) out₁ n → first ≡ min (0 + n) (length out₁)
       → out₂ ≡ sets out₁ first (wide 2 (h .ident)) → second ≡ min (first + 2) (length out₂)
-      → (propsSize subscribeRow (subscribeGiven h) ≤ most → Behind out₂ second block out₃ third)
-      → Put out₃ third (flat filterBytes (filtersOf (h .filters) (h .options))) out₄ j
-      → belongs (subscribe h) ≡ true → restIs (subscribe h) ≤ most → out₄ ≡ sets before 0 (frameBytes (subscribe h))
+      → (propsSize subscribeRow (subscribeGiven h) ≤ most → Each Writable (propsFields subscribeRow (subscribeGiven h)) → Each Fine (orNone (h .subscription)) → Behind out₂ second block out₃ third)
+      → Put out₃ third (flat fitFilter (filtersOf (h .filters) (h .options))) out₄ j
+      → Stored (subscribe h) before out₄
   unfolding filters
-  put-frame before out₁ out₂ out₃ out₄ len n first second third j l p₁ m₁ q₂ m₂ p₃ p₄ e s =
-      let i : len ≡ restIs (subscribe h) = l ∙ cap-small (restIs (subscribe h)) s in
-      let fs : List ℕ = flat filterBytes (filters h) in
+  put-frame before out₁ out₂ out₃ out₄ len n first second third j l p₁ m₁ q₂ m₂ p₃ p₄ e s w z =
+      let fs : List ℕ = flat fitFilter (filters h) in
       next-last (put-next p₁ m₁) (wide 2 (h .ident) ++ (block ++ fs))
       (next-last (store-next (wide 2 (h .ident)) q₂ (sym (length-wide 2 (h .ident))) m₂) (block ++ fs)
-      (next-last (p₃ (length-small s)) fs (p₄ .stores)))
-      ∙ ap (sets before 0) (sym (spelt i e))
+      (next-last (p₃ (length-small s) (block-writable w) z) fs (p₄ .stores)))
+      ∙ ap (sets before 0) (sym spelt)
     where
-      spelt : len ≡ restIs (subscribe h) → belongs (subscribe h) ≡ true → frameBytes (subscribe h) ≡ (firstOf 8 ∷ short len) ++ (wide 2 (h .ident) ++ (block ++ flat filterBytes (filters h)))
-      spelt i e = subscribe-frame h e ∙ rw (i, append-assoc (short (propsSize subscribeRow (subscribeGiven h))) (propsBytes subscribeRow (subscribeGiven h)) (flat filterBytes (filters h)), first-byte h)
+      spelt : frameBytes (subscribe h) ≡ (firstOf 8 ∷ fitShort len) ++ (wide 2 (h .ident) ++ (block ++ flat fitFilter (filters h)))
+      spelt = subscribe-frame h e ∙ rw (cap-fits len (restIs (subscribe h)) l s, filters-fit (filters h) (filters-writable w), append-assoc (short (propsSize subscribeRow (subscribeGiven h))) (propsBytes subscribeRow (subscribeGiven h)) (flat filterBytes (filters h)), first-byte h)
 
   pub put-rows : (before out₁ out₂ out₃ : List ℕ) (at len n first k second j third : ℕ) → len ≡ cap (propsSize subscribeRow (subscribeGiven h))
-      → (out₁ ≡ sets before at (short len)) × (n ≡ length (short len)) → first ≡ min (at + n) (length out₁)
-      → Put out₁ first (rowBytes (11, number) (one (h .subscription))) out₂ k → second ≡ min (first + k) (length out₂)
-      → Put out₂ second (rowBytes (38, pair) (pairs (h .user))) out₃ j → third ≡ min (second + j) (length out₃)
-      → propsSize subscribeRow (subscribeGiven h) ≤ most → Behind before at block out₃ third
-  put-rows before out₁ out₂ out₃ at len n first k second j third l (q₁, c₁) m₁ p₂ m₂ p₃ m₃ s =
-      let i : len ≡ propsSize subscribeRow (subscribeGiven h) = l ∙ cap-small (propsSize subscribeRow (subscribeGiven h)) s in
+      → (out₁ ≡ sets before at (fitShort len)) × (n ≡ length (fitShort len)) → first ≡ min (at + n) (length out₁)
+      → Put out₁ first (fitRow (11, number) (one (h .subscription))) out₂ k → second ≡ min (first + k) (length out₂)
+      → Put out₂ second (fitRow (38, pair) (pairs (h .user))) out₃ j → third ≡ min (second + j) (length out₃)
+      → propsSize subscribeRow (subscribeGiven h) ≤ most → Each Writable (propsFields subscribeRow (subscribeGiven h)) → Each Fine (orNone (h .subscription)) → Behind before at block out₃ third
+  put-rows before out₁ out₂ out₃ at len n first k second j third l (q₁, c₁) m₁ p₂ m₂ p₃ m₃ s w f =
+      let i = cap-fits len (propsSize subscribeRow (subscribeGiven h)) l s in
       let r : List ℕ = rowBytes (38, pair) (pairs (h .user)) in
-      rw (← i, subscribe-props h, append-nil r) (next-then (store-next (short len) q₁ c₁ m₁) (next-then (put-next p₂ m₂) (put-next p₃ m₃)))
+      rw (← i, subscribe-props h, append-nil r, ← one-fits 11 (h .subscription) f, ← pairs-fit (h .user) (user-writable w)) (next-then (store-next (fitShort len) q₁ c₁ m₁) (next-then (put-next p₂ m₂) (put-next p₃ m₃)))

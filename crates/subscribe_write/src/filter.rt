@@ -17,12 +17,12 @@ ghost use Rattle.reading.specs.Refusal.{nr};
 ghost use Rattle.reading.specs.Reader.{guard};
 ghost use Rattle.writing.specs.Lists.{flat};
 ghost use Rattle.writing.specs.Handed.{filtersOf, filtersBelong};
-ghost use Rattle.writing.specs.Spell.{filterBytes};
 ghost use Rattle.writing.specs.Size.{filtersSize, cap};
 ghost use Rattle.writing.specs.Order.{judge, filter, fieldTests, filterField};
 ghost use Rattle.write_runs.specs.Given.{run as runOf};
 ghost use Rattle.write_tests.specs.Tested.{toldTested};
 ghost use Rattle.write_properties.specs.Put.{Put};
+ghost use Rattle.subscribe_write.specs.Fitting.{fitFilter};
 
 // How many there are: one for each length that has an options byte.
 fn how_many(lengths: &[usize], options: &[u8]) -> usize
@@ -94,13 +94,14 @@ pub fn test_asked(lengths: &[usize], options: &[u8]) -> Tested
     Tested::Fine
 }
 
+// A filter; of a text that does not fit its options byte alone.
 fn put_filter(out: &mut [u8], at: usize, s: &[u8], options: u8) -> usize
-    ensures { λ r. ⌜ Put (now (out .entry)) at (filterBytes (now (s .entry), options)) (now (out .exit)) r ⌝ }
+    ensures { λ r. ⌜ Put (now (out .entry)) at (fitFilter (now (s .entry), options)) (now (out .exit)) r ⌝ }
 {
-    put_string(&mut *out, at, s);
-    let next = run::after(out.len(), at, 2 + s.len());
+    let n = put_string(&mut *out, at, s);
+    let next = run::after(out.len(), at, n);
     fixed::put_u8(&mut *out, next, options % 64);
-    3 + s.len()
+    1 + n
 }
 
 // Filters one after the other, as far as there are both lengths and options, bits 6 and 7 of which are put as 0.
@@ -111,7 +112,7 @@ pub fn put_filters(
     lengths: &[usize],
     options: &[u8],
 ) -> usize
-    ensures { λ r. ⌜ Put (now (out .entry)) at (flat filterBytes (filtersOf (runOf (now (bytes .entry)) (now (lengths .entry))) (now (options .entry)))) (now (out .exit)) r ⌝ }
+    ensures { λ r. ⌜ Put (now (out .entry)) at (flat fitFilter (filtersOf (runOf (now (bytes .entry)) (now (lengths .entry))) (now (options .entry)))) (now (out .exit)) r ⌝ }
 {
     let count = how_many(lengths, options);
     let mut n: usize = 0;

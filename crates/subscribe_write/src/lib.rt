@@ -14,20 +14,21 @@ use write_numbers::fixed;
 use write_runs::run;
 use write_tests::Tested;
 ghost use mathlib.Core.Path.{_≡_};
-ghost use mathlib.Core.Bool.{true};
 ghost use mathlib.Core.List.{List, _++_};
 ghost use Prim.Native.Nat.{ℕ, _≤_};
-ghost use lib.Seq.{sets};
+ghost use Rattle.grammar.specs.Octets.{Each};
 ghost use Rattle.grammar.specs.Tables.{subscribeRow};
 ghost use Rattle.writing.specs.Handed.{subscribe, subscribeGiven, belongs as belongsOf};
 ghost use Rattle.writing.specs.Spell.{short, propsBytes};
 ghost use Rattle.writing.specs.Size.{most, propsSize, restIs, cap};
-ghost use Rattle.writing.specs.Write.{frameBytes, sizeOf, Written as WrittenOf};
+ghost use Rattle.writing.specs.Order.{propsFields, numbersOf};
+ghost use Rattle.writing.specs.Refuse.{Writable, Fine};
+ghost use Rattle.writing.specs.Write.{sizeOf, Written as WrittenOf};
 ghost use Rattle.records.specs.AsNumbers.{limitOf};
 ghost use Rattle.records.specs.Answered.{toldSized, toldWritten};
 ghost use Rattle.write_tests.specs.Tested.{toldTested};
 ghost use Rattle.write_properties.specs.Behind.{Behind};
-ghost use Rattle.write_order.specs.Found.{beforeSize, afterLimit};
+ghost use Rattle.write_order.specs.Found.{beforeSize, afterLimit, Stored};
 ghost use Rattle.subscribe_write.specs.Handed.{handed};
 
 // What is handed over by value; the user properties and the filters are lent beside it.
@@ -136,7 +137,7 @@ fn after_limit(m: SubscribeHead, filter_lengths: &[usize], options: &[u8]) -> Te
     )
 }
 
-// L and the properties; gives the index behind them.
+// L and the properties, where they can be written; gives the index behind them.
 fn put_block(
     out: &mut [u8],
     at: usize,
@@ -144,7 +145,7 @@ fn put_block(
     user: &[u8],
     user_lengths: &[usize],
 ) -> usize
-    ensures { λ r. ⌜ ((fs ns os : List ℕ) → propsSize subscribeRow (subscribeGiven (handed m (now (user .entry)) (now («user_lengths» .entry)) fs ns os)) ≤ most → Behind (now (out .entry)) at (short (propsSize subscribeRow (subscribeGiven (handed m (now (user .entry)) (now («user_lengths» .entry)) fs ns os))) ++ propsBytes subscribeRow (subscribeGiven (handed m (now (user .entry)) (now («user_lengths» .entry)) fs ns os))) (now (out .exit)) r) ⌝ }
+    ensures { λ r. ⌜ ((fs ns os : List ℕ) → propsSize subscribeRow (subscribeGiven (handed m (now (user .entry)) (now («user_lengths» .entry)) fs ns os)) ≤ most → Each Writable (propsFields subscribeRow (subscribeGiven (handed m (now (user .entry)) (now («user_lengths» .entry)) fs ns os))) → Each Fine (numbersOf (subscribe (handed m (now (user .entry)) (now («user_lengths» .entry)) fs ns os))) → Behind (now (out .entry)) at (short (propsSize subscribeRow (subscribeGiven (handed m (now (user .entry)) (now («user_lengths» .entry)) fs ns os))) ++ propsBytes subscribeRow (subscribeGiven (handed m (now (user .entry)) (now («user_lengths» .entry)) fs ns os))) (now (out .exit)) r) ⌝ }
 {
     let len = block_length(m, user, user_lengths);
     let id = m.id;
@@ -156,7 +157,7 @@ fn put_block(
     run::after(out.len(), second, j)
 }
 
-// The frame.
+// The frame, of what can be written.
 fn put(
     out: &mut [u8],
     m: SubscribeHead,
@@ -166,7 +167,7 @@ fn put(
     filter_lengths: &[usize],
     options: &[u8],
 )
-    ensures { λ r. ⌜ (belongsOf (subscribe (handed m (now (user .entry)) (now («user_lengths» .entry)) (now (filters .entry)) (now («filter_lengths» .entry)) (now (options .entry)))) ≡ true → restIs (subscribe (handed m (now (user .entry)) (now («user_lengths» .entry)) (now (filters .entry)) (now («filter_lengths» .entry)) (now (options .entry)))) ≤ most → now (out .exit) ≡ sets (now (out .entry)) 0 (frameBytes (subscribe (handed m (now (user .entry)) (now («user_lengths» .entry)) (now (filters .entry)) (now («filter_lengths» .entry)) (now (options .entry)))))) ⌝ }
+    ensures { λ r. ⌜ Stored (subscribe (handed m (now (user .entry)) (now («user_lengths» .entry)) (now (filters .entry)) (now («filter_lengths» .entry)) (now (options .entry)))) (now (out .entry)) (now (out .exit)) ⌝ }
 {
     let len = rest(m, user, user_lengths, filters, options);
     let byte1 = kinds::first_byte(8);

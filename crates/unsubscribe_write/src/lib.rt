@@ -13,21 +13,22 @@ use write_numbers::fixed;
 use write_runs::run;
 use write_tests::Tested;
 ghost use mathlib.Core.Path.{_≡_};
-ghost use mathlib.Core.Bool.{true};
-ghost use mathlib.Core.List.{_++_};
+ghost use mathlib.Core.List.{_++_, map};
 ghost use Prim.Native.Nat.{_≤_};
-ghost use lib.Seq.{sets};
+ghost use Rattle.grammar.specs.Octets.{Each};
 ghost use Rattle.grammar.specs.Tables.{unsubscribeRow};
-ghost use Rattle.writing.specs.Handed.{unsubscribe, unsubscribeGiven, belongs as belongsOf};
+ghost use Rattle.writing.specs.Handed.{unsubscribe, unsubscribeGiven, strings, belongs as belongsOf};
 ghost use Rattle.writing.specs.Spell.{short, propsBytes};
 ghost use Rattle.writing.specs.Size.{most, propsSize, restIs, cap};
-ghost use Rattle.writing.specs.Write.{frameBytes, sizeOf, Written as WrittenOf};
+ghost use Rattle.writing.specs.Order.{word};
+ghost use Rattle.writing.specs.Refuse.{Writable};
+ghost use Rattle.writing.specs.Write.{sizeOf, Written as WrittenOf};
 ghost use Rattle.records.specs.AsNumbers.{limitOf};
 ghost use Rattle.records.specs.Answered.{toldSized, toldWritten};
 ghost use Rattle.write_runs.specs.Given.{run as runOf};
 ghost use Rattle.write_tests.specs.Tested.{toldTested};
 ghost use Rattle.write_properties.specs.Behind.{Behind};
-ghost use Rattle.write_order.specs.Found.{beforeSize};
+ghost use Rattle.write_order.specs.Found.{beforeSize, Stored};
 ghost use Rattle.unsubscribe_write.specs.Handed.{handed};
 
 // What is handed over by value; the user properties and the topics are lent beside it.
@@ -105,9 +106,9 @@ fn before_size(
     )
 }
 
-// L and the properties; gives the index behind them.
+// L and the properties, where they can be written; gives the index behind them.
 fn put_block(out: &mut [u8], at: usize, user: &[u8], user_lengths: &[usize]) -> usize
-    ensures { λ r. ⌜ (propsSize unsubscribeRow (unsubscribeGiven (runOf (now (user .entry)) (now («user_lengths» .entry)))) ≤ most → Behind (now (out .entry)) at (short (propsSize unsubscribeRow (unsubscribeGiven (runOf (now (user .entry)) (now («user_lengths» .entry))))) ++ propsBytes unsubscribeRow (unsubscribeGiven (runOf (now (user .entry)) (now («user_lengths» .entry))))) (now (out .exit)) r) ⌝ }
+    ensures { λ r. ⌜ (propsSize unsubscribeRow (unsubscribeGiven (runOf (now (user .entry)) (now («user_lengths» .entry)))) ≤ most → Each Writable (map word (strings (runOf (now (user .entry)) (now («user_lengths» .entry))))) → Behind (now (out .entry)) at (short (propsSize unsubscribeRow (unsubscribeGiven (runOf (now (user .entry)) (now («user_lengths» .entry))))) ++ propsBytes unsubscribeRow (unsubscribeGiven (runOf (now (user .entry)) (now («user_lengths» .entry))))) (now (out .exit)) r) ⌝ }
 {
     let len = write_sizes::pairs_size(user, user_lengths);
     let n = put_length(&mut *out, at, len);
@@ -116,7 +117,7 @@ fn put_block(out: &mut [u8], at: usize, user: &[u8], user_lengths: &[usize]) -> 
     run::after(out.len(), first, j)
 }
 
-// The frame.
+// The frame, of what can be written.
 fn put(
     out: &mut [u8],
     m: UnsubscribeHead,
@@ -125,7 +126,7 @@ fn put(
     topics: &[u8],
     topic_lengths: &[usize],
 )
-    ensures { λ r. ⌜ (belongsOf (unsubscribe (handed m (now (user .entry)) (now («user_lengths» .entry)) (now (topics .entry)) (now («topic_lengths» .entry)))) ≡ true → restIs (unsubscribe (handed m (now (user .entry)) (now («user_lengths» .entry)) (now (topics .entry)) (now («topic_lengths» .entry)))) ≤ most → now (out .exit) ≡ sets (now (out .entry)) 0 (frameBytes (unsubscribe (handed m (now (user .entry)) (now («user_lengths» .entry)) (now (topics .entry)) (now («topic_lengths» .entry)))))) ⌝ }
+    ensures { λ r. ⌜ Stored (unsubscribe (handed m (now (user .entry)) (now («user_lengths» .entry)) (now (topics .entry)) (now («topic_lengths» .entry)))) (now (out .entry)) (now (out .exit)) ⌝ }
 {
     let len = rest(m, user, user_lengths, topics, topic_lengths);
     let byte1 = kinds::first_byte(10);

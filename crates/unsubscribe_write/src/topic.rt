@@ -13,10 +13,10 @@ ghost use Rattle.reading.specs.Refusal.{nr};
 ghost use Rattle.reading.specs.Reader.{guard};
 ghost use Rattle.writing.specs.Lists.{flat};
 ghost use Rattle.writing.specs.Handed.{strings};
-ghost use Rattle.writing.specs.Spell.{string};
 ghost use Rattle.writing.specs.Size.{topicsSize, cap};
 ghost use Rattle.write_runs.specs.Given.{run as runOf};
 ghost use Rattle.write_tests.specs.Tested.{toldTested};
+ghost use Rattle.write_strings.specs.Fitting.{fitString};
 ghost use Rattle.write_properties.specs.Put.{Put};
 
 // Their bytes, cut off where they are too many: a topic has two bytes of length.
@@ -37,16 +37,9 @@ pub fn test_asked(lengths: &[usize]) -> Tested
     Tested::Fine
 }
 
-fn put_topic(out: &mut [u8], at: usize, s: &[u8]) -> usize
-    ensures { λ r. ⌜ Put (now (out .entry)) at (string (now (s .entry))) (now (out .exit)) r ⌝ }
-{
-    put_string(&mut *out, at, s);
-    2 + s.len()
-}
-
-// Topics one after the other, as the lengths cut the run.
+// Topics one after the other, as the lengths cut the run, of one that does not fit nothing.
 pub fn put_topics(out: &mut [u8], at: usize, bytes: &[u8], lengths: &[usize]) -> usize
-    ensures { λ r. ⌜ Put (now (out .entry)) at (flat string (strings (runOf (now (bytes .entry)) (now (lengths .entry))))) (now (out .exit)) r ⌝ }
+    ensures { λ r. ⌜ Put (now (out .entry)) at (flat fitString (strings (runOf (now (bytes .entry)) (now (lengths .entry))))) (now (out .exit)) r ⌝ }
 {
     let mut n: usize = 0;
     let mut from: usize = 0;
@@ -54,7 +47,7 @@ pub fn put_topics(out: &mut [u8], at: usize, bytes: &[u8], lengths: &[usize]) ->
     while i < lengths.len() {
         let k = lengths[i];
         let to = run::after(out.len(), at, n);
-        n = n + put_topic(&mut *out, to, run::piece(bytes, from, k));
+        n = n + put_string(&mut *out, to, run::piece(bytes, from, k));
         from = run::after(bytes.len(), from, k);
         i = i + 1;
     }

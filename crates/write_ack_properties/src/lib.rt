@@ -9,11 +9,12 @@ ghost use mathlib.Core.List.{_++_};
 ghost use Rattle.grammar.specs.Tables.{ackRow};
 ghost use Rattle.writing.specs.Lists.{flat};
 ghost use Rattle.writing.specs.Handed.{blockBelongs};
-ghost use Rattle.writing.specs.Spell.{short, propsBytes};
 ghost use Rattle.writing.specs.Size.{propsSize, cap};
 ghost use Rattle.writing.specs.Order.{judge, fieldTests, propsFields};
 ghost use Rattle.write_tests.specs.Tested.{toldTested};
+ghost use Rattle.write_lengths.specs.Fitting.{fitShort};
 ghost use Rattle.write_properties.specs.Behind.{Behind};
+ghost use Rattle.write_properties.specs.Fitting.{fitProps};
 ghost use Rattle.write_ack_properties.specs.Given.{given};
 
 // False is 20: the reason string or the user properties do not belong together.
@@ -46,7 +47,7 @@ pub fn test_rows(on: bool, text: &[u8], user: &[u8], user_lengths: &[usize]) -> 
     )
 }
 
-// L, cut off where it is too large, and the properties, 31 before 38; gives the index behind them.
+// L and the properties, 31 before 38, of what does not fit nothing; gives the index behind them.
 pub fn put_rows(
     out: &mut [u8],
     at: usize,
@@ -55,7 +56,7 @@ pub fn put_rows(
     user: &[u8],
     user_lengths: &[usize],
 ) -> usize
-    ensures { λ r. ⌜ Behind (now (out .entry)) at (short (cap (propsSize ackRow (given on (now (text .entry)) (now (user .entry)) (now («user_lengths» .entry))))) ++ propsBytes ackRow (given on (now (text .entry)) (now (user .entry)) (now («user_lengths» .entry)))) (now (out .exit)) r ⌝ }
+    ensures { λ r. ⌜ Behind (now (out .entry)) at (fitShort (cap (propsSize ackRow (given on (now (text .entry)) (now (user .entry)) (now («user_lengths» .entry))))) ++ fitProps ackRow (given on (now (text .entry)) (now (user .entry)) (now («user_lengths» .entry)))) (now (out .exit)) r ⌝ }
 {
     let len = rows_length(on, text, user, user_lengths);
     let n = put_length(&mut *out, at, len);

@@ -22,7 +22,7 @@ use Rattle.writing.proofs.Tests.{le-or}
 use Rattle.writing.proofs.ForCode.{writes-all, writes-none}
 use Rattle.writing.proofs.Belong.{belongs-when}
 use Rattle.writing.proofs.Verdict.{answered-when}
-use Rattle.write_order.specs.Found.{beforeSize, afterLimit, withinRoom, settledOf, sizeAlone, Found}
+use Rattle.write_order.specs.Found.{beforeSize, afterLimit, withinRoom, settledOf, sizeAlone, Found, Stored}
 
 -- ---- the order
 
@@ -126,8 +126,13 @@ module _ (limit : Option ℕ) (h : Handed) (before : List ℕ) where
         go (got u) e = refl
         go (bad j) e = absurd (bad-got (sym e))
 
-    -- accepted: the frame is stored, if what is put is the frame of what belongs together and is not too long
-    pub all-written : (after : List ℕ) → (belongs h ≡ true → restIs h ≤ most → after ≡ sets before 0 (frameBytes h)) → Written limit h before after (got n)
-    all-written after f =
+    -- accepted: the frame is stored, if what is put is the frame of what can be written
+    pub frame-written : (after : List ℕ) → Stored h before after → Written limit h before after (got n)
+    frame-written after f =
         let a = answered-when limit (length before) h n .0 (sym e) in
-        rw (a .1) at (writes-all limit h before permitted after (f (belongs-when h .1 (a .0 .countable .belongs)) (a .0 .countable .rest)))
+        let c = a .0 .countable in
+        rw (a .1) at (writes-all limit h before permitted after (f (belongs-when h .1 (c .belongs)) (c .rest) (c .fields) (a .0 .numbers)))
+
+    -- the same, if it is the frame of what belongs together and is not too long
+    pub all-written : (after : List ℕ) → (belongs h ≡ true → restIs h ≤ most → after ≡ sets before 0 (frameBytes h)) → Written limit h before after (got n)
+    all-written after f = frame-written after (λ b r w i. f b r)

@@ -1,16 +1,20 @@
 -- What a writer has found of a hand-over before the order is settled. Assumes nothing.
 use mathlib.Core.Path.{_≡_}
-use mathlib.Core.Bool.{Bool}
+use mathlib.Core.Bool.{Bool, true}
 use mathlib.Core.Option.{Option}
-use mathlib.Core.List.{[], _∷_, map}
-use Prim.Native.Nat.{ℕ, _+_}
+use mathlib.Core.List.{List, [], _∷_, map}
+use Prim.Native.Nat.{ℕ, _+_, _≤_}
 use lib.Dec.{leb}
+use lib.Seq.{sets}
+use Rattle.grammar.specs.Octets.{Each}
 use Rattle.reading.specs.Refusal.{nr}
 use Rattle.reading.specs.Reader.{Fit, got, _>>_, guard}
 use Rattle.writing.specs.Lists.{flat}
 use Rattle.writing.specs.Handed.{Handed, belongs}
 use Rattle.writing.specs.Size.{most, withLength, restIs, cap}
 use Rattle.writing.specs.Order.{judge, fieldTests, fieldsOf, numberTests, limitTests, numbersOf, hasIdent, hasEntries}
+use Rattle.writing.specs.Refuse.{Writable, Fine}
+use Rattle.writing.specs.Write.{frameBytes}
 
 -- 01, writing order: "20; then 18, and 9 for text, field by field as written, .."
 abbrev pub beforeSize : Handed → Fit (Unit {0})
@@ -37,3 +41,7 @@ pub record Found (h : Handed) (first : Fit (Unit {0})) (n : ℕ) (last : Fit (Un
   pub early : first ≡ beforeSize h
   pub rest : n ≡ cap (restIs h)
   pub late : last ≡ afterLimit h
+
+-- the frame is stored, where what is handed over belongs together, R can be written, and so can every field and every identifier
+abbrev pub Stored : Handed → List ℕ → List ℕ → Type 0
+Stored h before after = belongs h ≡ true → restIs h ≤ most → Each Writable (fieldsOf h) → Each Fine (numbersOf h) → after ≡ sets before 0 (frameBytes h)

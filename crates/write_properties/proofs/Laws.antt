@@ -11,14 +11,16 @@ use lib.ListN.{length, length-append}
 use lib.Seq.{sets, length-sets}
 use Rattle.grammar.specs.Tables.{Form, number}
 use Rattle.writing.specs.Handed.{one}
-use Rattle.writing.specs.Spell.{wide, short, string, numeral, value, rowBytes}
+use Rattle.writing.specs.Spell.{wide, numeral, value, rowBytes}
 use Rattle.writing.proofs.Tests.{le-or}
-use Rattle.writing.proofs.Sizes.{length-string}
 use Rattle.write_bytes.proofs.Laws.{sets-append, sets-out}
 use Rattle.writing.proofs.Says.{length-wide}
 use Rattle.write_runs.specs.Given.{givenLent}
+use Rattle.write_lengths.specs.Fitting.{fitShort}
+use Rattle.write_strings.specs.Fitting.{fitString}
 use Rattle.write_properties.specs.Put.{Put}
 use Rattle.write_properties.specs.Behind.{Behind}
+use Rattle.write_properties.specs.Fitting.{fitNumeral, fitValue, fitRow}
 
 -- an index past the end is as good as the end
 pub sets-min : (l xs : List ℕ) (k : ℕ) → sets l (min k (length l)) xs ≡ sets l k xs
@@ -90,9 +92,13 @@ module _ (id : ℕ) (f : Form) where
   unfolding value
   one-row n = ap (λ (l : List ℕ). id ∷ l) (append-nil (numeral f n))
 
-  lent-row : (s : List ℕ) → rowBytes (id, f) (givenLent true s) ≡ id ∷ string s
-  unfolding value
-  lent-row s = ap (λ (l : List ℕ). id ∷ l) (append-nil (string s))
+  number-row : (n : ℕ) → fitRow (id, f) (one (some n)) ≡ id ∷ fitNumeral f n
+  unfolding fitValue
+  number-row n = ap (λ (l : List ℕ). id ∷ l) (append-nil (fitNumeral f n))
+
+  lent-row : (s : List ℕ) → fitRow (id, f) (givenLent true s) ≡ id ∷ fitString s
+  unfolding fitValue
+  lent-row s = ap (λ (l : List ℕ). id ∷ l) (append-nil (fitString s))
 
 -- a number of w bytes
 pub put-wide : (id : ℕ) (f : Form) (w n : ℕ) → numeral f n ≡ wide w n → (l l₁ l₂ : List ℕ) (at m : ℕ)
@@ -100,11 +106,11 @@ pub put-wide : (id : ℕ) (f : Form) (w n : ℕ) → numeral f n ≡ wide w n �
 put-wide id f w n e l l₁ l₂ at m p q = rw (one-row id f n, e) (put-row l l₁ l₂ (wide w n) at id m (1 + w) p q (rw (length-wide w n)))
 
 -- a variable length number
-pub put-short : (id n : ℕ) (l l₂ : List ℕ) (at k : ℕ) → Put l at (id ∷ short n) l₂ k → Put l at (rowBytes (id, number) (one (some n))) l₂ k
-unfolding numeral
-put-short id n l l₂ at k p = rw (one-row id number n) p
+pub put-short : (id n : ℕ) (l l₂ : List ℕ) (at k : ℕ) → Put l at (id ∷ fitShort n) l₂ k → Put l at (fitRow (id, number) (one (some n))) l₂ k
+unfolding fitNumeral
+put-short id n l l₂ at k p = rw (number-row id number n) p
 
 -- a string
-pub put-string : (id : ℕ) (f : Form) (s l l₁ l₂ : List ℕ) (at m : ℕ)
-    → Behind l at (id ∷ []) l₁ m → l₂ ≡ sets l₁ m (string s) → Put l at (rowBytes (id, f) (givenLent true s)) l₂ (3 + length s)
-put-string id f s l l₁ l₂ at m p q = rw (lent-row id f s) (put-row l l₁ l₂ (string s) at id m (3 + length s) p q (omega (arith, length-string s)))
+pub put-string : (id : ℕ) (f : Form) (s l l₁ l₂ : List ℕ) (at m k : ℕ)
+    → Behind l at (id ∷ []) l₁ m → (l₂ ≡ sets l₁ m (fitString s)) × (k ≡ length (fitString s)) → Put l at (fitRow (id, f) (givenLent true s)) l₂ (1 + k)
+put-string id f s l l₁ l₂ at m k p (q, e) = rw (lent-row id f s) (put-row l l₁ l₂ (fitString s) at id m (1 + k) p q (rw e))

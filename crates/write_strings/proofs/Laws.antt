@@ -2,8 +2,7 @@
 use mathlib.Core.Path.{_≡_, refl, sym, _∙_}
 use mathlib.Core.Bool.{Bool, true, false}
 use mathlib.Core.List.{List, [], _∷_}
-use Prim.Native.Nat.{ℕ, _+_, _/_, _%_}
-use native.Mathlib.Omega.{arith}
+use Prim.Native.Nat.{ℕ, _+_}
 use lib.Dec.{leb}
 use lib.ListN.{length}
 use lib.Seq.{sets}
@@ -17,19 +16,11 @@ use Rattle.write_numbers.specs.Leaf.{LeafWritten}
 use Rattle.writing.proofs.Says.{length-wide}
 use Rattle.write_numbers.proofs.Laws.Leaf.{leaf-refused}
 
--- the length of a string, cut to 16 bits
-pub wide-cut : (n : ℕ) → wide 2 (n % 65536) ≡ wide 2 n
-unfolding wide
-wide-cut n =
-    let e : n % 65536 / 256 % 256 ≡ n / 256 % 256 = omega arith in
-    let f : n % 65536 % 256 ≡ n % 256 = omega arith in
-    rw (e, f)
-
 -- a length, and the bytes behind it
-pub put-string : (l l₁ l₂ xs : List ℕ) (at : ℕ) → l₁ ≡ sets l at (wide 2 (length xs % 65536)) → l₂ ≡ sets l₁ (at + 2) xs → l₂ ≡ sets l at (string xs)
+pub put-string : (l l₁ l₂ xs : List ℕ) (at : ℕ) → l₁ ≡ sets l at (wide 2 (length xs)) → l₂ ≡ sets l₁ (at + 2) xs → l₂ ≡ sets l at (string xs)
 unfolding string
 put-string l l₁ l₂ xs at e f =
-    f ∙ rw (e, wide-cut (length xs), sets-append (wide 2 (length xs)) xs l at, length-wide 2 (length xs))
+    f ∙ rw (e, sets-append (wide 2 (length xs)) xs l at, length-wide 2 (length xs))
 
 -- ---- the length's test
 

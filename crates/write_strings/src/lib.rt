@@ -1,5 +1,5 @@
-// Strings as they are written, a u16 length and that many bytes: `write_mqtt_bytes` of v5/mod.rs. The put has no refusal, for callers that
-// have tested; `write_mqtt_bytes` tests for itself.
+// Strings as they are written, a u16 length and that many bytes: `write_mqtt_bytes` of v5/mod.rs. The put has no refusal: what does not
+// fit puts nothing. `write_mqtt_bytes` refuses.
 use records::answer::Written;
 use records::error::Error;
 use write_bytes::put_bytes;
@@ -14,15 +14,28 @@ ghost use Rattle.writing.specs.Spell.{string};
 ghost use Rattle.writing.specs.Order.{lengthTest};
 ghost use Rattle.records.specs.Answered.{toldWritten};
 ghost use Rattle.write_numbers.specs.Leaf.{LeafWritten};
+ghost use Rattle.write_strings.specs.Fitting.{fitString};
 
-// Two bytes of length and the bytes. The length is written modulo 65,536, as `string` has it: `test_raw` refuses what is longer.
-pub fn put_string(out: &mut [u8], at: usize, s: &[u8])
+// Two bytes of length and the bytes.
+fn put_fitting(out: &mut [u8], at: usize, s: &[u8])
+    requires { ⌜ length (now s) ≤ 65535 ⌝ }
     ensures { λ r. ⌜ now (out .exit) ≡ sets (now (out .entry)) at (string (now (s .entry))) ⌝ }
 {
     if at < out.len() {
-        fixed::put_u16(&mut *out, at, (s.len() % 65536) as u16);
+        fixed::put_u16(&mut *out, at, s.len() as u16);
         put_bytes(&mut *out, at + 2, s);
     }
+}
+
+// The same of any string, and how many bytes they are: of one above 65,535 bytes none, and the output stays as it stood.
+pub fn put_string(out: &mut [u8], at: usize, s: &[u8]) -> usize
+    ensures { λ r. ⌜ (now (out .exit) ≡ sets (now (out .entry)) at (fitString (now (s .entry)))) × (r ≡ length (fitString (now (s .entry)))) ⌝ }
+{
+    if 65535 < s.len() {
+        return 0;
+    }
+    put_fitting(&mut *out, at, s);
+    2 + s.len()
 }
 
 // A string whose length is fine.
@@ -34,7 +47,7 @@ fn write_string(out: &mut [u8], s: &[u8]) -> Written
     if out.len() < size {
         return Written::Refused(Error::NoRoom(size));
     }
-    put_string(&mut *out, 0, s);
+    put_fitting(&mut *out, 0, s);
     Written::Size(size)
 }
 

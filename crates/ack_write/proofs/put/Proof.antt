@@ -5,7 +5,7 @@ use denote.Ref.{now}
 use borrow.Author.Tests.{not-true, not-false}
 use Rattle.records.specs.AsNumbers.{toldAckKind}
 use Rattle.ack_write.specs.Handed.{handed}
-use Rattle.ack_write.proofs.Laws.{length-small, put-plain, put-full}
+use Rattle.ack_write.proofs.Laws.{length-small, block-writable, put-plain, put-full}
 use Rattle.ack_write.proofs.put.Statement.{statement}
 use Rattle.ack_write.proofs.put.Tie as tie
 
@@ -40,8 +40,8 @@ returns : tie.Need-returns
 returns c =
     let a = c .before .before .before .before .before .before .before .before .before .before .before .before .before .before .before .before .before .before .before .before .before .before .args in
     let p = sym (c .before .before .before .before .before .before .is-plain .ensures) ∙ not-true _ (c .before .before .before .before .before .if1 .taken) in
-    λ e s. put-full (toldAckKind (a .m .kind)) (handed (a .m) (now (a .reason-string)) (now (a .user)) (now (a .user-lengths))) (now (a .out)) _ _ _ _ _ (c .before .before .before .before .before .before .before .before .before .before .before .before .before .before .before .before .before .rest .ensures) (rw (c .before .before .before .before .before .before .before .before .before .before .before .before .before .before .before .before .first-byte .ensures) at (c .before .before .before .before .before .before .before .before .before .before .before .before .before .before .put-header .ensures)) (c .before .before .before .before .before .before .before .before .before .before .before .after .ensures) (c .before .before .before .before .before .before .before .before .before .put-u16 .ensures) e s
-    p _ _ (c .before .before .before .before .after2 .ensures) (c .before .before .put-block .ensures (length-small (toldAckKind (a .m .kind)) (handed (a .m) (now (a .reason-string)) (now (a .user)) (now (a .user-lengths))) p s))
+    λ e s w i. put-full (toldAckKind (a .m .kind)) (handed (a .m) (now (a .reason-string)) (now (a .user)) (now (a .user-lengths))) (now (a .out)) _ _ _ _ _ (c .before .before .before .before .before .before .before .before .before .before .before .before .before .before .before .before .before .rest .ensures) (rw (c .before .before .before .before .before .before .before .before .before .before .before .before .before .before .before .before .first-byte .ensures) at (c .before .before .before .before .before .before .before .before .before .before .before .before .before .before .put-header .ensures)) (c .before .before .before .before .before .before .before .before .before .before .before .after .ensures) (c .before .before .before .before .before .before .before .before .before .put-u16 .ensures) e s
+    p _ _ (c .before .before .before .before .after2 .ensures) (c .before .before .put-block .ensures (length-small (toldAckKind (a .m .kind)) (handed (a .m) (now (a .reason-string)) (now (a .user)) (now (a .user-lengths))) p s) (block-writable (toldAckKind (a .m .kind)) (handed (a .m) (now (a .reason-string)) (now (a .user)) (now (a .user-lengths))) w))
 
 same-length-2 : tie.Need-same-length-2
 same-length-2 c = search needs
@@ -49,7 +49,7 @@ same-length-2 c = search needs
 returns-2 : tie.Need-returns-2
 returns-2 c =
     let a = c .before .before .before .before .before .before .before .before .before .before .before .before .before .before .before .before .before .args in
-    λ e s. put-plain (toldAckKind (a .m .kind)) (handed (a .m) (now (a .reason-string)) (now (a .user)) (now (a .user-lengths))) (now (a .out)) _ _ _ _ _ (c .before .before .before .before .before .before .before .before .before .before .before .before .rest .ensures) (rw (c .before .before .before .before .before .before .before .before .before .before .before .first-byte .ensures) at (c .before .before .before .before .before .before .before .before .before .put-header .ensures)) (c .before .before .before .before .before .before .after .ensures) (c .before .before .before .before .put-u16 .ensures) e s
+    λ e s w i. put-plain (toldAckKind (a .m .kind)) (handed (a .m) (now (a .reason-string)) (now (a .user)) (now (a .user-lengths))) (now (a .out)) _ _ _ _ _ (c .before .before .before .before .before .before .before .before .before .before .before .before .rest .ensures) (rw (c .before .before .before .before .before .before .before .before .before .before .before .first-byte .ensures) at (c .before .before .before .before .before .before .before .before .before .put-header .ensures)) (c .before .before .before .before .before .before .after .ensures) (c .before .before .before .before .put-u16 .ensures) e s
     (sym (c .before .is-plain .ensures) ∙ not-false _ (c .if1 .left))
 
 pub put-spec : {M : Type 1} → statement M

@@ -5,7 +5,7 @@ use denote.Ref.{now}
 use Rattle.writing.specs.Handed.{reply}
 use Rattle.records.specs.AsNumbers.{limitOf, toldReplyKind}
 use Rattle.records.specs.Answered.{toldWritten}
-use Rattle.write_order.proofs.Laws.{settled-found, none-written, all-written}
+use Rattle.write_order.proofs.Laws.{settled-found, none-written, frame-written}
 use Rattle.reply_write.specs.Handed.{handed}
 use Rattle.reply_write.proofs.Laws.{after-limit-all}
 use Rattle.reply_write.proofs.write.Statement.{statement}
@@ -44,7 +44,7 @@ same-length c = search needs
 returns-2 : tie.Need-returns-2
 returns-2 c =
     let a = c .before .before .before .before .before .before .before .before .before .before .before .before .before .before .before .before .args in
-    all-written (limitOf (a .limit)) (reply (toldReplyKind (a .m .kind)) (handed (a .m) (now (a .reason-string)) (now (a .user)) (now (a .user-lengths)) (now (a .reasons)))) (now (a .out)) _
+    frame-written (limitOf (a .limit)) (reply (toldReplyKind (a .m .kind)) (handed (a .m) (now (a .reason-string)) (now (a .user)) (now (a .user-lengths)) (now (a .reasons)))) (now (a .out)) _
     (sym (ap toldWritten (c .before .before .before .before .before .n .given .1)) ∙ c .before .before .before .before .before .before .before .settle .ensures ∙ settled-found (limitOf (a .limit)) _ (reply (toldReplyKind (a .m .kind)) (handed (a .m) (now (a .reason-string)) (now (a .user)) (now (a .user-lengths)) (now (a .reasons)))) (record { early = c .before .before .before .before .before .before .before .before .before .before .before-size .ensures; rest = c .before .before .before .before .before .before .before .before .before .rest .ensures; late = after-limit-all (toldReplyKind (a .m .kind)) (handed (a .m) (now (a .reason-string)) (now (a .user)) (now (a .user-lengths)) (now (a .reasons))) (c .before .before .before .before .before .before .before .before .test-asked .ensures) })) _ (c .before .before .put .ensures)
 
 pub write-spec : {M : Type 1} → statement M

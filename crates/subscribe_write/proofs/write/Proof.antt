@@ -5,7 +5,7 @@ use denote.Ref.{now}
 use Rattle.writing.specs.Handed.{subscribe}
 use Rattle.records.specs.AsNumbers.{limitOf}
 use Rattle.records.specs.Answered.{toldWritten}
-use Rattle.write_order.proofs.Laws.{settled-found, none-written, all-written}
+use Rattle.write_order.proofs.Laws.{settled-found, none-written, frame-written}
 use Rattle.subscribe_write.specs.Handed.{handed}
 use Rattle.subscribe_write.proofs.write.Statement.{statement}
 use Rattle.subscribe_write.proofs.write.Tie as tie
@@ -43,7 +43,7 @@ same-length c = search needs
 returns-2 : tie.Need-returns-2
 returns-2 c =
     let a = c .before .before .before .before .before .before .before .before .before .before .before .before .before .before .before .before .before .args in
-    all-written (limitOf (a .limit)) (subscribe (handed (a .m) (now (a .user)) (now (a .user-lengths)) (now (a .filters)) (now (a .filter-lengths)) (now (a .options)))) (now (a .out)) _
+    frame-written (limitOf (a .limit)) (subscribe (handed (a .m) (now (a .user)) (now (a .user-lengths)) (now (a .filters)) (now (a .filter-lengths)) (now (a .options)))) (now (a .out)) _
     (sym (ap toldWritten (c .before .before .before .before .before .n .given .1)) ∙ c .before .before .before .before .before .before .before .settle .ensures ∙ settled-found (limitOf (a .limit)) _ (subscribe (handed (a .m) (now (a .user)) (now (a .user-lengths)) (now (a .filters)) (now (a .filter-lengths)) (now (a .options)))) (record { early = c .before .before .before .before .before .before .before .before .before .before .before-size .ensures; rest = c .before .before .before .before .before .before .before .before .before .rest .ensures (now (a .filter-lengths)); late = c .before .before .before .before .before .before .before .before .after-limit .ensures (now (a .user)) (now (a .user-lengths)) (now (a .filters)) })) _ (c .before .before .put .ensures)
 
 pub write-spec : {M : Type 1} → statement M

@@ -5,7 +5,7 @@ use denote.Ref.{now}
 use Rattle.writing.specs.Handed.{unsubscribe}
 use Rattle.records.specs.AsNumbers.{limitOf}
 use Rattle.records.specs.Answered.{toldWritten}
-use Rattle.write_order.proofs.Laws.{settled-found, none-written, all-written}
+use Rattle.write_order.proofs.Laws.{settled-found, none-written, frame-written}
 use Rattle.unsubscribe_write.specs.Handed.{handed}
 use Rattle.unsubscribe_write.proofs.Laws.{after-limit-all}
 use Rattle.unsubscribe_write.proofs.write.Statement.{statement}
@@ -44,7 +44,7 @@ same-length c = search needs
 returns-2 : tie.Need-returns-2
 returns-2 c =
     let a = c .before .before .before .before .before .before .before .before .before .before .before .before .before .before .before .before .args in
-    all-written (limitOf (a .limit)) (unsubscribe (handed (a .m) (now (a .user)) (now (a .user-lengths)) (now (a .topics)) (now (a .topic-lengths)))) (now (a .out)) _
+    frame-written (limitOf (a .limit)) (unsubscribe (handed (a .m) (now (a .user)) (now (a .user-lengths)) (now (a .topics)) (now (a .topic-lengths)))) (now (a .out)) _
     (sym (ap toldWritten (c .before .before .before .before .before .n .given .1)) ∙ c .before .before .before .before .before .before .before .settle .ensures ∙ settled-found (limitOf (a .limit)) _ (unsubscribe (handed (a .m) (now (a .user)) (now (a .user-lengths)) (now (a .topics)) (now (a .topic-lengths)))) (record { early = c .before .before .before .before .before .before .before .before .before .before .before-size .ensures; rest = c .before .before .before .before .before .before .before .before .before .rest .ensures; late = after-limit-all (handed (a .m) (now (a .user)) (now (a .user-lengths)) (now (a .topics)) (now (a .topic-lengths))) (c .before .before .before .before .before .before .before .before .test-asked .ensures (now (a .topics))) })) _ (c .before .before .put .ensures)
 
 pub write-spec : {M : Type 1} → statement M

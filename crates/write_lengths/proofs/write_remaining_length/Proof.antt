@@ -26,8 +26,8 @@ returns-2 c =
     let a = c .before .before .before .before .args in
     leaf-no-room (numberTest (a .n)) (short (a .n)) (now (a .out)) (le-leb (a .n) most (omega arith)) _ (c .before .len-len .ensures ∙ sym (length-short (a .n))) (omega arith)
 
-put-length-requires : tie.Need-put-length-requires
-put-length-requires c κs = search needs
+put-fitting-requires : tie.Need-put-fitting-requires
+put-fitting-requires c κs = search needs
 
 same-length : tie.Need-same-length
 same-length c = search needs
@@ -35,9 +35,9 @@ same-length c = search needs
 returns-3 : tie.Need-returns-3
 returns-3 c =
     let a = c .before .before .before .before .before .before .before .before .args in
-    let e = c .before .before .put-length .ensures in
+    let e = c .before .before .put-fitting .ensures in
     leaf-written (numberTest (a .n)) (short (a .n)) (now (a .out)) (le-leb (a .n) most (omega arith)) _ (e .1) _ (omega (arith, length-short (a .n))) (e .0)
 
 pub write-remaining-length-spec : {M : Type 1} → statement M
 write-remaining-length-spec =
-    tie.close (tie.spec returns len-len-requires returns-2 put-length-requires same-length returns-3)
+    tie.close (tie.spec returns len-len-requires returns-2 put-fitting-requires same-length returns-3)

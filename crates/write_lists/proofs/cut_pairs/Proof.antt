@@ -7,10 +7,10 @@ use lib.ListN.{length, getD}
 use denote.Ref.{now}
 use Rattle.grammar.specs.Tables.{pair}
 use Rattle.writing.specs.Handed.{pairs}
-use Rattle.writing.specs.Spell.{rowBytes}
 use Rattle.writing.proofs.ForCode.{runFrom}
 use Rattle.write_runs.specs.Given.{run}
 use Rattle.write_runs.proofs.Laws.Run.{piece-ends, piece-within}
+use Rattle.write_properties.specs.Fitting.{fitRow}
 use Rattle.write_properties.proofs.Laws.{Putting, none-put, put-more, all-put}
 use Rattle.write_lists.proofs.Laws.{pair-count, pairs-cut, pairs-done}
 use Rattle.write_lists.proofs.cut_pairs.Statement.{statement}
@@ -18,7 +18,7 @@ use Rattle.write_lists.proofs.cut_pairs.Tie as tie
 
 abbrev Inv-loop : tie.InvT-loop
 Inv-loop out₀ at bytes start lengths first n₀ from₀ i₀ out n from i =
-    Putting out₀ at (rowBytes (38, pair) (pairs (runFrom (run bytes lengths) first start))) out n (rowBytes (38, pair) (pairs (runFrom (run bytes lengths) i from)))
+    Putting out₀ at (fitRow (38, pair) (pairs (runFrom (run bytes lengths) first start))) out n (fitRow (38, pair) (pairs (runFrom (run bytes lengths) i from)))
     × (2 * n + (2 * start + 5 * first) ≤ 2 * from + 5 * i) × (from ≤ length bytes) × (i ≤ length lengths)
 
 abbrev μ-loop : tie.MeasureT-loop

@@ -8,9 +8,9 @@ use lib.ListN.{length, getD, take, drop}
 use denote.Ref.{now}
 use Rattle.grammar.specs.Tables.{pair}
 use Rattle.writing.specs.Handed.{pairs}
-use Rattle.writing.specs.Spell.{rowBytes}
 use Rattle.writing.proofs.ForCode.{runFrom}
 use Rattle.write_runs.specs.Given.{run, givenPairs}
+use Rattle.write_properties.specs.Fitting.{fitRow}
 use Rattle.write_properties.proofs.Laws.{Putting, none-put, put-more, all-put}
 use Rattle.write_lists.proofs.Laws.{pair-count, part-length, pairs-whole, pairs-done, put-rest}
 use Rattle.write_lists.proofs.lay_pairs.Statement.{statement}
@@ -18,7 +18,7 @@ use Rattle.write_lists.proofs.lay_pairs.Tie as tie
 
 abbrev Inv-loop : tie.InvT-loop
 Inv-loop out₀ at bytes lengths n₀ from₀ i₀ out n from i =
-    Putting out₀ at (rowBytes (38, pair) (givenPairs bytes lengths)) out n (rowBytes (38, pair) (pairs (runFrom (run bytes lengths) i from)))
+    Putting out₀ at (fitRow (38, pair) (givenPairs bytes lengths)) out n (fitRow (38, pair) (pairs (runFrom (run bytes lengths) i from)))
     × (2 * n ≤ 2 * from + 5 * i) × (from ≤ length bytes) × (i ≤ length lengths) × (at + n ≤ length out)
 
 abbrev μ-loop : tie.MeasureT-loop

@@ -6,14 +6,14 @@ use lib.ListN.{length, drop}
 use denote.Ref.{now}
 use Rattle.grammar.specs.Tables.{number}
 use Rattle.writing.specs.Handed.{several}
-use Rattle.writing.specs.Spell.{rowBytes}
+use Rattle.write_properties.specs.Fitting.{fitRow}
 use Rattle.write_properties.proofs.Laws.{Putting, none-put, put-more, all-put}
 use Rattle.write_lists.proofs.Laws.{ids-more, ids-done}
 use Rattle.write_lists.proofs.put_ids.Statement.{statement}
 use Rattle.write_lists.proofs.put_ids.Tie as tie
 
 abbrev Inv-loop : tie.InvT-loop
-Inv-loop out₀ at ids n₀ i₀ out n i = Putting out₀ at (rowBytes (11, number) (several ids)) out n (rowBytes (11, number) (several (drop i ids))) × (n ≤ 5 * i)
+Inv-loop out₀ at ids n₀ i₀ out n i = Putting out₀ at (fitRow (11, number) (several ids)) out n (fitRow (11, number) (several (drop i ids))) × (n ≤ 5 * i)
 
 abbrev μ-loop : tie.MeasureT-loop
 μ-loop out₀ at ids n₀ i₀ out n i = length ids - i

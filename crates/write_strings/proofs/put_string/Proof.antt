@@ -1,45 +1,29 @@
--- `write_strings::put_string` meets its contract: the length and the bytes behind it are one run of stores. Assumes nothing.
+-- `write_strings::put_string` is right since what does not fit is not put, and the rest is left to `put_fitting`. Assumes nothing.
+use mathlib.Core.Path.{refl, sym}
+use native.Mathlib.Omega.{arith}
 use borrow.Author.Needs.{needs}
 use denote.Ref.{now}
-use Rattle.writing.specs.Spell.{string}
-use Rattle.write_bytes.proofs.Laws.{sets-out}
-use Rattle.write_strings.proofs.Laws.{put-string}
+use Rattle.writing.proofs.Sizes.{length-string}
+use Rattle.write_strings.proofs.Fits.{string-fits, string-not}
 use Rattle.write_strings.proofs.put_string.Statement.{statement}
 use Rattle.write_strings.proofs.put_string.Tie as tie
 
-cast-put-u16 : tie.Need-cast-put-u16
-cast-put-u16 c = search needs
+returns : tie.Need-returns
+returns c = rw (string-not _ (c .if1 .taken)) (refl, refl)
 
-put-u16-requires : tie.Need-put-u16-requires
-put-u16-requires c κs = search needs
+put-fitting-requires : tie.Need-put-fitting-requires
+put-fitting-requires c κs = omega arith
 
-add-put-bytes : tie.Need-add-put-bytes
-add-put-bytes c = search needs
-
-put-bytes-requires : tie.Need-put-bytes-requires
-put-bytes-requires c κs = search needs
+add-result : tie.Need-add-result
+add-result c = omega arith
 
 same-length : tie.Need-same-length
 same-length c = search needs
 
-returns : tie.Need-returns
-returns c =
-    let a = c .before .before .before .before .before .before .before .before .before .before .before .args in
-    put-string (now (a .out)) _ _ (now (a .s)) (a .at) (c .before .before .before .before .before .before .put-u16 .ensures) (c .before .before .put-bytes .ensures)
-
 returns-2 : tie.Need-returns-2
 returns-2 c =
-    let a = c .before .before .before .args in
-    sets-out (string (now (a .s))) (now (a .out)) (a .at) (c .if1 .left)
+    let s = now (c .before .before .before .before .before .before .before .args .s) in
+    rw (string-fits s (omega arith)) (c .before .before .put-fitting .ensures, sym (length-string s))
 
 pub put-string-spec : {M : Type 1} → statement M
-put-string-spec =
-    tie.close
-    (tie.spec
-    cast-put-u16
-    put-u16-requires
-    add-put-bytes
-    put-bytes-requires
-    same-length
-    returns
-    returns-2)
+put-string-spec = tie.close (tie.spec returns put-fitting-requires add-result same-length returns-2)

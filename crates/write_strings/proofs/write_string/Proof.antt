@@ -21,8 +21,8 @@ returns c =
     let s = now (a .s) in
     leaf-no-room (lengthTest s) (string s) (now (a .out)) (le-leb (length s) 65535 (omega arith)) _ (sym (length-string s)) (omega arith)
 
-put-string-requires : tie.Need-put-string-requires
-put-string-requires c κs = search needs
+put-fitting-requires : tie.Need-put-fitting-requires
+put-fitting-requires c κs = search needs
 
 same-length : tie.Need-same-length
 same-length c = search needs
@@ -31,7 +31,7 @@ returns-2 : tie.Need-returns-2
 returns-2 c =
     let a = c .before .before .before .before .before .before .before .args in
     let s = now (a .s) in
-    leaf-written (lengthTest s) (string s) (now (a .out)) (le-leb (length s) 65535 (omega arith)) _ (sym (length-string s)) _ (omega arith) (c .before .before .put-string .ensures)
+    leaf-written (lengthTest s) (string s) (now (a .out)) (le-leb (length s) 65535 (omega arith)) _ (sym (length-string s)) _ (omega arith) (c .before .before .put-fitting .ensures)
 
 pub write-string-spec : {M : Type 1} → statement M
-write-string-spec = tie.close (tie.spec add-size returns put-string-requires same-length returns-2)
+write-string-spec = tie.close (tie.spec add-size returns put-fitting-requires same-length returns-2)

@@ -25,7 +25,7 @@ lay-front-requires c κs =
     let f = short (a .rest) ++ (string (now (a .topic)) ++ identBytes (toldQoS (a .head .qos)) (a .head .pkid)) in
     let b = short (a .properties) ++ (allRows (a .head) (now (a .response-topic)) (now (a .correlation-data)) (now (a .user)) (now (a .user-lengths)) (now (a .subscription-identifiers)) (now (a .content-type)) ++ now (a .payload)) in
     let r = room-same (now (a .out)) _ (c .before .before .before .before .first-byte .result ∷ []) (f ++ b) 0 1 (c .before .before .before .store .ensures) (c .before .before .before .before .before .before .before .before .before .before .before .before .before .before .before .pre .1) in
-    room-first _ f b 1 r
+    (room-first _ f b 1 r, c .before .before .before .before .before .before .before .before .before .before .before .before .before .before .before .pre .4)
 
 lay-back-requires : tie.Need-lay-back-requires
 lay-back-requires c κs =
@@ -33,7 +33,7 @@ lay-back-requires c κs =
     let f = short (a .rest) ++ (string (now (a .topic)) ++ identBytes (toldQoS (a .head .qos)) (a .head .pkid)) in
     let b = short (a .properties) ++ (allRows (a .head) (now (a .response-topic)) (now (a .correlation-data)) (now (a .user)) (now (a .user-lengths)) (now (a .subscription-identifiers)) (now (a .content-type)) ++ now (a .payload)) in
     let r = room-same (now (a .out)) _ (c .before .before .before .before .before .before .before .before .first-byte .result ∷ []) (f ++ b) 0 1 (c .before .before .before .before .before .before .before .store .ensures) (c .before .before .before .before .before .before .before .before .before .before .before .before .before .before .before .before .before .before .before .pre .1) in
-    (c .before .before .before .before .before .before .before .before .before .before .before .before .before .before .before .before .before .before .before .pre .0, room-rest (c .before .before .before .lay-front .ensures) b r)
+    (c .before .before .before .before .before .before .before .before .before .before .before .before .before .before .before .before .before .before .before .pre .0, room-rest (c .before .before .before .lay-front .ensures) b r, c .before .before .before .before .before .before .before .before .before .before .before .before .before .before .before .before .before .before .before .pre .2, c .before .before .before .before .before .before .before .before .before .before .before .before .before .before .before .before .before .before .before .pre .3)
 
 same-length : tie.Need-same-length
 same-length c = search needs

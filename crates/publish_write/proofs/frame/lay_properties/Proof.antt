@@ -29,7 +29,7 @@ lay-lists-requires c κs =
     let x = numberRows (a .head) in
     let y = stringRows (a .head) (now (a .response-topic)) (now (a .correlation-data)) in
     let z = listRows (a .head) (now (a .user)) (now (a .user-lengths)) (now (a .subscription-identifiers)) (now (a .content-type)) in
-    (c .before .before .before .before .before .before .before .before .before .before .before .before .before .before .before .before .pre .0, room-rest (c .before .before .before .lay-strings .ensures) z (room-rest (c .before .before .before .before .before .before .before .lay-numbers .ensures) (y ++ z) (c .before .before .before .before .before .before .before .before .before .before .before .before .before .before .before .before .pre .1)))
+    (c .before .before .before .before .before .before .before .before .before .before .before .before .before .before .before .before .pre .0, room-rest (c .before .before .before .lay-strings .ensures) z (room-rest (c .before .before .before .before .before .before .before .lay-numbers .ensures) (y ++ z) (c .before .before .before .before .before .before .before .before .before .before .before .before .before .before .before .before .pre .1)), c .before .before .before .before .before .before .before .before .before .before .before .before .before .before .before .before .pre .2)
 
 same-length : tie.Need-same-length
 same-length c = search needs

@@ -7,18 +7,18 @@ use lib.ListN.{length, drop, getD}
 use denote.Ref.{now}
 use Rattle.writing.specs.Lists.{flat, beside}
 use Rattle.writing.specs.Handed.{strings, filtersOf}
-use Rattle.writing.specs.Spell.{filterBytes}
 use Rattle.writing.proofs.ForCode.{runFrom}
 use Rattle.write_runs.specs.Given.{run}
 use Rattle.write_runs.proofs.Laws.Run.{piece-ends, piece-within}
 use Rattle.write_properties.proofs.Laws.{Putting, none-put, put-more, all-put}
-use Rattle.subscribe_write.proofs.Filters.{filters-cut, filters-done, filter-count}
+use Rattle.subscribe_write.specs.Fitting.{fitFilter}
+use Rattle.subscribe_write.proofs.Filters.{filters-cut, filters-done, filter-most}
 use Rattle.subscribe_write.proofs.filter.put_filters.Statement.{statement}
 use Rattle.subscribe_write.proofs.filter.put_filters.Tie as tie
 
 abbrev Inv-loop : tie.InvT-loop
 Inv-loop out₀ at bytes lengths options count n₀ from₀ i₀ out n from i =
-    Putting out₀ at (flat filterBytes (filtersOf (run bytes lengths) options)) out n (flat filterBytes (beside (strings (runFrom (run bytes lengths) i from)) (drop i options)))
+    Putting out₀ at (flat fitFilter (filtersOf (run bytes lengths) options)) out n (flat fitFilter (beside (strings (runFrom (run bytes lengths) i from)) (drop i options)))
     × (n ≤ from + 3 * i) × (from ≤ length bytes)
 
 abbrev μ-loop : tie.MeasureT-loop
@@ -52,7 +52,7 @@ add-n : tie.Need-add-n Inv-loop μ-loop
 add-n c =
     let a = c .before .before .before .before .before .before .before .before .before .before .before .before .before .before .before .args in
     let l = c .before .before .before .before .before .before .before .before .before .loop in
-    let k = filter-count _ _ _ _ _ _ (c .before .before .put-filter .ensures) in
+    let k = filter-most _ _ _ _ _ _ (c .before .before .put-filter .ensures) in
     let w = piece-within (now (a .bytes)) (l .from) (getD (now (a .lengths)) (l .i) 0) (l .inv .2) in
     omega (arith, k, w, ap length (c .before .before .before .before .piece .ensures .bytes), l .inv .1, c .before .before .before .before .before .before .before .before .before .before .how-many .ensures, c .before .before .before .before .before .before .before .before .loop-test .taken)
 
@@ -69,9 +69,9 @@ loop-again : tie.Need-loop-again Inv-loop μ-loop
 loop-again c =
     let a = c .before .before .before .before .before .before .before .before .before .before .before .before .before .before .before .before .args in
     let l = c .before .before .before .before .before .before .before .before .before .before .loop in
-    let k = filter-count _ _ _ _ _ _ (c .before .before .before .put-filter .ensures) in
+    let k = filter-most _ _ _ _ _ _ (c .before .before .before .put-filter .ensures) in
     let w = piece-ends (now (a .bytes)) (l .from) _ (l .inv .2) _ (c .after2 .ensures) in
-    let e = ap (flat filterBytes) (filters-cut (run (now (a .bytes)) (now (a .lengths))) (l .i) (l .from) _ (c .after2 .ensures) (now (a .options)) (omega (arith, c .before .before .before .before .before .before .before .before .before .before .before .how-many .ensures, c .before .before .before .before .before .before .before .before .before .loop-test .taken))) in
+    let e = ap (flat fitFilter) (filters-cut (run (now (a .bytes)) (now (a .lengths))) (l .i) (l .from) _ (c .after2 .ensures) (now (a .options)) (omega (arith, c .before .before .before .before .before .before .before .before .before .before .before .how-many .ensures, c .before .before .before .before .before .before .before .before .before .loop-test .taken))) in
     (put-more (l .inv .0) _ _ (e ∙ rw (sym (c .before .before .before .before .before .piece .ensures .bytes))) _ (c .before .before .before .before .before .before .before .after .ensures) _ _ (c .before .before .before .put-filter .ensures), omega (arith, k, w, ap length (c .before .before .before .before .before .piece .ensures .bytes), l .inv .1), omega (arith, c .after2 .ensures))
 
 same-length : tie.Need-same-length Inv-loop μ-loop
@@ -81,7 +81,7 @@ returns : tie.Need-returns Inv-loop μ-loop
 returns c =
     let a = c .before .before .before .before .before .before .before .args in
     let l = c .before .loop in
-    all-put (l .inv .0) (ap (flat filterBytes) (filters-done (run (now (a .bytes)) (now (a .lengths))) (l .i) (l .from) (now (a .options)) (omega arith)))
+    all-put (l .inv .0) (ap (flat fitFilter) (filters-done (run (now (a .bytes)) (now (a .lengths))) (l .i) (l .from) (now (a .options)) (omega arith)))
 
 pub put-filters-spec : {M : Type 1} → statement M
 put-filters-spec =

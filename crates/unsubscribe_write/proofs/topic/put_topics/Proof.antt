@@ -7,18 +7,18 @@ use lib.ListN.{length, getD}
 use denote.Ref.{now}
 use Rattle.writing.specs.Lists.{flat}
 use Rattle.writing.specs.Handed.{strings}
-use Rattle.writing.specs.Spell.{string}
 use Rattle.writing.proofs.ForCode.{runFrom}
 use Rattle.write_runs.specs.Given.{run}
 use Rattle.write_runs.proofs.Laws.Run.{piece-ends, piece-within}
+use Rattle.write_strings.specs.Fitting.{fitString}
 use Rattle.write_properties.proofs.Laws.{Putting, none-put, put-more, all-put}
-use Rattle.unsubscribe_write.proofs.Topics.{topics-cut, topics-done, topic-count}
+use Rattle.unsubscribe_write.proofs.Topics.{topics-cut, topics-done, topic-put, topic-most}
 use Rattle.unsubscribe_write.proofs.topic.put_topics.Statement.{statement}
 use Rattle.unsubscribe_write.proofs.topic.put_topics.Tie as tie
 
 abbrev Inv-loop : tie.InvT-loop
 Inv-loop out₀ at bytes lengths n₀ from₀ i₀ out n from i =
-    Putting out₀ at (flat string (strings (run bytes lengths))) out n (flat string (strings (runFrom (run bytes lengths) i from)))
+    Putting out₀ at (flat fitString (strings (run bytes lengths))) out n (flat fitString (strings (runFrom (run bytes lengths) i from)))
     × (n ≤ from + 2 * i) × (from ≤ length bytes)
 
 abbrev μ-loop : tie.MeasureT-loop
@@ -39,14 +39,14 @@ after-requires c κs = search needs
 piece-requires : tie.Need-piece-requires Inv-loop μ-loop
 piece-requires c κs = search needs
 
-put-topic-requires : tie.Need-put-topic-requires Inv-loop μ-loop
-put-topic-requires c κs = search needs
+put-string-requires : tie.Need-put-string-requires Inv-loop μ-loop
+put-string-requires c κs = search needs
 
 add-n : tie.Need-add-n Inv-loop μ-loop
 add-n c =
     let a = c .before .before .before .before .before .before .before .before .before .before .before .before .args in
     let l = c .before .before .before .before .before .before .before .before .loop in
-    let k = topic-count _ _ _ _ _ (c .before .before .put-topic .ensures) in
+    let k = topic-most _ _ (c .before .before .put-string .ensures .1) in
     let w = piece-within (now (a .bytes)) (l .from) (getD (now (a .lengths)) (l .i) 0) (l .inv .2) in
     omega (arith, k, w, ap length (c .before .before .before .piece .ensures .bytes), l .inv .1, c .before .before .before .before .before .before .before .loop-test .taken)
 
@@ -63,10 +63,10 @@ loop-again : tie.Need-loop-again Inv-loop μ-loop
 loop-again c =
     let a = c .before .before .before .before .before .before .before .before .before .before .before .before .before .args in
     let l = c .before .before .before .before .before .before .before .before .before .loop in
-    let k = topic-count _ _ _ _ _ (c .before .before .before .put-topic .ensures) in
+    let k = topic-most _ _ (c .before .before .before .put-string .ensures .1) in
     let w = piece-ends (now (a .bytes)) (l .from) _ (l .inv .2) _ (c .after2 .ensures) in
     let e = topics-cut (run (now (a .bytes)) (now (a .lengths))) (l .i) (l .from) _ (c .after2 .ensures) (c .before .before .before .before .before .before .before .before .loop-test .taken) in
-    (put-more (l .inv .0) _ _ (e ∙ rw (sym (c .before .before .before .before .piece .ensures .bytes))) _ (c .before .before .before .before .before .before .after .ensures) _ _ (c .before .before .before .put-topic .ensures), omega (arith, k, w, ap length (c .before .before .before .before .piece .ensures .bytes), l .inv .1), omega (arith, c .after2 .ensures))
+    (put-more (l .inv .0) _ _ (e ∙ rw (sym (c .before .before .before .before .piece .ensures .bytes))) _ (c .before .before .before .before .before .before .after .ensures) _ _ (topic-put _ _ _ _ _ (c .before .before .before .put-string .ensures)), omega (arith, k, w, ap length (c .before .before .before .before .piece .ensures .bytes), l .inv .1), omega (arith, c .after2 .ensures))
 
 same-length : tie.Need-same-length Inv-loop μ-loop
 same-length c = c .before .loop .inv .0 .same
@@ -88,7 +88,7 @@ put-topics-spec =
     shared-slice-read-k
     after-requires
     piece-requires
-    put-topic-requires
+    put-string-requires
     add-n
     after-requires-2
     add-i
