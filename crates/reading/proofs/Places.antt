@@ -149,12 +149,12 @@ module _ (s : List ℕ) where
   unfolding publish_props
   publish_as_lem end ps b w e =
       let v : (i : ℕ) → values_at as_bytes s (span_of b end) publish_row i ≡ got (all_of i (map (say_prop s) ps)) = λ i. values_right publish_row i b (map (say_prop s) ps) w e in
-      unless_says _ _ _ ps (rw (v 38, v 11, last_says 1 ps, last_says 2 ps, last_says 35 ps, last_says 8 ps, last_says 9 ps, last_says 3 ps))
+      unless_says (say_publish_props s) (publish_props Span (λ A. Span) (λ vs. as_places.run (Val Span) vs b end)) (publish_props (List ℕ) List (λ vs. as_bytes.run (Val (List ℕ)) vs b end)) ps (rw (v 38, v 11, last_says 1 ps, last_says 2 ps, last_says 35 ps, last_says 8 ps, last_says 9 ps, last_says 3 ps))
 
   props_as_lem : (row : Row) (end : ℕ) (ps : List (PropOf Span)) (b : List ℕ) → Stands s end b → properties_fit as_bytes row end b ≡ got (map (say_prop s) ps)
       → if_some (say_props s row) (props_as as_places ps b end) ≡ got (props_as as_bytes (map (say_prop s) ps) b end)
   unfolding props_of
-  props_as_lem row end ps b w e = unless_says _ _ _ ps (rw (values_right row 38 b (map (say_prop s) ps) w e, last_says 31 ps, last_says 11 ps))
+  props_as_lem row end ps b w e = unless_says (say_props s row) (props_of Span (λ A. Span) (λ vs. as_places.run (Val Span) vs b end)) (props_of (List ℕ) List (λ vs. as_bytes.run (Val (List ℕ)) vs b end)) ps (rw (values_right row 38 b (map (say_prop s) ps) w e, last_says 31 ps, last_says 11 ps))
 
   props_says : (row : Row) (end : ℕ) → Forgets s end (Reading (if_some (say_props s row))) (block_of as_places row (props_as as_places) end) (block_of as_bytes row (props_as as_bytes) end)
   props_says row = block_says row (props_as as_places) (props_as as_bytes) (if_some (say_props s row)) (props_as_lem row)

@@ -274,10 +274,10 @@ module _ {S A : Type 0} (step : S → A → S) (t : S → A → Bool) {G : Gram 
   chain_run (more (only h g) c) = let (i, m) = chain_run c in (rw (h, i), more g m)
 
   run_chain : {σ : S} {vs : List A} {b : List ℕ} → Many G vs b → all_from step t σ vs ≡ true → Chain step (λ σ. Only (t σ) G) σ vs b
-  run_chain done h = done
+  run_chain {σ = σ} done h = done
   run_chain {σ = σ} (more {a = a} {vs = vs} g m) h =
       let (i, j) = and_both (t σ a) (all_from step t (step σ a) vs) h in
-      more (only i g) (run_chain m j)
+      more (only i g) (run_chain {σ = step σ a} m j)
 
   pub chain_only : (σ : S) (vs : List A) (b : List ℕ) → Chain step (λ σ. Only (t σ) G) σ vs b ↔ Only (all_from step t σ) (Many G) vs b
   chain_only σ vs b = (λ c. let (h, m) = chain_run c in only h m, back)
