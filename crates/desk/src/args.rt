@@ -1,4 +1,4 @@
-// The words that the program is started with: `desk [--limit N] [--topic FILTER] [--payload N] [--ascii] [FILE]``. With `--status` among them the exit status is written to
+// The words that the program is started with: `desk [--limit N] [--topic FILTER] [--payload N] [--ascii] [FILE]````. With ``--status` among them the exit status is written to
 // descriptor 3 as a digit: a program of Rattle has no exit status, and the script `desk` at the top gives it one.
 use desk_arguments::Asked;
 

@@ -8,13 +8,13 @@ use lib.ListN.{length, length-append}
 use Rattle.grammar.specs.Number.{Big, big, byte, Spells}
 use Rattle.grammar.specs.Gram.{mapped}
 use Rattle.grammar.specs.Tables.{Row, Layout, a_publish, an_ack, a_subscribe, a_reply, an_unsubscribe, a_ping, publish_row, subscribe_row, ack_row, unsubscribe_row}
-use Rattle.grammar.specs.Record.{PropOf, PublishProps, publish_props, Props, props_of, unless_empty}
+use Rattle.grammar.specs.Record.{PropOf, PublishProps, publish_props, Props, props_of, unless_empty, mk_publish, mk_subscribe, mk_reply, mk_unsubscribe}
 use Rattle.reading.specs.Refusal.{accepted}
 use Rattle.reading.specs.Reader.{got}
 use Rattle.reading.specs.Place.{Span, Placed, read_placed_of, on_some}
 use Rattle.reading.specs.Bounds.{bounds_of, ending_at, bounds_in, bounds_by}
 use Rattle.reading.proofs.Bounds.{read_bounds}
-use Rattle.placing.specs.Placing.{place_of, both, sized, ManyAt, done, handed, PropertyAt, BlockAt, publish_from, props_from, AckRestAt, plain, coded, full, FieldsAt, PlacedSentence, framed}
+use Rattle.placing.specs.Placing.{GramAt, place_of, both, sized, ManyAt, done, HandedAt, handed, PropertyAt, BlockAt, publish_from, props_from, AckRestAt, plain, coded, full, FieldsAt, PlacedSentence, framed}
 use Rattle.placing.specs.Stands.{block_place, HeadAt, of_publish_lem, of_ack_lem, of_subscribe_lem, of_reply_lem, of_unsubscribe_lem, short, pinged, StandsAt, present, absent, unsent, StandsIn, in_frame}
 use Rattle.placing.proofs.Placed.{read_placed}
 
@@ -27,19 +27,23 @@ none_empty done = refl
 -- a block of a row, whose record says where it stands, behind the fields h and before the bytes t
 module _ {X : Type 0} (place : Row) (g : Span → List (PropOf Span) → X) (user : X → Span) (u : (p : Span) (ps : List (PropOf Span)) → user (g p ps) ≡ p) {x at : ℕ} {l : Layout} {h : List ℕ} (H : HeadAt x at l h) (t : List ℕ) where
   block_stands : {o : Option X} {b : List ℕ} → BlockAt place (λ ps p. unless_empty (g p) ps) (at + length h) o b → StandsAt x at l (h ++ (b ++ t)) (on_some user o) (ending_at user (at + length h + length b) o)
-  block_stands (sized {b = b} {c = c} n (handed {a = []} m)) =
-      let z : length b ≡ 0 = ap length (none_empty m) in
-      let e : at + length h + length (c ++ b) ≡ at + length h + length c = omega (arith, length-append c b, z) in
-      subst (λ (i : ℕ). StandsAt x at l (h ++ ((c ++ b) ++ t)) none (i, i)) (sym e)
-      (absent h c t (ap (λ (r : List ℕ). h ++ ((c ++ r) ++ t)) (none_empty m) ∙ ap (λ (r : List ℕ). h ++ (r ++ t)) (append-nil c)) H (subst (λ (i : ℕ). Spells i c) z n))
-  block_stands (sized {b = b} {c = c} n (handed {a = p ∷ ps} m)) =
-      let e : at + length h + length c + length b ≡ at + length h + length (c ++ b) = omega (arith, length-append c b) in
-      let q : place_of (at + length h + length c) b ≡ user (g (place_of (at + length h + length c) b) (p ∷ ps)) = sym (u (place_of (at + length h + length c) b) (p ∷ ps)) in
-      subst (λ (z : Span × ℕ). StandsAt x at l (h ++ ((c ++ b) ++ t)) (some z.0) (z.0.start, z.1)) (pair_is q e)
-      (present h c b t (ap (λ (r : List ℕ). h ++ r) (append_assoc c b t)) H n place (p ∷ ps) m)
+  block_stands (sized {c = c} n w) = go c n w
     where
       pair_is : {x y : Span} {i j : ℕ} → x ≡ y → i ≡ j → ◌≡◌ {A = Span × ℕ} (x, i) (y, j)
       pair_is a b = rw (a, b)
+
+      go : (c : List ℕ) {b : List ℕ} → Spells (length b) c → {o : Option X} → HandedAt (λ ps p. unless_empty (g p) ps) (ManyAt (PropertyAt place)) (at + length h + length c) o b
+          → StandsAt x at l (h ++ ((c ++ b) ++ t)) (on_some user o) (ending_at user (at + length h + length (c ++ b)) o)
+      go c n (handed {a = []} {b = b} m) =
+          let z : length b ≡ 0 = ap length (none_empty m) in
+          let e : at + length h + length (c ++ b) ≡ at + length h + length c = omega (arith, length-append c b, z) in
+          subst (λ (i : ℕ). StandsAt x at l (h ++ ((c ++ b) ++ t)) none (i, i)) (sym e)
+          (absent h c t (ap (λ (r : List ℕ). h ++ ((c ++ r) ++ t)) (none_empty m) ∙ ap (λ (r : List ℕ). h ++ (r ++ t)) (append-nil c)) H (subst (λ (i : ℕ). Spells i c) z n))
+      go c n (handed {a = p ∷ ps} {b = b} m) =
+          let e : at + length h + length c + length b ≡ at + length h + length (c ++ b) = omega (arith, length-append c b) in
+          let q : place_of (at + length h + length c) b ≡ user (g (place_of (at + length h + length c) b) (p ∷ ps)) = sym (u (place_of (at + length h + length c) b) (p ∷ ps)) in
+          subst (λ (z : Span × ℕ). StandsAt x at l (h ++ ((c ++ b) ++ t)) (some z.0) (z.0.start, z.1)) (pair_is q e)
+          (present h c b t (ap (λ (r : List ℕ). h ++ r) (append_assoc c b t)) H n place (p ∷ ps) m)
 
 -- the blocks of the two shapes of records
 module _ {x at : ℕ} {l : Layout} {h : List ℕ} (H : HeadAt x at l h) (t : List ℕ) where
@@ -80,12 +84,23 @@ message_stands x at a i b d H {o = o} k =
     (subst (λ (m : ℕ). StandsAt x at a_publish ((a ++ i) ++ (b ++ d)) (on_some (λ ps. ps.user) o) (ending_at (λ ps. ps.user) (m + length b) o)) (sym n)
     (publish_block_lem H d (subst (λ (m : ℕ). BlockAt publish_row publish_from m o b) n k)))
 
+handed_place : {A : Type 0} {G : GramAt A} {q : ℕ} {c : Span} {d : List ℕ} → HandedAt (λ a p. p) G q c d → c ≡ place_of q d
+handed_place (handed p) = refl
+
 fields_stand : (l : Layout) (x at : ℕ) (v : Placed) (f : List ℕ) → FieldsAt l x at v f → StandsAt x at l f (block_place v) (bounds_in v (at + length f))
-fields_stand a_publish x at _ _ (mapped (both {b = a} t (both {b = i} n (both {b = b} k (handed {b = d} p))))) = message_stands x at a i b d (of_publish_lem (both t n)) k
+fields_stand a_publish x at _ _ (mapped (both {a = m} {b = a} t (both {a = id} {b = i} n (both {a = o} {c = c} {b = b} {d = d} k p)))) =
+    subst (λ (c : Span). StandsAt x at a_publish (a ++ (i ++ (b ++ d))) (on_some (λ ps. ps.user) o) (bounds_in (mk_publish x (m, (id, (o, c)))) (at + length (a ++ (i ++ (b ++ d))))))
+    (sym (handed_place p)) (message_stands x at a i b d (of_publish_lem (both t n)) k)
 fields_stand (an_ack rs) x at _ _ (mapped (both {b = a} i r)) = ack_stands rs x at a i r
-fields_stand a_subscribe x at _ _ (mapped (both i (both k (handed {b = d} r)))) = plain_block_lem (of_subscribe_lem i) d subscribe_row k
-fields_stand (a_reply rs) x at _ _ (mapped (both i (both k (handed {b = d} r)))) = plain_block_lem (of_reply_lem i) d ack_row k
-fields_stand an_unsubscribe x at _ _ (mapped (both i (both k (handed {b = d} r)))) = plain_block_lem (of_unsubscribe_lem i) d unsubscribe_row k
+fields_stand a_subscribe x at _ _ (mapped (both {a = id} {b = h} i (both {a = o} {c = c} {b = b} {d = d} k r))) =
+    subst (λ (c : Span). StandsAt x at a_subscribe (h ++ (b ++ d)) (on_some (λ ps. ps.user) o) (bounds_in (mk_subscribe (id, (o, c))) (at + length (h ++ (b ++ d)))))
+    (sym (handed_place r)) (plain_block_lem (of_subscribe_lem i) d subscribe_row k)
+fields_stand (a_reply rs) x at _ _ (mapped (both {a = id} {b = h} i (both {a = o} {c = c} {b = b} {d = d} k r))) =
+    subst (λ (c : Span). StandsAt x at (a_reply rs) (h ++ (b ++ d)) (on_some (λ ps. ps.user) o) (bounds_in (mk_reply x (id, (o, c))) (at + length (h ++ (b ++ d)))))
+    (sym (handed_place r)) (plain_block_lem (of_reply_lem i) d ack_row k)
+fields_stand an_unsubscribe x at _ _ (mapped (both {a = id} {b = h} i (both {a = o} {c = c} {b = b} {d = d} k r))) =
+    subst (λ (c : Span). StandsAt x at an_unsubscribe (h ++ (b ++ d)) (on_some (λ ps. ps.user) o) (bounds_in (mk_unsubscribe (id, (o, c))) (at + length (h ++ (b ++ d)))))
+    (sym (handed_place r)) (plain_block_lem (of_unsubscribe_lem i) d unsubscribe_row k)
 fields_stand a_ping x at _ _ (mapped i) = unsent pinged
 
 -- ---- the sentence, and the record that is read

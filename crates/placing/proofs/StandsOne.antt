@@ -70,6 +70,10 @@ some_byte (only_by t (next h g)) = omega arith
 
 -- where no length is sent, none is
 not_both : {x at : ℕ} {l : Layout} {f : List ℕ} {z : ℕ × ℕ} → SentAt x at l f z → NoLength l f → ⊥
+not_both (sent h c r e (of_publish_lem _) N) s = elim s [ ]
+not_both (sent h c r e (of_subscribe_lem _) N) s = elim s [ ]
+not_both (sent h c r e (of_reply_lem _) N) s = elim s [ ]
+not_both (sent h c r e (of_unsubscribe_lem _) N) s = elim s [ ]
 not_both (sent h c r e (of_ack_lem (both {b = a} (big k) (byte {x = d}))) N) (short s) =
     omega (arith, s, ap length e, length-append (a ++ (d ∷ [])) (c ++ r), length-append a (d ∷ []), length-append c r, k, some_byte N)
 

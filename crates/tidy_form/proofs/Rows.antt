@@ -41,8 +41,8 @@ module _ (row : Row) (i : ℕ) (f : Form) (e : form_at row i ≡ some f) where
       subst (λ (c : Form). Suits c p.1) m s
 
   last_from_lem : {o : Option Value} → Perhaps (Suits f) o → {ps : List Prop} → Each (SuitsIn row) ps → Perhaps (Suits f) (last_from o i ps)
-  last_from_lem h nil = h
-  last_from_lem {o} h (◌&◌ {a = p} s ss) = last_from_lem (go (eqb p.0 i) refl) ss
+  last_from_lem {o = o} h nil = h
+  last_from_lem {o = o} h (◌&◌ {a = p} s ss) = last_from_lem {o = cond (eqb p.0 i) (some p.1) o} (go (eqb p.0 i) refl) ss
     where
       go : (t : Bool) → eqb p.0 i ≡ t → Perhaps (Suits f) (cond t (some p.1) o)
       go true q = present (of_row p s q)

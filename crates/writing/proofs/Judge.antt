@@ -62,7 +62,7 @@ unfolding judge
 fields_pass nil = refl
 fields_pass (◌&◌ {a = f} {l = fs} p ps) = rw (fields_more f fs, field_pass f p) (fields_pass ps)
 
-pub fields_fault : {fs : List Field} {k : Refusal} → FirstFault k fs → judge (flat field_tests fs) ≡ bad k
+pub fields_fault : {k : Refusal} {fs : List Field} → FirstFault k fs → judge (flat field_tests fs) ≡ bad k
 fields_fault (r.FirstFault.here {f = f} {fs = fs} p) = rw (fields_more f fs, field_fault p)
 fields_fault (r.FirstFault.later {f = f} {fs = fs} p ps) = rw (fields_more f fs, field_pass f p) (fields_fault ps)
 
@@ -78,7 +78,7 @@ unfolding judge
 number_unfit (large {n = n} p) = rw (lt-leb n most p)
 number_unfit nought = refl
 
-pub numbers_fault : {ns : List ℕ} {k : Refusal} → FirstUnfit k ns → judge (flat number_tests ns) ≡ bad k
+pub numbers_fault : {k : Refusal} {ns : List ℕ} → FirstUnfit k ns → judge (flat number_tests ns) ≡ bad k
 unfolding judge
 numbers_fault (r.FirstUnfit.here {n = n} {ns = ns} p) = rw (judge_append (number_tests n) (flat number_tests ns), number_unfit p)
 numbers_fault (r.FirstUnfit.later {n = n} (p, q) ps) = rw (le-leb n most p, q) (numbers_fault ps)

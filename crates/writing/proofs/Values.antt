@@ -136,8 +136,8 @@ module _ (row : Row) where
   tag_one r σ ρ h n a (v ∷ w ∷ vs) l es k = absurd (omega arith)
 
   rows_fresh : (g : Givens) (σ ρ : List ℕ) → Among σ ρ → {rs : Forms} → Apart ρ rs → Each (RightRow g) rs → fresh_from σ (flat (λ r. tag r (items (g r.0))) rs) ≡ true
-  rows_fresh g σ ρ a d nil = refl
-  rows_fresh g σ ρ a (n, d) (◌&◌ {a = r} {l = rs} w ws) = go (is_list row r.0) refl (λ σ' a'. rows_fresh g σ' (r.0 ∷ ρ) a' d ws)
+  rows_fresh g σ ρ a {rs = []} d nil = refl
+  rows_fresh g σ ρ a {rs = r ∷ rs} (n, d) (◌&◌ w ws) = go (is_list row r.0) refl (λ σ' a'. rows_fresh g σ' (r.0 ∷ ρ) a' d ws)
     where
       go : (t : Bool) → is_list row r.0 ≡ t → ((σ' : List ℕ) → Among σ' (r.0 ∷ ρ) → fresh_from σ' (flat (λ r. tag r (items (g r.0))) rs) ≡ true)
           → fresh_from σ (flat (λ r. tag r (items (g r.0))) (r ∷ rs)) ≡ true
