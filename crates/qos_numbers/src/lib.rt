@@ -1,5 +1,7 @@
 // The numbers of qualities of service, forward rules and flags, and what a number stands for, after the helpers of mqttbytes/mod.rs
 // and subscribe.rs.
+#![tactic(auto)]
+
 ghost use Rattle.std.specs.Prelude.{◌≡◌, ◌≤◌};
 ghost use Rattle.records.specs.AsNumbers.{told_bool, told_qos, told_rule};
 ghost use Rattle.records.specs.Answered.{told_got_rule, rule_of};

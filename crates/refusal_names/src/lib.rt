@@ -1,4 +1,6 @@
 // The name of each refusal, as a program prints it.
+#![tactic(auto)]
+
 pub mod text;
 
 ghost use Rattle.std.specs.Prelude.{◌≡◌, ◌+◌, ◌≤◌, length, take, drop};

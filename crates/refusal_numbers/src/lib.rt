@@ -1,4 +1,6 @@
 // The numbers and values of the refusals (01, "When the desk says no").
+#![tactic(auto)]
+
 ghost use Rattle.std.specs.Prelude.{◌≡◌};
 ghost use Rattle.records.specs.AsNumbers.{told_error, row_of, values_of, told_values};
 

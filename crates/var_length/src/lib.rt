@@ -1,4 +1,6 @@
 // The variable length number, after `length` of v5/mod.rs: one to four bytes, seven bits each, low group first.
+#![tactic(auto)]
+
 ghost use Rattle.std.specs.Prelude.{◌≡◌, ◌||◌, ◌<◌, leb};
 ghost use Rattle.reading.specs.Refusal.{Refusal, cut};
 ghost use Rattle.reading.specs.Read.{num_of};

@@ -1,4 +1,6 @@
 // Bytes put at an index of an output: `extend_from_slice` of v5/mod.rs. What would lie past the end is not stored.
+#![tactic(auto)]
+
 ghost use Rattle.std.specs.Prelude.{◌≡◌, ◌∷◌, [], ◌+◌, ◌-◌, ◌≤◌, ◌<◌, min, length, take, drop};
 ghost use Rattle.std.proofs.lemmas.List.Edits.{sets};
 ghost use Rattle.write_bytes.specs.Further.{Further};
