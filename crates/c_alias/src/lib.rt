@@ -55,8 +55,7 @@ fn store_placed(placed: Placed, into: &mut [u64]) -> u32
 }
 
 // Of a Publish whose own topic stands at a place of the stream: 0, or the refusal's number; the alias is set.
-#[unsafe(no_mangle)]
-pub extern "C" fn ecch_alias_learn(
+pub fn ecch_alias_learn(
     stream: &[u8],
     start: usize,
     len: usize,
@@ -74,8 +73,7 @@ pub extern "C" fn ecch_alias_learn(
 }
 
 // Where the topic in force of such a Publish lies: 0, or the refusal's number; which slice, start and length are stored.
-#[unsafe(no_mangle)]
-pub extern "C" fn ecch_topic_in_force(
+pub fn ecch_topic_in_force(
     stream: &[u8],
     start: usize,
     len: usize,

@@ -82,8 +82,7 @@ fn store_answer(found: FilterTable, taken: usize, answer: &mut [u64]) -> u32
 }
 
 // The filters of the Subscribe at the start of the stream, read with no limit, in order: 0, or the refusal's number, 37 and 38 among them.
-#[unsafe(no_mangle)]
-pub extern "C" fn ecch_filter_table(stream: &[u8], table: &mut [u64], answer: &mut [u64]) -> u32
+pub fn ecch_filter_table(stream: &[u8], table: &mut [u64], answer: &mut [u64]) -> u32
     ensures number { result ≡ table_number (said_of stream.now (places_in table.old)) }
     ensures filled { table.new ≡ table_as stream.now table.old }
     ensures stored { answer.new ≡ sets answer.old 0 (answer_numbers (taken_in (read_placed_of none stream.now)) (said_of stream.now (places_in table.old))) }

@@ -283,8 +283,7 @@ fn waits(codes: &[u8]) -> Outcome
 // ---- what C calls
 
 // All free: 0, or 39 if there is not a byte for each identifier.
-#[unsafe(no_mangle)]
-pub extern "C" fn ecch_inflight_start(table: &mut [u8]) -> u32
+pub fn ecch_inflight_start(table: &mut [u8]) -> u32
     ensures { Ends (start_given table.old) result table.new }
 {
     if table.len() != LIMIT {
@@ -295,8 +294,7 @@ pub extern "C" fn ecch_inflight_start(table: &mut [u8]) -> u32
 }
 
 // An identifier for a message about to be sent: 0, or the refusal's number, 11 for a QoS above 2, 39 for bytes that are no table.
-#[unsafe(no_mangle)]
-pub extern "C" fn ecch_inflight_claim(qos: u8, table: &mut [u8], answer: &mut [u64]) -> u32
+pub fn ecch_inflight_claim(qos: u8, table: &mut [u8], answer: &mut [u64]) -> u32
     ensures left { Ends (claim_given qos table.old) result table.new }
     ensures stored { answer.new ≡ sets answer.old 0 (value_of (claim_given qos table.old).says ∷ []) }
 {
@@ -307,8 +305,7 @@ pub extern "C" fn ecch_inflight_claim(qos: u8, table: &mut [u8], answer: &mut [u
 }
 
 // An acknowledgement that was read, by the number of its kind: 0, or 31, or 39.
-#[unsafe(no_mangle)]
-pub extern "C" fn ecch_inflight_acked(
+pub fn ecch_inflight_acked(
     kind: u8,
     id: u16,
     reason: u8,
@@ -325,8 +322,7 @@ pub extern "C" fn ecch_inflight_acked(
 }
 
 // How many identifiers wait: 0 and their number, or 39.
-#[unsafe(no_mangle)]
-pub extern "C" fn ecch_inflight_waiting(table: &[u8], answer: &mut [u64]) -> u32
+pub fn ecch_inflight_waiting(table: &[u8], answer: &mut [u64]) -> u32
     ensures number { result ≡ waiting_number table.now }
     ensures stored { answer.new ≡ sets answer.old 0 (waiting_value table.now ∷ []) }
 {

@@ -163,8 +163,7 @@ fn found(f: Found) -> Outcome
 }
 
 // Zeroes the area: 0 or 32.
-#[unsafe(no_mangle)]
-pub extern "C" fn ecch_journal_start(area: &mut [u8]) -> u32
+pub fn ecch_journal_start(area: &mut [u8]) -> u32
     ensures { Ends (start_of area.old) result area.new }
 {
     let s = start(&mut *area);
@@ -175,8 +174,7 @@ pub extern "C" fn ecch_journal_start(area: &mut [u8]) -> u32
 }
 
 // Stores the table under the next number: 0, or 32 before all else, 39 for bytes that are no table, 34.
-#[unsafe(no_mangle)]
-pub extern "C" fn ecch_journal_save(table: &[u8], area: &mut [u8], answer: &mut [u64]) -> u32
+pub fn ecch_journal_save(table: &[u8], area: &mut [u8], answer: &mut [u64]) -> u32
     ensures left { Ends (save_given table.now area.old) result area.new }
     ensures stored { answer.new ≡ sets answer.old 0 (first_of (save_given table.now area.old).says ∷ block_of (save_given table.now area.old).says ∷ []) }
 {
@@ -188,8 +186,7 @@ pub extern "C" fn ecch_journal_save(table: &[u8], area: &mut [u8], answer: &mut 
 
 // The table of the latest save, and its number. 39 if the table has no room for a byte of each identifier, unless the area is bad: then the
 // lent table stays.
-#[unsafe(no_mangle)]
-pub extern "C" fn ecch_journal_recover(area: &[u8], table: &mut [u8], answer: &mut [u64]) -> u32
+pub fn ecch_journal_recover(area: &[u8], table: &mut [u8], answer: &mut [u64]) -> u32
     ensures number { result ≡ recover_number (recoverOf limit area.now) (length table.old) }
     ensures left { table.new ≡ unless_bad_area (number_of (recoverOf limit area.now)) (stored (table_of (recoverOf limit area.now)) table.old) table.old }
     ensures stored { answer.new ≡ sets answer.old 0 (first_of (recoverOf limit area.now) ∷ []) }

@@ -165,8 +165,7 @@ fn step_of(limit: Limit, state: &mut [u64], buffer: &mut [u8], piece: &[u8]) -> 
 }
 
 // The next frame, of the bytes held and the piece behind them: 0, or the refusal's number; 35 too where the numbers stand for no state.
-#[unsafe(no_mangle)]
-pub extern "C" fn ecch_next_frame(
+pub fn ecch_next_frame(
     limited: u8,
     limit: usize,
     state: &mut [u64],

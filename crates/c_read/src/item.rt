@@ -11,8 +11,7 @@ use c_layout_item;
 use records::span::Span;
 
 // Key and value of the n-th user property of a kind's block: 0, or 21.
-#[unsafe(no_mangle)]
-pub extern "C" fn ecch_user_property(
+pub fn ecch_user_property(
     stream: &[u8],
     kind: u8,
     start: usize,
@@ -28,8 +27,7 @@ pub extern "C" fn ecch_user_property(
 }
 
 // The n-th subscription identifier of a Publish: 0, or 21.
-#[unsafe(no_mangle)]
-pub extern "C" fn ecch_subscription_identifier(
+pub fn ecch_subscription_identifier(
     stream: &[u8],
     start: usize,
     len: usize,
@@ -44,8 +42,7 @@ pub extern "C" fn ecch_subscription_identifier(
 }
 
 // Text and options of the n-th filter: 0, or 21.
-#[unsafe(no_mangle)]
-pub extern "C" fn ecch_filter(
+pub fn ecch_filter(
     stream: &[u8],
     start: usize,
     len: usize,
@@ -60,8 +57,7 @@ pub extern "C" fn ecch_filter(
 }
 
 // The n-th reason of a SubAck or UnsubAck: 0, or 21.
-#[unsafe(no_mangle)]
-pub extern "C" fn ecch_reason(
+pub fn ecch_reason(
     stream: &[u8],
     kind: u8,
     start: usize,
@@ -77,8 +73,7 @@ pub extern "C" fn ecch_reason(
 }
 
 // Where the n-th topic of an Unsubscribe stands: 0, or 21.
-#[unsafe(no_mangle)]
-pub extern "C" fn ecch_topic(
+pub fn ecch_topic(
     stream: &[u8],
     start: usize,
     len: usize,

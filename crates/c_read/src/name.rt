@@ -8,8 +8,7 @@ use wire::string;
 use write_bytes::put_bytes;
 
 // How many bytes the name has; those that fit are stored.
-#[unsafe(no_mangle)]
-pub extern "C" fn ecch_name(number: u32, into: &mut [u8]) -> usize
+pub fn ecch_name(number: u32, into: &mut [u8]) -> usize
     ensures size { result ≡ length (name_at number) }
     ensures stored { into.new ≡ sets into.old 0 (name_at number) }
 {

@@ -11,8 +11,7 @@ use c_layout_item::next::{store_next_filter, store_next_topic, store_property};
 
 // Identifier and value of the property at an index of a block that ends where C says: 0, or the refusal's number. What came before it is not
 // known, so it is never 22.
-#[unsafe(no_mangle)]
-pub extern "C" fn ecch_property(
+pub fn ecch_property(
     stream: &[u8],
     kind: u8,
     at: usize,
@@ -27,8 +26,7 @@ pub extern "C" fn ecch_property(
 }
 
 // Text and options of the filter at an index of a run that ends where C says: 0, or the refusal's number.
-#[unsafe(no_mangle)]
-pub extern "C" fn ecch_next_filter(stream: &[u8], at: usize, end: usize, into: &mut [u64]) -> u32
+pub fn ecch_next_filter(stream: &[u8], at: usize, end: usize, into: &mut [u64]) -> u32
     ensures number { result ≡ fit_number (filter_up_to stream.now at end) }
     ensures stored { into.new ≡ sets into.old 0 (next_filter_numbers (filter_up_to stream.now at end)) }
 {
@@ -37,8 +35,7 @@ pub extern "C" fn ecch_next_filter(stream: &[u8], at: usize, end: usize, into: &
 }
 
 // Where the topic at an index of a run that ends where C says stands: 0, or the refusal's number.
-#[unsafe(no_mangle)]
-pub extern "C" fn ecch_next_topic(stream: &[u8], at: usize, end: usize, into: &mut [u64]) -> u32
+pub fn ecch_next_topic(stream: &[u8], at: usize, end: usize, into: &mut [u64]) -> u32
     ensures number { result ≡ fit_number (topic_up_to stream.now at end) }
     ensures stored { into.new ≡ sets into.old 0 (next_topic_numbers (topic_up_to stream.now at end)) }
 {

@@ -14,8 +14,7 @@ use records::span::Span;
 use wire::string;
 
 // 0, or the refusal's number; the numbers of the layout are stored, as many as the array holds.
-#[unsafe(no_mangle)]
-pub extern "C" fn ecch_read(stream: &[u8], limited: u8, limit: usize, into: &mut [u64]) -> u32
+pub fn ecch_read(stream: &[u8], limited: u8, limit: usize, into: &mut [u64]) -> u32
     ensures number { result ≡ read_number (read_placed_of (limit_given limited limit) stream.now) }
     ensures stored { into.new ≡ sets into.old 0 (encoded (read_placed_of (limit_given limited limit) stream.now) (bounds_of (limit_given limited limit) stream.now)) }
 {
@@ -24,8 +23,7 @@ pub extern "C" fn ecch_read(stream: &[u8], limited: u8, limit: usize, into: &mut
 }
 
 // 0 if all of the place lies within the stream, an empty one too; else 21.
-#[unsafe(no_mangle)]
-pub extern "C" fn ecch_part(stream: &[u8], start: usize, len: usize) -> u32
+pub fn ecch_part(stream: &[u8], start: usize, len: usize) -> u32
     ensures { result ≡ fit_number (guard (lies_in stream.now (record { start = start; len = len })) no_item) }
 {
     if string::within(stream, Span { start, len }) {

@@ -43,8 +43,7 @@ fn store_tidied(t: Tidied, answer: &mut [u64]) -> u32
 }
 
 // The tidy form of the frame at the start of the stream, put at the start of `out`: 0, or the refusal's number.
-#[unsafe(no_mangle)]
-pub extern "C" fn ecch_tidy(stream: &[u8], out: &mut [u8], answer: &mut [u64]) -> u32
+pub fn ecch_tidy(stream: &[u8], out: &mut [u8], answer: &mut [u64]) -> u32
     ensures number { result ≡ tidy_number (size_in (tidied_of stream.now (length out.old))) }
     ensures put { out.new ≡ stands_in out.old (tidied_of stream.now (length out.old)) }
     ensures stored { answer.new ≡ sets answer.old 0 (tidy_numbers (size_in (tidied_of stream.now (length out.old)))) }

@@ -14,32 +14,28 @@ fn flag(b: bool) -> u8
 }
 
 // Does a topic or filter have wildcards? 1 or 0, here and below.
-#[unsafe(no_mangle)]
-pub extern "C" fn ecch_has_wildcards(s: &[u8]) -> u8
+pub fn ecch_has_wildcards(s: &[u8]) -> u8
     ensures { result ≡ flag_of (has_wild s.now) }
 {
     flag(topics::has_wildcards(s))
 }
 
 // Is a topic valid?
-#[unsafe(no_mangle)]
-pub extern "C" fn ecch_valid_topic(topic: &[u8]) -> u8
+pub fn ecch_valid_topic(topic: &[u8]) -> u8
     ensures { result ≡ flag_of (valid_topic topic.now) }
 {
     flag(topics::valid_topic(topic))
 }
 
 // Is a filter valid?
-#[unsafe(no_mangle)]
-pub extern "C" fn ecch_valid_filter(filter: &[u8]) -> u8
+pub fn ecch_valid_filter(filter: &[u8]) -> u8
     ensures { result ≡ flag_of (valid_filter filter.now) }
 {
     flag(topics::valid_filter(filter))
 }
 
 // Does the filter match the topic?
-#[unsafe(no_mangle)]
-pub extern "C" fn ecch_matches(topic: &[u8], filter: &[u8]) -> u8
+pub fn ecch_matches(topic: &[u8], filter: &[u8]) -> u8
     ensures { result ≡ flag_of (matches_of topic.now filter.now) }
 {
     flag(topics::matches(topic, filter))

@@ -48,8 +48,7 @@ fn step_numbers(next: usize, item: UserItem) -> [u64; 5]
 }
 
 // The next user property from an index on, in the bytes before another, in the row of a kind: 0, or 21 when there is none left.
-#[unsafe(no_mangle)]
-pub extern "C" fn ecch_next_user(
+pub fn ecch_next_user(
     frame: &[u8],
     kind: u8,
     at: usize,

@@ -63,8 +63,7 @@ fn ack_write(
 }
 
 // The size of a PubAck: 0, or the refusal's number.
-#[unsafe(no_mangle)]
-pub extern "C" fn ecch_puback_size(
+pub fn ecch_puback_size(
     pkid: u16,
     reason: u8,
     block: u8,
@@ -91,8 +90,7 @@ pub extern "C" fn ecch_puback_size(
 }
 
 // A PubAck written: 0, or the refusal's number.
-#[unsafe(no_mangle)]
-pub extern "C" fn ecch_puback_write(
+pub fn ecch_puback_write(
     pkid: u16,
     reason: u8,
     block: u8,
@@ -126,8 +124,7 @@ pub extern "C" fn ecch_puback_write(
 }
 
 // The size of a PubRec: 0, or the refusal's number.
-#[unsafe(no_mangle)]
-pub extern "C" fn ecch_pubrec_size(
+pub fn ecch_pubrec_size(
     pkid: u16,
     reason: u8,
     block: u8,
@@ -154,8 +151,7 @@ pub extern "C" fn ecch_pubrec_size(
 }
 
 // A PubRec written: 0, or the refusal's number.
-#[unsafe(no_mangle)]
-pub extern "C" fn ecch_pubrec_write(
+pub fn ecch_pubrec_write(
     pkid: u16,
     reason: u8,
     block: u8,
@@ -189,8 +185,7 @@ pub extern "C" fn ecch_pubrec_write(
 }
 
 // The size of a PubRel: 0, or the refusal's number.
-#[unsafe(no_mangle)]
-pub extern "C" fn ecch_pubrel_size(
+pub fn ecch_pubrel_size(
     pkid: u16,
     reason: u8,
     block: u8,
@@ -217,8 +212,7 @@ pub extern "C" fn ecch_pubrel_size(
 }
 
 // A PubRel written: 0, or the refusal's number.
-#[unsafe(no_mangle)]
-pub extern "C" fn ecch_pubrel_write(
+pub fn ecch_pubrel_write(
     pkid: u16,
     reason: u8,
     block: u8,
@@ -252,8 +246,7 @@ pub extern "C" fn ecch_pubrel_write(
 }
 
 // The size of a PubComp: 0, or the refusal's number.
-#[unsafe(no_mangle)]
-pub extern "C" fn ecch_pubcomp_size(
+pub fn ecch_pubcomp_size(
     pkid: u16,
     reason: u8,
     block: u8,
@@ -280,8 +273,7 @@ pub extern "C" fn ecch_pubcomp_size(
 }
 
 // A PubComp written: 0, or the refusal's number.
-#[unsafe(no_mangle)]
-pub extern "C" fn ecch_pubcomp_write(
+pub fn ecch_pubcomp_write(
     pkid: u16,
     reason: u8,
     block: u8,

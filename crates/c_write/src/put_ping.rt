@@ -11,8 +11,7 @@ use c_arguments::number::bound;
 use c_layout::answer::{as_written, store_written};
 
 // The size of either ping: 0, and 2 is stored.
-#[unsafe(no_mangle)]
-pub extern "C" fn ecch_ping_size(answer: &mut [u64]) -> u32
+pub fn ecch_ping_size(answer: &mut [u64]) -> u32
     ensures { (k : ℕ) → (result ≡ fit_number (size_of (ping k))) × (answer.new ≡ sets answer.old 0 (answer_numbers (size_of (ping k)))) }
 {
     let size = as_written(ping::ping_size());
@@ -20,8 +19,7 @@ pub extern "C" fn ecch_ping_size(answer: &mut [u64]) -> u32
 }
 
 // A PingReq written: 0, or the refusal's number.
-#[unsafe(no_mangle)]
-pub extern "C" fn ecch_pingreq_write(
+pub fn ecch_pingreq_write(
     limited: u8,
     limit: usize,
     out: &mut [u8],
@@ -36,8 +34,7 @@ pub extern "C" fn ecch_pingreq_write(
 }
 
 // A PingResp written: 0, or the refusal's number.
-#[unsafe(no_mangle)]
-pub extern "C" fn ecch_pingresp_write(
+pub fn ecch_pingresp_write(
     limited: u8,
     limit: usize,
     out: &mut [u8],

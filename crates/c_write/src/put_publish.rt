@@ -14,8 +14,7 @@ use c_heads::publish_by::publish_head;
 use c_layout::answer::store_written;
 
 // The size of a Publish: 0, or the refusal's number: 20, a number whose flag is off included, then 11 for a QoS above 2, then its own order.
-#[unsafe(no_mangle)]
-pub extern "C" fn ecch_publish_size(
+pub fn ecch_publish_size(
     dup: u8,
     qos: u8,
     retain: u8,
@@ -74,8 +73,7 @@ pub extern "C" fn ecch_publish_size(
 }
 
 // A Publish written: 0, or the refusal's number, in the same order.
-#[unsafe(no_mangle)]
-pub extern "C" fn ecch_publish_write(
+pub fn ecch_publish_write(
     dup: u8,
     qos: u8,
     retain: u8,

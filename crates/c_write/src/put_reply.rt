@@ -64,8 +64,7 @@ fn reply_write(
 }
 
 // The size of a SubAck: 0, or the refusal's number.
-#[unsafe(no_mangle)]
-pub extern "C" fn ecch_suback_size(
+pub fn ecch_suback_size(
     pkid: u16,
     block: u8,
     reason_string_on: u8,
@@ -92,8 +91,7 @@ pub extern "C" fn ecch_suback_size(
 }
 
 // A SubAck written: 0, or the refusal's number.
-#[unsafe(no_mangle)]
-pub extern "C" fn ecch_suback_write(
+pub fn ecch_suback_write(
     pkid: u16,
     block: u8,
     reason_string_on: u8,
@@ -127,8 +125,7 @@ pub extern "C" fn ecch_suback_write(
 }
 
 // The size of an UnsubAck: 0, or the refusal's number.
-#[unsafe(no_mangle)]
-pub extern "C" fn ecch_unsuback_size(
+pub fn ecch_unsuback_size(
     pkid: u16,
     block: u8,
     reason_string_on: u8,
@@ -155,8 +152,7 @@ pub extern "C" fn ecch_unsuback_size(
 }
 
 // An UnsubAck written: 0, or the refusal's number.
-#[unsafe(no_mangle)]
-pub extern "C" fn ecch_unsuback_write(
+pub fn ecch_unsuback_write(
     pkid: u16,
     block: u8,
     reason_string_on: u8,

@@ -14,8 +14,7 @@ use c_heads::subscribe_by::subscribe_head;
 use c_layout::answer::store_written;
 
 // The size of a Subscribe: 0, or the refusal's number: 20, its identifier with the flag off included, then its own order.
-#[unsafe(no_mangle)]
-pub extern "C" fn ecch_subscribe_size(
+pub fn ecch_subscribe_size(
     pkid: u16,
     block: u8,
     identifier_on: u8,
@@ -36,8 +35,7 @@ pub extern "C" fn ecch_subscribe_size(
 }
 
 // A Subscribe written: 0, or the refusal's number, in the same order.
-#[unsafe(no_mangle)]
-pub extern "C" fn ecch_subscribe_write(
+pub fn ecch_subscribe_write(
     pkid: u16,
     block: u8,
     identifier_on: u8,

@@ -13,8 +13,7 @@ use c_heads::unsubscribe_by::unsubscribe_head;
 use c_layout::answer::{as_written, store_written};
 
 // The size of an Unsubscribe: 0, or the refusal's number.
-#[unsafe(no_mangle)]
-pub extern "C" fn ecch_unsubscribe_size(
+pub fn ecch_unsubscribe_size(
     pkid: u16,
     block: u8,
     user: &[u8],
@@ -32,8 +31,7 @@ pub extern "C" fn ecch_unsubscribe_size(
 }
 
 // An Unsubscribe written: 0, or the refusal's number.
-#[unsafe(no_mangle)]
-pub extern "C" fn ecch_unsubscribe_write(
+pub fn ecch_unsubscribe_write(
     pkid: u16,
     block: u8,
     user: &[u8],
