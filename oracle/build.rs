@@ -9,7 +9,7 @@ fn main() {
         Err(_) => Path::new(&env::var("CARGO_MANIFEST_DIR").unwrap()).join("../target/staticlib"),
     };
     println!("cargo:rustc-link-search=native={}", dir.display());
-    for lib in ["speed_leaves", "speed_reading", "speed_writing", "ecchjulmina", "c_topics"] {
+    for lib in ["speed_leaves", "speed_reading", "speed_writing", "ecchjulmina"] {
         println!("cargo:rerun-if-changed={}", dir.join(format!("lib{lib}.a")).display());
     }
 }

@@ -15,9 +15,9 @@ pub struct Side {
 /// An answer, or none: the text stopped.
 pub type Answer = Option<bool>;
 
-#[cfg(feature = "c_topics")]
+#[cfg(feature = "ecchjulmina")]
 mod port {
-    #[link(name = "c_topics", kind = "static")]
+    #[link(name = "ecchjulmina", kind = "static")]
     extern "C" {
         fn ecch_has_wildcards(s: *const u8, len: usize) -> u8;
         fn ecch_valid_topic(topic: *const u8, len: usize) -> u8;
@@ -46,11 +46,11 @@ mod port {
         flag(unsafe { ecch_matches(topic.as_ptr(), topic.len(), filter.as_ptr(), filter.len()) })
     }
 }
-#[cfg(feature = "c_topics")]
+#[cfg(feature = "ecchjulmina")]
 pub use port::*;
 
 /// The port over any bytes; over text as a `Side`.
-#[cfg(feature = "c_topics")]
+#[cfg(feature = "ecchjulmina")]
 pub const PORT: Side = Side {
     name: "port",
     has_wildcards: |s| Some(port::has_wildcards(s.as_bytes())),
