@@ -26,7 +26,7 @@ pub struct Place {
 }
 
 // The place of identifier n is at n - 1.
-#[derive(Drop)]
+#[derive(Clone, Copy)]
 pub struct InFlight {
     pub places: [Place; LIMIT],
 }
