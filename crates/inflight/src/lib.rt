@@ -12,7 +12,7 @@ use records::qos::QoS;
 pub const LIMIT: usize = 1024;
 
 // What the place of an identifier waits for.
-#[derive(Drop)]
+#[derive(Clone, Copy)]
 pub enum Wait {
     Free,
     PubAck,
@@ -20,7 +20,7 @@ pub enum Wait {
     PubComp,
 }
 
-#[derive(Drop)]
+#[derive(Clone, Copy)]
 pub struct Place {
     pub wait: Wait,
 }
@@ -31,7 +31,7 @@ pub struct InFlight {
     pub places: [Place; LIMIT],
 }
 
-#[derive(Drop)]
+#[derive(Clone, Copy)]
 pub enum Claim {
     // the identifier that was free and now waits
     Granted(u16),
@@ -41,13 +41,13 @@ pub enum Claim {
     NoClaim,
 }
 
-#[derive(Drop)]
+#[derive(Clone, Copy)]
 pub struct Claimed {
     pub table: InFlight,
     pub claim: Claim,
 }
 
-#[derive(Drop)]
+#[derive(Clone, Copy)]
 pub enum Answer {
     // the identifier is free again
     Freed,
@@ -57,7 +57,7 @@ pub enum Answer {
     NotWaiting,
 }
 
-#[derive(Drop)]
+#[derive(Clone, Copy)]
 pub struct Answered {
     pub table: InFlight,
     pub answer: Answer,

@@ -13,7 +13,7 @@ use crc32::crc32 as crc_of;
 use inflight::{InFlight, LIMIT, Place, code, wait_of};
 
 // What starting answers.
-#[derive(Drop)]
+#[derive(Clone, Copy)]
 pub enum Started {
     Zeroed,
     // 32: not two or more whole blocks
@@ -21,7 +21,7 @@ pub enum Started {
 }
 
 // What a save answers: the number, and the block of 512 bytes that changed.
-#[derive(Drop)]
+#[derive(Clone, Copy)]
 pub enum Saved {
     Stored { number: u64, block: usize },
     // 32: not two or more whole blocks
@@ -31,7 +31,7 @@ pub enum Saved {
 }
 
 // The number of the block whose table was taken, or a refusal.
-#[derive(Drop)]
+#[derive(Clone, Copy)]
 pub enum Found {
     Number(u64),
     // 32: not two or more whole blocks
@@ -41,7 +41,7 @@ pub enum Found {
 }
 
 // What recovery answers; a fresh table unless one was found.
-#[derive(Drop)]
+#[derive(Clone, Copy)]
 pub struct Recovered {
     pub found: Found,
     pub table: InFlight,
@@ -312,7 +312,7 @@ fn put_block(out: &mut [u8], number: u64, table: InFlight)
 // ---- the calls
 
 // The highest number of good blocks so far, 0 if there was none, and where that block stands.
-#[derive(Drop)]
+#[derive(Clone, Copy)]
 struct Best {
     number: u64,
     at: usize,

@@ -314,7 +314,7 @@ pub fn valid_filter(filter: &[u8]) -> bool
 // ---- matching
 
 // What the first levels of topic and filter say: the answer, or where the rest of each begins.
-#[derive(Drop)]
+#[derive(Clone, Copy)]
 enum Met {
     Decided(bool),
     Rest(usize, usize),
