@@ -22,14 +22,14 @@ use tables::property::OtherRow;
 use tables::reason::is_ack_reason;
 use wire::string;
 
-#[derive(Drop)]
+#[derive(Clone, Copy)]
 pub enum GotAck {
     Value(Ack),
     Refused(Error),
 }
 
 // What follows the reason, to the end of the frame.
-#[derive(Drop)]
+#[derive(Clone, Copy)]
 enum GotLastBlock {
     Value(MaybeProperties),
     Refused(Error),

@@ -27,7 +27,7 @@ use write_runs::run;
 use write_tests::Tested;
 
 // What is handed over by value; the reason string and the user properties are lent beside it.
-#[derive(Drop)]
+#[derive(Clone, Copy)]
 pub struct AckHead {
     pub kind: AckKind,
     pub pkid: u16,

@@ -14,7 +14,7 @@ use records::span::{MaybeU16, Span};
 use wire::string;
 
 // The refusals of P6, in its order: 24 to 28.
-#[derive(Drop)]
+#[derive(Clone, Copy)]
 pub enum AliasError {
     // 24: the table has the wrong size, or a stored length above 128
     AliasTableBad,
@@ -43,7 +43,7 @@ pub fn number(e: AliasError) -> u8
 
 // ---- which messages are refused
 
-#[derive(Drop)]
+#[derive(Clone, Copy)]
 pub enum Judged {
     Permitted,
     Refused(AliasError),
@@ -182,7 +182,7 @@ pub fn learn(table: &mut [u8], stream: &[u8], m: Publish) -> Judged
 // ---- the topic in force
 
 // Where the topic in force lies: in the stream that the packet was read from, or in the table.
-#[derive(Drop)]
+#[derive(Clone, Copy)]
 pub enum Placed {
     InPacket(Span),
     InTable(Span),

@@ -19,7 +19,7 @@ pub const NOT_WAITING: u32 = 31;
 pub const BAD_TABLE: u32 = 39;
 
 // What a call returns and stores.
-#[derive(Drop)]
+#[derive(Clone, Copy)]
 struct Outcome {
     number: u32,
     value: u64,

@@ -21,7 +21,7 @@ pub const JOURNAL_ENDED: u32 = 34;
 // ---- a table as the lent bytes of c_inflight, one for each identifier
 
 // The table of those bytes, if they are one.
-#[derive(Drop)]
+#[derive(Clone, Copy)]
 struct FromCodes {
     fine: bool,
     table: InFlight,
@@ -72,7 +72,7 @@ fn put_all(table: InFlight, out: &mut [u8])
 // ---- saving and recovering
 
 // What a save returns and stores.
-#[derive(Drop)]
+#[derive(Clone, Copy)]
 struct Outcome {
     number: u32,
     first: u64,

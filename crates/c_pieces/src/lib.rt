@@ -15,13 +15,13 @@ use pieces::{End, Given, State, Step, Stop};
 use records::answer::Limit;
 use records::error::Error;
 
-#[derive(Drop)]
+#[derive(Clone, Copy)]
 enum GotEnd {
     Bad,
     End(End),
 }
 
-#[derive(Drop)]
+#[derive(Clone, Copy)]
 enum GotState {
     Bad,
     State(State),

@@ -12,7 +12,7 @@ use wire::got::GotSpan;
 use wire::string;
 
 // What a list is made of.
-#[derive(Drop)]
+#[derive(Clone, Copy)]
 enum Items {
     // user properties, and the place of their block
     Users(PropertyRow),
@@ -24,7 +24,7 @@ enum Items {
 }
 
 // Where the output goes on, and the list; no further than before where nothing is left.
-#[derive(Drop)]
+#[derive(Clone, Copy)]
 struct Step {
     put: usize,
     next: usize,

@@ -7,7 +7,7 @@ ghost use Rattle.desk_arguments.specs.Words.{same, is_option, grow, number_of, t
 use records::answer::Limit;
 
 // How lines are shown.
-#[derive(Drop)]
+#[derive(Clone, Copy)]
 pub struct Style {
     // every byte that is not ASCII as `\xHH`
     pub ascii: bool,
@@ -18,7 +18,7 @@ pub struct Style {
 }
 
 // What the next word is.
-#[derive(Drop)]
+#[derive(Clone, Copy)]
 pub enum Awaited {
     Nothing,
     Limit,
@@ -26,7 +26,7 @@ pub enum Awaited {
     Payload,
 }
 
-#[derive(Drop)]
+#[derive(Clone, Copy)]
 pub struct Asked {
     // which word names the file; 0 for standard input
     pub file: usize,
@@ -44,7 +44,7 @@ pub struct Asked {
 }
 
 // What a word says that no other waits for.
-#[derive(Drop)]
+#[derive(Clone, Copy)]
 enum Said {
     Limit,
     Topic,
@@ -57,7 +57,7 @@ enum Said {
     Name,
 }
 
-#[derive(Drop)]
+#[derive(Clone, Copy)]
 enum Parsed {
     Value(usize),
     Bad,

@@ -7,7 +7,7 @@ ghost use Rattle.desk_render.specs.Shown.{decimal_of, hex_digit, hex_of, shown_o
 use write_bytes::put_bytes;
 
 // How many bytes of the source are shown, and how many bytes they take in the output.
-#[derive(Drop)]
+#[derive(Clone, Copy)]
 pub struct Shown {
     pub taken: usize,
     pub put: usize,

@@ -23,7 +23,7 @@ const LOST: u8 = 5;
 // It is room in the output that is wanted.
 const ROOM: usize = 18446744073709551615;
 
-#[derive(Drop)]
+#[derive(Clone, Copy)]
 struct Archive {
     // what is held of the stream, in the buffer
     start: usize,

@@ -15,7 +15,7 @@ use records::subscribe_record::Filter;
 use wire::string;
 
 // Where a run of filters stands.
-#[derive(Drop)]
+#[derive(Clone, Copy)]
 pub enum GotFilters {
     Place(Span),
     Refused(Error),

@@ -16,7 +16,7 @@ use records::subscribe_record::Filter;
 use wire::string;
 
 // A filter: where its text stands, and its options with bits 6 and 7 clear.
-#[derive(Drop)]
+#[derive(Clone, Copy)]
 pub struct FilterEntry {
     pub start: usize,
     pub len: usize,
@@ -24,7 +24,7 @@ pub struct FilterEntry {
 }
 
 // How many entries were filled, or why none was.
-#[derive(Drop)]
+#[derive(Clone, Copy)]
 pub enum FilterTable {
     Filled(usize),
     // 37: how many places are needed
@@ -36,14 +36,14 @@ pub enum FilterTable {
 }
 
 // An entry, and the index after it.
-#[derive(Drop)]
+#[derive(Clone, Copy)]
 pub struct NextEntry {
     pub entry: FilterEntry,
     pub next: usize,
 }
 
 // The answer, and where the entries are read that are filled in.
-#[derive(Drop)]
+#[derive(Clone, Copy)]
 pub struct Plan {
     pub answer: FilterTable,
     pub at: usize,

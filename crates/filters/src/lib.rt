@@ -19,7 +19,7 @@ use wire::got::GotSpan;
 use wire::string;
 
 // A filter and the index after it.
-#[derive(Drop)]
+#[derive(Clone, Copy)]
 pub enum GotFilter {
     Value(Filter, usize),
     Refused(Error),

@@ -13,7 +13,7 @@ use tables::property::PropertyRow;
 use wire::string;
 
 // The search for a value: how many are to be passed before it, or the value.
-#[derive(Drop)]
+#[derive(Clone, Copy)]
 enum Seek {
     Left(usize),
     At(Value),

@@ -14,7 +14,7 @@ use wire::got::GotSpan;
 use wire::string;
 
 // Where the output goes on, and how many items were put.
-#[derive(Drop)]
+#[derive(Clone, Copy)]
 struct Listed {
     put: usize,
     n: usize,

@@ -19,7 +19,7 @@ const STOPPED: u8 = 3;
 // The input could not be read.
 const UNREADABLE: u8 = 4;
 
-#[derive(Drop)]
+#[derive(Clone, Copy)]
 struct Desk {
     // what is held of the stream, in the buffer
     start: usize,

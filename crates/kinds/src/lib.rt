@@ -10,7 +10,7 @@ use records::reply_record::ReplyKind;
 use tables::property::PropertyRow;
 
 // The layouts, and which of the kinds that share one.
-#[derive(Drop)]
+#[derive(Clone, Copy)]
 pub enum Kind {
     Publish,
     Ack(AckKind),
@@ -26,7 +26,7 @@ pub enum Kind {
 }
 
 // The place of a kind's block.
-#[derive(Drop)]
+#[derive(Clone, Copy)]
 pub enum KindRow {
     Of(PropertyRow),
     NoBlock,

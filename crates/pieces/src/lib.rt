@@ -17,7 +17,7 @@ use refusal_numbers;
 use write_bytes;
 
 // Why a call gives no frame, and takes nothing.
-#[derive(Drop)]
+#[derive(Clone, Copy)]
 pub enum Stop {
     // 2 or 3 of a header, which ends the stream
     Header(Error),
@@ -28,20 +28,20 @@ pub enum Stop {
 }
 
 // Whether the stream goes on, or what ended it.
-#[derive(Drop)]
+#[derive(Clone, Copy)]
 pub enum End {
     Open,
     Ended(Stop),
 }
 
 // How many bytes the front of the buffer keeps of an unfinished frame, and whether the stream has ended.
-#[derive(Drop)]
+#[derive(Clone, Copy)]
 pub struct State {
     pub held: usize,
     pub end: End,
 }
 
-#[derive(Drop)]
+#[derive(Clone, Copy)]
 pub enum Given {
     // the piece is taken in, and lacks bytes of a frame
     More,
@@ -54,7 +54,7 @@ pub enum Given {
 }
 
 // Where the next frame lies, how many bytes of the piece were used up, and the state for the next call.
-#[derive(Drop)]
+#[derive(Clone, Copy)]
 pub struct Step {
     pub given: Given,
     pub used: usize,
@@ -62,7 +62,7 @@ pub struct Step {
 }
 
 // What a header says: how long its frame is, or why the stream ends there.
-#[derive(Drop)]
+#[derive(Clone, Copy)]
 enum Judged {
     Unknown,
     Length(usize),

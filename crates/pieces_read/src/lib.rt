@@ -10,7 +10,7 @@ use pieces;
 use pieces::{Given, State, Stop};
 use records::answer::{Limit, Read};
 
-#[derive(Drop)]
+#[derive(Clone, Copy)]
 pub enum Answer {
     // the piece is taken in, and lacks bytes of a frame
     More,
@@ -23,7 +23,7 @@ pub enum Answer {
 }
 
 // The answer, how many bytes of the piece it used up, and the state for the next call.
-#[derive(Drop)]
+#[derive(Clone, Copy)]
 pub struct Reply {
     pub answer: Answer,
     pub used: usize,

@@ -19,7 +19,7 @@ use wire::got::GotSpan;
 use wire::string;
 
 // A value, by its form.
-#[derive(Drop)]
+#[derive(Clone, Copy)]
 pub enum Value {
     U8(u8),
     U16(u16),
@@ -31,7 +31,7 @@ pub enum Value {
 }
 
 // The identifier, the value, and the index after it; or the refusal.
-#[derive(Drop)]
+#[derive(Clone, Copy)]
 pub enum GotProperty {
     Found(u8, Value, usize),
     Refused(Error),

@@ -33,7 +33,7 @@ use wire::string;
 // record keeps where it stands
 
 // The properties, if there are any, and the index after the block; or the refusal.
-#[derive(Drop)]
+#[derive(Clone, Copy)]
 pub enum GotPublishBlock {
     Value(MaybePublishProperties, usize),
     Refused(Error),
@@ -41,7 +41,7 @@ pub enum GotPublishBlock {
 
 // The single values so far. The flags stand apart from the values: an enum that holds a span has gaps, and a loop that carries such
 // enums copies the gaps at each turn, which took three times as long.
-#[derive(Drop)]
+#[derive(Clone, Copy)]
 struct Singles {
     response: Span,
     correlation: Span,
@@ -259,7 +259,7 @@ fn read_publish_block(s: &[u8], at: usize) -> GotPublishBlock
 
 // ---- the fields
 
-#[derive(Drop)]
+#[derive(Clone, Copy)]
 pub enum GotPublish {
     Value(Publish),
     Refused(Error),

@@ -20,13 +20,13 @@ use tables::property::OtherRow;
 use tables::reason::is_reply_reason;
 
 // Where the reasons stand.
-#[derive(Drop)]
+#[derive(Clone, Copy)]
 pub enum GotReasons {
     Place(Span),
     Refused(Error),
 }
 
-#[derive(Drop)]
+#[derive(Clone, Copy)]
 pub enum GotReply {
     Value(Reply),
     Refused(Error),

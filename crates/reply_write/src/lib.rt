@@ -28,7 +28,7 @@ use write_runs::run;
 use write_tests::Tested;
 
 // What is handed over by value; the reason string, the user properties and the reasons are lent beside it.
-#[derive(Drop)]
+#[derive(Clone, Copy)]
 pub struct ReplyHead {
     pub kind: ReplyKind,
     pub pkid: u16,

@@ -14,7 +14,7 @@ use records::error::Error;
 use records::subscribe_record::Subscribe;
 use tables::property::OtherRow;
 
-#[derive(Drop)]
+#[derive(Clone, Copy)]
 pub enum GotSubscribe {
     Value(Subscribe),
     Refused(Error),

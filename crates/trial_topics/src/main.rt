@@ -4,7 +4,7 @@ ghost use Rattle.std.specs.Prelude.{◌≤◌, length};
 
 use std::num;
 
-#[derive(Drop)]
+#[derive(Clone, Copy)]
 struct Counts {
     rows: u64,
     wild: u64,

@@ -18,13 +18,13 @@ use wire::got::GotSpan;
 use wire::string;
 
 // Where the topics stand.
-#[derive(Drop)]
+#[derive(Clone, Copy)]
 pub enum GotTopics {
     Place(Span),
     Refused(Error),
 }
 
-#[derive(Drop)]
+#[derive(Clone, Copy)]
 pub enum GotUnsubscribe {
     Value(Unsubscribe),
     Refused(Error),

@@ -29,7 +29,7 @@ use write_runs::run;
 use write_tests::Tested;
 
 // What is handed over by value; the user properties and the topics are lent beside it.
-#[derive(Drop)]
+#[derive(Clone, Copy)]
 pub struct UnsubscribeHead {
     pub pkid: u16,
     // whether there are properties

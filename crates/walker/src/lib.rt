@@ -22,14 +22,14 @@ use tables::property::PropertyRow;
 use wire::string;
 
 // The next user property, and where the walk stands after it.
-#[derive(Drop)]
+#[derive(Clone, Copy)]
 pub struct Step {
     pub item: UserItem,
     pub at: usize,
 }
 
 // Where a walk begins and ends, and which row says what may stand there.
-#[derive(Drop)]
+#[derive(Clone, Copy)]
 pub struct Block {
     pub at: usize,
     pub end: usize,

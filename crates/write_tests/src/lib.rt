@@ -16,7 +16,7 @@ use utf8::{is_all_ascii, is_utf8};
 use write_runs::run;
 use write_sizes::MOST;
 
-#[derive(Drop)]
+#[derive(Clone, Copy)]
 pub enum Tested {
     Fine,
     Refused(Error),
