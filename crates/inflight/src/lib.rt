@@ -1,5 +1,7 @@
 // The client's record of outgoing messages that await an answer (P4 of 02). A call takes the table and hands back the one that it
 // leaves behind, with its answer. Refusals are 29 to 31.
+#![tactic(auto)]
+
 ghost use Rattle.std.specs.Prelude.{◌≡◌, min, replicate};
 ghost use Rattle.inflight.specs.Rules.{limit, free, first_free, claim_for, claimed, wait_of, put, settled, became_of, one_if_waits, waiting, call, pub_ack, pub_rec, pub_comp, answer_by};
 ghost use Rattle.inflight.specs.TableAnswer.{code_of, waits_of, answer_of, after_claim, after_answer};

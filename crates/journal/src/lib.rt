@@ -1,5 +1,7 @@
 // The table of inflight kept through a power cut, in a lent area of blocks (P11 of 02). Number N goes to block (N - 1) mod the count of
 // blocks, so never onto the latest good block, and a save that was cut uses its number and its block again. Refusals are 32 to 34.
+#![tactic(auto)]
+
 ghost use Rattle.std.specs.Prelude.{◌≡◌, ◌+◌, ◌*◌, ◌-◌, ◌/◌, ◌%◌, ◌^◌, ◌≤◌, ◌<◌, eqb, length, get_or, take, drop, replicate};
 ghost use Rattle.std.proofs.lemmas.List.Edits.{sets};
 ghost use Rattle.crc32.specs.Crc.{crc_of};

@@ -1,5 +1,7 @@
 // Topics and filters over bytes, after mqttbytes/mod.rs: `has_wildcards`, `valid_topic`, `valid_filter`, `matches`. Short levels go byte by byte,
 // longer ones by sixteens, which the compiler tests at once.
+#![tactic(auto)]
+
 ghost use Rattle.std.specs.Prelude.{◌≡◌, not, true, ◌+◌, ◌-◌, ◌≤◌, ◌<◌, ltb, length, take};
 ghost use Rattle.topics.specs.Levels.{levels, is_wild, has_wild, lone, hash, plus, level_fine, levels_fine, valid_topic, valid_filter};
 ghost use Rattle.topics.specs.Match.{same, rest_matches, matches_of, barred};

@@ -1,0 +1,7 @@
+-- converted
+use Rattle.inflight.specs.Rules.{call}
+use Rattle.inflight.proofs.InFlight.pubcomp.Goals as goal
+
+pub returns : goal.returns
+unfolding call
+returns c = c.settle.ensures
