@@ -1,6 +1,8 @@
 // What C calls for P4: the table as lent bytes, one for each identifier from 1 upward, 0 if it is free, 1, 2 or 3 if it waits for PubAck,
 // PubRec or PubComp. A start clears every byte, whatever it was; any other call tests every byte, and changes at most one.
 // bindings/c/ecchjulmina.h says the rest.
+#![tactic(auto)]
+
 ghost use Rattle.std.specs.Prelude.{◌≡◌, true, not, ◌∷◌, [], ◌+◌, ◌≤◌, ◌<◌, ltb, length, drop, replicate};
 ghost use Rattle.std.proofs.lemmas.List.Edits.{sets};
 ghost use Rattle.inflight.specs.Rules.{free, all_states, is_table, first_free, claim_for, settled, became_of, one_if_waits, waiting};

@@ -1,5 +1,7 @@
 // Replays the answers that the crate's own text and 01's rules gave (oracle/README.md) through the port's exported functions: every number
 // and every byte of output. The file stdout was counted over the answers by oracle/count-answers.
+#![tactic(auto)]
+
 mod expect;
 mod file;
 mod put_ack;

@@ -1,5 +1,7 @@
 // Shows a stream of MQTT 5 frames, from a file or from standard input: a line for each frame on standard output, and what was read in all
 // on standard error.
+#![tactic(auto)]
+
 mod args;
 mod field;
 mod force;

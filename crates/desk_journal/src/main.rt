@@ -1,5 +1,7 @@
 // Shows a journal of P11: desk_journal FILE [FILE]. A line for each block, good or not, with its number, and below it the identifiers that wait
 // and for what; at the end what a recovery takes. What is said of a block is `look` of crates/journal, what is taken `recover`.
+#![tactic(auto)]
+
 use inflight::{InFlight, code};
 use journal::{Found, look, recover};
 

@@ -68,15 +68,15 @@ module _ (l r k : ℕ) (two : 2 ≤ k) (low : l ≤ r) (high : r ≤ 1024) where
   kept_bad a b kept e g =
       kept_stored l r k a b two kept e (λ f. false_true (sym (bad_both b g) ∙ g) f) (bad_both b g)
 
-  kept_cut : (a b t : List ℕ) → Kept l r k a → Table l t → next l a < 2 ^ 64 → Cut l r k a t b → Kept l r k b
-  kept_cut a b t kept f h as_it_was = kept
-  kept_cut a b t kept f h as_it_should_be = kept_new a t kept f h
-  kept_cut a b t kept f h (not_good c e g) = kept_bad a c kept e g
+  kept_cut : (a t b : List ℕ) → Kept l r k a → Table l t → next l a < 2 ^ 64 → Cut l r k a t b → Kept l r k b
+  kept_cut a t b kept f h as_it_was = kept
+  kept_cut a t b kept f h as_it_should_be = kept_new a t kept f h
+  kept_cut a t b kept f h (not_good c e g) = kept_bad a c kept e g
 
   pub lived_kept : {a : List ℕ} → Lived l r k a → Kept l r k a
   lived_kept Lived.started = kept_start l r k
   lived_kept (Lived.saved {a} t v f h) = kept_new a t (lived_kept v) f h
-  lived_kept (Lived.cut {a} {b} t v f h c) = kept_cut a b t (lived_kept v) f h c
+  lived_kept (Lived.cut {a} {b} t v f h c) = kept_cut a t b (lived_kept v) f h c
 
   -- ---- recovery
 
@@ -124,9 +124,13 @@ module _ (l r k : ℕ) (two : 2 ≤ k) (low : l ≤ r) (high : r ≤ 1024) where
   -- "Then recovery gives the table before that save or after it, or JournalEmpty if there was none before."
   pub cut_recovers : {a b : List ℕ} (t : List ℕ) → Lived l r k a → Table l t → next l a < 2 ^ 64 → Cut l r k a t b
       → (recover l b ≡ recover l a) ⊎ (recover l b ≡ recovered (next l a) t)
-  cut_recovers {a} {b} t v f h as_it_was = inl refl
-  cut_recovers {a} {b} t v f h as_it_should_be = inr (recover_new a t (lived_kept v) f h)
-  cut_recovers {a} {b} t v f h (not_good c e g) = inl (recover_old a c (lived_kept v) e g)
+  cut_recovers {a} t v f h cut = go t v f h cut
+    where
+      go : {a : List ℕ} (t : List ℕ) → Lived l r k a → Table l t → next l a < 2 ^ 64 → {b : List ℕ} → Cut l r k a t b
+          → (recover l b ≡ recover l a) ⊎ (recover l b ≡ recovered (next l a) t)
+      go t v f h as_it_was = inl refl
+      go {a} t v f h as_it_should_be = inr (recover_new a t (lived_kept v) f h)
+      go {a} t v f h (not_good c e g) = inl (recover_old a c (lived_kept v) e g)
 
   -- ---- the calls keep the premise
 

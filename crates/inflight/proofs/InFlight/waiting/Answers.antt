@@ -10,11 +10,11 @@ use Rattle.inflight.proofs.InFlight.waiting.Goals as goal
 
 pub loop-i-preserved : goal.loop-i-preserved
 loop-i-preserved c =
-    let l : length c.args.t1.places ≡ limit = search (rules, unmapped) in
-    counted c.loop-i.invariant (omega (arith, waits_length c.args.t1, l)) _
-    (c.one_if_waits-n.ensures ∙ ap one_if_waits (sym (wait_at c.args.t1 _ _ (omega (arith, l)))))
+    let l : length c.args.self.places ≡ limit = search (rules, unmapped) in
+    counted c.loop-i.invariant (omega (arith, waits_length c.args.self, l)) _
+    (c.one_if_waits-n.ensures ∙ ap one_if_waits (sym (wait_at c.args.self _ _ (omega (arith, l)))))
 
 pub returns : goal.returns
 returns c =
-    let l : length c.args.t1.places ≡ limit = search (rules, unmapped) in
-    all_counted c.loop-i.invariant (omega (arith, waits_length c.args.t1, l))
+    let l : length c.args.self.places ≡ limit = search (rules, unmapped) in
+    all_counted c.loop-i.invariant (omega (arith, waits_length c.args.self, l))

@@ -12,10 +12,10 @@ returns-then-n-lt1 c = wait_zero _ _ (omega arith)
 
 pub returns-then-n-gt-LIMIT : goal.returns-then-n-gt-LIMIT
 returns-then-n-gt-LIMIT c =
-    let l : length c.args.t1.places ≡ limit = search (rules, unmapped) in
-    wait_above _ _ (omega (arith, waits_length c.args.t1, l))
+    let l : length c.args.self.places ≡ limit = search (rules, unmapped) in
+    wait_above _ _ (omega (arith, waits_length c.args.self, l))
 
 pub returns : goal.returns
 returns c =
-    let l : length c.args.t1.places ≡ limit = search (rules, unmapped) in
-    sym (wait_at c.args.t1 _ _ (omega (arith, l))) ∙ wait_in_lem _ _ (omega arith)
+    let l : length c.args.self.places ≡ limit = search (rules, unmapped) in
+    sym (wait_at c.args.self _ _ (omega (arith, l))) ∙ wait_in_lem _ _ (omega arith)

@@ -1,0 +1,6 @@
+-- converted
+use mathlib.Core.Path.{◌∙◌}
+use Rattle.c_layout.proofs.answer.store_written.Goals as goal
+
+pub returns : goal.returns
+returns c = record { number = c.written_number.ensures; stored = c.store.ensures ∙ rw c.written_numbers-numbers.ensures }
