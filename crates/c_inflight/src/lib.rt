@@ -29,7 +29,7 @@ struct Outcome {
 
 // ---- the bytes of a table
 
-// Every byte is a state, one of 0 to 3, just where all of them gathered by ``|`` are.
+// Every byte is a state, one of 0 to 3, just where all of them gathered by `|` are.
 fn all_states(codes: &[u8]) -> bool
     ensures { result ≡ all_states codes.now }
 {
@@ -88,7 +88,7 @@ fn count(codes: &[u8]) -> u64
 
 // ---- the first free one
 
-// A mark that ``|`` gathers: its top bit is set just where hit is true.
+// A mark that `|` gathers: its top bit is set just where hit is true.
 fn mark(hit: bool) -> u8
     ensures { ltb result 128 ≡ not hit }
 {

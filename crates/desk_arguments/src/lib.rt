@@ -1,4 +1,4 @@
-// The words that `desk` is started with: `desk [--limit N] [--topic FILTER] [--payload N] [--ascii] [FILE]````, and ``--status` and
+// The words that `desk` is started with: `desk [--limit N] [--topic FILTER] [--payload N] [--ascii] [FILE]`, and `--status` and
 // `--colour`, which the script at the top hands over.
 #![tactic(auto)]
 

@@ -50,7 +50,7 @@ module _ (p : ℕ → Bool) (a : ℕ) where
   pub first_within : (m e r : ℕ) → m ≤ e → r < m → First p a m r → First p a e r
   first_within m e r l h f = record { low = f.low; high = omega arith; clear = f.clear; found = λ _. f.found h }
 
--- ---- marks, gathered by ``|``
+-- ---- marks, gathered by `|`
 
 pub both : (a b : Bool) → (a && b) ≡ true → (a ≡ true) × (b ≡ true)
 both true b e = (refl, e)

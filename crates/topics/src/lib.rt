@@ -9,7 +9,7 @@ ghost use Rattle.topics.specs.Step.{Clear, Asked, First, wild_at, slash_at, diff
 
 // ---- bytes
 
-// A mark that ``|`` gathers: its top bit is set just where hit is true.
+// A mark that `|` gathers: its top bit is set just where hit is true.
 fn mark(hit: bool) -> u8
     ensures { ltb result 128 ≡ not hit }
 {
