@@ -1,0 +1,10 @@
+-- converted
+use mathlib.Core.Path.{sym, ap, ◌∙◌}
+use native.Mathlib.Omega.{arith}
+use lib.Seq.{sets}
+use Rattle.write_numbers.proofs.Laws.Put.{wide_one}
+use Rattle.ack_write.proofs.put_reason.Goals as goal
+
+pub returns : goal.returns
+returns c =
+    c.put_u8.ensures ∙ ap (sets c.args.out.now c.args.at) (sym (wide_one (omega (arith, c.ranges.reason))))
