@@ -1,5 +1,7 @@
 // Topics by alias, 02's P6: a lent table of 2,064 bytes, for aliases 1 to 16 in turn a length byte and 128 bytes for the topic. Whoever owns
 // the table fills it with zeros where a connection begins.
+#![tactic(auto)]
+
 ghost use Rattle.std.specs.Prelude.{◌≡◌, true, ◌≤◌, length};
 ghost use Rattle.std.proofs.Math.Option.{none, some};
 ghost use Rattle.reading.specs.Reader.{got};

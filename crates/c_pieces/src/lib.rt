@@ -1,4 +1,6 @@
 // Where the next frame of a stream that arrives in pieces lies (02, P10), as C asks for it; bindings/c/ecchjulmina.h has the words.
+#![tactic(auto)]
+
 ghost use Rattle.std.specs.Prelude.{◌≡◌};
 ghost use Rattle.std.proofs.lemmas.List.Edits.{sets};
 ghost use Rattle.records.specs.AsNumbers.{limit_of};

@@ -1,5 +1,7 @@
 // The words that `desk` is started with: `desk [--limit N] [--topic FILTER] [--payload N] [--ascii] [FILE]````, and ``--status` and
 // `--colour`, which the script at the top hands over.
+#![tactic(auto)]
+
 ghost use Rattle.std.specs.Prelude.{◌≡◌};
 ghost use Rattle.std.proofs.Math.Option.{some};
 ghost use Rattle.desk_arguments.specs.Words.{same, is_option, grow, number_of, told_number, said_of, unasked, as_bad, as_awaiting, as_styled, with_limit, with_most, with_name, with_said, with_word, with_end};

@@ -1,5 +1,7 @@
 // A stream that arrives in pieces (02, P10): an unfinished frame is kept at the front of a lent buffer of 5 to 65,536 bytes.
 // A frame that lies in one piece stays there, and no byte of it is copied.
+#![tactic(auto)]
+
 ghost use Rattle.std.specs.Prelude.{◌≡◌, true, ◌++◌, ◌+◌, ◌-◌, ◌≤◌, ◌<◌, min, length, take};
 ghost use Rattle.reading.specs.Refusal.{within};
 ghost use Rattle.records.specs.AsNumbers.{row_of, values_of, told_values, limit_of};

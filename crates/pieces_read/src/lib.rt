@@ -1,4 +1,6 @@
 // The next record or refusal of a stream that arrives in pieces (02, P10).
+#![tactic(auto)]
+
 ghost use Rattle.std.specs.Prelude.{◌≡◌, take};
 ghost use Rattle.records.specs.AsNumbers.{limit_of};
 ghost use Rattle.pieces_rules.specs.Step.{read_in, step_of};

@@ -1,5 +1,7 @@
 // One property at an index of a slice, an identifier byte and a value: the body of the loops in publish.rs, subscribe.rs and puback.rs,
 // once for all kinds of packet. The end of the slice is the end of its room.
+#![tactic(auto)]
+
 ghost use Rattle.std.specs.Prelude.{◌≡◌};
 ghost use Rattle.std.proofs.Math.Option.{some};
 ghost use Rattle.grammar.specs.Tables.{number, pair};

@@ -1,4 +1,6 @@
 // A Publish, after publish.rs: the read of its properties, and of its fields.
+#![tactic(auto)]
+
 ghost use Rattle.std.specs.Prelude.{◌≡◌, [], ◌≤◌, length, drop};
 ghost use Rattle.std.proofs.Math.Option.{some};
 ghost use Rattle.grammar.specs.Tables.{a_publish, publish_row, form_at};

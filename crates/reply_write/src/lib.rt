@@ -1,5 +1,7 @@
 // A SubAck or UnsubAck, written, after `write` and `size` of suback.rs and unsuback.rs: first every refusal and the size, touching nothing,
 // then the bytes. An empty reason list is refused, and a reason that its kind does not list.
+#![tactic(auto)]
+
 ghost use Rattle.std.specs.Prelude.{◌≡◌, not, [], map};
 ghost use Rattle.grammar.specs.Choice.{is_empty};
 ghost use Rattle.grammar.specs.Tables.{reasons_of, first_of};

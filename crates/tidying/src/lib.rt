@@ -1,5 +1,7 @@
 // The tidy form of a frame, 02's P14: what would be written of the record that was read. After P8 and P9 it is the frame's own bytes, with the
 // properties in the order of the table; so they are copied, and no lengths are lent.
+#![tactic(auto)]
+
 ghost use Rattle.std.specs.Prelude.{◌≡◌, cond, [], ◌∷◌, ◌-◌, ◌≤◌, ◌<◌, eqb, length, take, drop, get_or};
 ghost use Rattle.std.proofs.lemmas.List.Edits.{sets};
 ghost use Rattle.grammar.specs.Choice.{lookup};

@@ -1,4 +1,6 @@
 // Unsubscribe, after unsubscribe.rs: the fields of a frame from an index to the end of the slice.
+#![tactic(auto)]
+
 ghost use Rattle.std.specs.Prelude.{◌≡◌, ℕ, length, drop};
 ghost use Rattle.grammar.specs.Tables.{an_unsubscribe};
 ghost use Rattle.reading.specs.Read.{text_of, fields_fit};

@@ -1,5 +1,7 @@
 // An Unsubscribe, written, after `write` and `size` of unsubscribe.rs: first every refusal and the size, touching nothing, then the bytes.
 // An empty topic list is refused.
+#![tactic(auto)]
+
 mod topic;
 
 ghost use Rattle.std.specs.Prelude.{◌≡◌, ◌++◌, map, ◌≤◌};

@@ -1,0 +1,8 @@
+-- converted
+use Rattle.write_lists.proofs.put_pairs.Goals as goal
+
+pub returns-then-out-at : goal.returns-then-out-at
+returns-then-out-at c = c.cut_pairs.ensures.0
+
+pub returns : goal.returns
+returns c = c.lay_pairs.ensures

@@ -1,0 +1,5 @@
+-- converted
+use Rattle.write_properties.proofs.put_number.Goals as goal
+
+pub returns : goal.returns
+returns c = c.put_counted.ensures

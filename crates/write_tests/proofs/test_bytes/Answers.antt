@@ -1,0 +1,7 @@
+-- converted
+use Rattle.writing.specs.Order.{judge}
+use Rattle.write_tests.proofs.test_bytes.Goals as goal
+
+pub returns : goal.returns
+unfolding judge
+returns c = rw c.if-on.false
