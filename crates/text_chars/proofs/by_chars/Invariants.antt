@@ -1,4 +1,3 @@
--- converted
 use Rattle.std.proofs.Common.{◌≡◌, ◌-◌, length, drop}
 use Rattle.reading.specs.Read.{is_text}
 use Rattle.text_chars.proofs.by_chars.Given as goal

@@ -1,4 +1,4 @@
--- converted
+-- `text_chars::follow_three` is right since all three bytes that are due are tested. Assumes nothing.
 use Rattle.std.proofs.Common.{sym, refl, ◌∙◌, arith}
 use Rattle.text_chars.proofs.Laws.{follow_short, follow_low, follow_high, follow_first, follow_in, follow_out, follow_last}
 use Rattle.text_chars.proofs.follow_three.Goals as goal

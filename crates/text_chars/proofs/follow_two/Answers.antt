@@ -1,4 +1,4 @@
--- converted
+-- `text_chars::follow_two` is right since both bytes that are due are tested. Assumes nothing.
 use Rattle.std.proofs.Common.{refl, arith}
 use Rattle.text_chars.proofs.Laws.{follow_short, follow_low, follow_high, follow_first, follow_last}
 use Rattle.text_chars.proofs.follow_two.Goals as goal

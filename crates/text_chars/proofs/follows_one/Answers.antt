@@ -1,4 +1,4 @@
--- converted
+-- `text_chars::follows_one` is right since the only byte that is due is tested. Assumes nothing.
 use Rattle.std.proofs.Common.{arith}
 use Rattle.text_chars.proofs.Laws.{follow_short, follow_only}
 use Rattle.text_chars.proofs.follows_one.Goals as goal

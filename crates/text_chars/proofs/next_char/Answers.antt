@@ -1,4 +1,4 @@
--- converted
+-- `text_chars::next_char` is right since the first byte decides which row of the table the bytes behind it have to meet. Assumes nothing.
 use Rattle.std.proofs.Common.{◌≡◌, ◌+◌, get_or, arith}
 use mathlib.Core.Option.{some}
 use Rattle.grammar.specs.Text.{rows, row_at}

@@ -1,4 +1,4 @@
--- converted
+-- `text_windows::by_long` is right since ASCII bytes fit. Assumes nothing.
 use Rattle.std.proofs.Common.{arith}
 use Rattle.text_windows.proofs.Runs.{ascii_to_fit}
 use Rattle.text_windows.proofs.by_long.Goals as goal

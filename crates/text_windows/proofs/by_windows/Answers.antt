@@ -1,4 +1,4 @@
--- converted
+-- `text_windows::by_windows` is right since the bytes before `i` fit, the loop's invariant, and at the end all do. Assumes nothing.
 use Rattle.std.proofs.Common.{◌≡◌, ◌-◌, length, arith}
 use Rattle.text_windows.proofs.Runs.{whole_text}
 use Rattle.text_windows.proofs.by_windows.Goals as goal

@@ -1,4 +1,3 @@
--- converted
 use Rattle.std.proofs.Common.{◌-◌, ◌≤◌, length}
 use Rattle.text_windows.specs.Window.{Fit}
 use Rattle.text_windows.proofs.by_windows.Given as goal

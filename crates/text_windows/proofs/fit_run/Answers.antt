@@ -1,4 +1,4 @@
--- converted
+-- `text_windows::fit_run` is right since what was gathered is below 128 just where every byte so far fits, the loop's invariant. Assumes nothing.
 use Rattle.std.proofs.Common.{◌-◌, arith}
 use Rattle.text_windows.proofs.Runs.{fitted_run}
 use Rattle.text_windows.proofs.fit_run.Goals as goal

@@ -1,4 +1,3 @@
--- converted
 use Rattle.std.proofs.Common.{◌+◌, ◌-◌, ◌≤◌, ltb}
 use Rattle.text_windows.specs.Window.{Fitted}
 use Rattle.text_windows.proofs.fit_run.Given as goal

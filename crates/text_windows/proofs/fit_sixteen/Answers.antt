@@ -1,4 +1,4 @@
--- converted
+-- `text_windows::fit_sixteen` is right since ASCII bytes fit just where nothing is due before them, and others are tested one by one. Assumes nothing.
 use Rattle.std.proofs.Common.{◌≡◌, ◌+◌, ◌-◌, sym, ◌∙◌, arith}
 use Rattle.text_windows.proofs.Runs.{ascii_fitted}
 use Rattle.text_windows.proofs.fit_sixteen.Goals as goal

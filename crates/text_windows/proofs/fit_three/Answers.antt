@@ -1,4 +1,4 @@
--- converted
+-- `text_windows::fit_three` is right since each of the three is tested behind those before it. Assumes nothing.
 use Rattle.std.proofs.Common.{sym, ◌∙◌, arith}
 use Rattle.text_windows.proofs.Runs.{three_no, three_last}
 use Rattle.text_windows.proofs.fit_three.Goals as goal

@@ -1,4 +1,5 @@
--- converted
+-- `text_windows::is_ascii` meets its contract. The loop's invariant: no byte so far has a flaw just when all of them are ASCII and not 0. Then the
+-- text goes on behind them. Assumes nothing.
 use Rattle.std.proofs.Common.{◌-◌, Bool, ◌&&◌, get_or, sym, ap, ◌∙◌, arith}
 use Rattle.text_chars.specs.Text.{plain}
 use Rattle.text_chars.proofs.Laws.{flaw_low, or_low, ascii_more, ascii_all}

@@ -1,4 +1,3 @@
--- converted
 use Rattle.std.proofs.Common.{◌≡◌, ◌-◌, ◌≤◌, ltb, take, drop}
 use Rattle.text_chars.specs.Text.{all_ascii}
 use Rattle.text_windows.proofs.is_ascii.Given as goal

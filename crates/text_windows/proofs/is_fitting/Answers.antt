@@ -1,4 +1,4 @@
--- converted
+-- `text_windows::is_fitting` is right since what may stand behind the three is one cell where a byte is due, and the first bytes of the rows where none is. Assumes nothing.
 use Rattle.text_windows.proofs.Bytes.{marked_due, unmarked_due, fits_low, fits_cell, fits_ascii, fits_no, fits_lead}
 use Rattle.text_windows.proofs.is_fitting.Goals as goal
 

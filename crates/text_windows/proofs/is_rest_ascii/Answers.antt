@@ -1,4 +1,4 @@
--- converted
+-- `text_windows::is_rest_ascii` is right since what is left lies in the last 128 bytes. Assumes nothing.
 use Rattle.std.proofs.Common.{◌-◌, length, sym, ◌∙◌, arith}
 use Rattle.text_windows.proofs.Runs.{ascii_rest}
 use Rattle.text_windows.proofs.is_rest_ascii.Goals as goal

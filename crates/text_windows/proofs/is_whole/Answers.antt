@@ -1,4 +1,4 @@
--- converted
+-- `text_windows::is_whole` is right since nothing is due behind ASCII that fits; else the byte before, the one before it and the one before that are each tested. Assumes nothing.
 use Rattle.std.proofs.Common.{arith}
 use Rattle.text_windows.proofs.Runs.{whole_one, whole_two, whole_three, whole_four}
 use Rattle.text_windows.proofs.is_whole.Goals as goal

@@ -1,4 +1,4 @@
--- converted
+-- `text_windows::misfit` is right since a byte fits just where it is in use, continues a character when that is due and not else, and is in the cell that is asked for. Assumes nothing.
 use Rattle.text_windows.proofs.Bytes.{misfit_of}
 use Rattle.text_windows.proofs.misfit.Goals as goal
 

@@ -1,4 +1,4 @@
--- converted
+-- `text_windows::outside` is right since each part is marked just where its row forbids b. Assumes nothing.
 use Rattle.text_windows.proofs.Bytes.{outside_of}
 use Rattle.text_windows.proofs.outside.Goals as goal
 

@@ -1,4 +1,4 @@
--- converted
+-- `text_windows::owed` is right since the sum of marks is marked just where one of them is. Assumes nothing.
 use Rattle.text_windows.proofs.Bytes.{owed_of}
 use Rattle.text_windows.proofs.owed.Goals as goal
 

@@ -1,4 +1,4 @@
--- converted
+-- `text_windows::pass_ascii` is right since the bytes before `i` are ASCII, the loop's invariant. Assumes nothing.
 use Rattle.std.proofs.Common.{◌≡◌, ◌+◌, ◌-◌, sym, ◌∙◌, arith}
 use Rattle.text_windows.proofs.Runs.{ascii_more}
 use Rattle.text_windows.proofs.pass_ascii.Goals as goal

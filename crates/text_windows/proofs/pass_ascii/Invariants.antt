@@ -1,4 +1,3 @@
--- converted
 use Rattle.std.proofs.Common.{◌-◌, length}
 use Rattle.text_windows.specs.Window.{AsciiTo}
 use Rattle.text_windows.proofs.pass_ascii.Given as goal

@@ -1,4 +1,4 @@
--- converted
+-- `text_windows::pass_plain` is right since the bytes before `i` fit and nothing is due there, the loop's invariant. Assumes nothing.
 use Rattle.std.proofs.Common.{◌≡◌, ◌+◌, ◌-◌, sym, ◌∙◌, arith}
 use Rattle.text_windows.proofs.Runs.{chunk_fit}
 use Rattle.text_windows.proofs.pass_plain.Goals as goal

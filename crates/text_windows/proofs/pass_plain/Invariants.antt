@@ -1,4 +1,3 @@
--- converted
 use Rattle.std.proofs.Common.{◌≡◌, ◌-◌, ◌≤◌, false, length}
 use Rattle.text_windows.specs.Window.{Fit, due_at}
 use Rattle.text_windows.proofs.pass_plain.Given as goal

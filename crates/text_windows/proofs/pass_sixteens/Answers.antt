@@ -1,4 +1,4 @@
--- converted
+-- `text_windows::pass_sixteens` is right since the bytes before `i` fit, the loop's invariant. Assumes nothing.
 use Rattle.std.proofs.Common.{◌+◌, ◌-◌, arith}
 use Rattle.text_windows.proofs.Runs.{fit_less, fit_join, fit_stopped, fit_passed}
 use Rattle.text_windows.proofs.pass_sixteens.Goals as goal

@@ -1,4 +1,4 @@
--- converted
+-- `text_windows::unused` is right since b - 1, wrapped, is below F4 just where b is from 1 to F4. Assumes nothing.
 use Rattle.text_windows.proofs.Bytes.{unused_of}
 use Rattle.text_windows.proofs.unused.Goals as goal
 

@@ -1,4 +1,4 @@
--- converted
+-- `utf8::by_chunks` meets its contract: where the text goes on it is tested by characters, what ASCII chunks cover is text, and any other is tested by windows. Assumes nothing.
 use mathlib.Core.Path.{sym, ◌∙◌}
 use native.Mathlib.Omega.{arith}
 use Rattle.utf8.proofs.by_chunks.Goals as goal

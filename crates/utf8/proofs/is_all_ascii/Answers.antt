@@ -1,4 +1,4 @@
--- converted
+-- `utf8::is_all_ascii` meets its contract. The loop's invariant: the bytes from the i-th on decide; then the last sixteen do. Assumes nothing.
 use mathlib.Core.Path.{◌≡◌, sym, ◌∙◌}
 use Prim.Native.Nat.{◌+◌, ◌-◌}
 use native.Mathlib.Omega.{arith}

@@ -1,4 +1,5 @@
--- converted
+-- `utf8::is_ascii` meets its contract. The loop's invariant: no byte so far has a flaw just when all of them are ASCII and not 0. Then the
+-- text goes on behind them. Assumes nothing.
 use mathlib.Core.Path.{sym, ap, ◌∙◌}
 use mathlib.Core.Bool.{Bool, ◌&&◌}
 use Prim.Native.Nat.{◌-◌}

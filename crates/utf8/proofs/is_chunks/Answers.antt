@@ -1,4 +1,4 @@
--- converted
+-- `utf8::is_chunks` is right since the size is chosen so that the chunks cover the text. Assumes nothing.
 use mathlib.Core.Bool.{false≢true}
 use Rattle.utf8.proofs.is_chunks.Goals as goal
 

@@ -1,4 +1,4 @@
--- converted
+-- `utf8::is_four_times` is right since behind the first two chunks the text goes on, and what is left of it lies in the last two. Assumes nothing.
 use mathlib.Core.Path.{◌≡◌, sym, ◌∙◌}
 use Prim.Native.Nat.{◌+◌, ◌-◌}
 use native.Mathlib.Omega.{arith}

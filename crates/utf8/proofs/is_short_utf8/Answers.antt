@@ -1,4 +1,4 @@
--- converted
+-- `utf8::is_short_utf8` meets its contract. The loop's invariant: the text goes on at `i`; nothing is left at the end. Assumes nothing.
 use mathlib.Core.Path.{sym, ◌∙◌}
 use Prim.Native.Nat.{◌-◌}
 use native.Mathlib.Omega.{arith}

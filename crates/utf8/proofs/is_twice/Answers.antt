@@ -1,4 +1,4 @@
--- converted
+-- `utf8::is_twice` is right since behind the first chunk the text goes on, and what is left of it lies in the second. Assumes nothing.
 use mathlib.Core.Path.{sym, ◌∙◌}
 use Prim.Native.Nat.{◌-◌}
 use native.Mathlib.Omega.{arith}

@@ -1,4 +1,4 @@
--- converted
+-- `utf8::pass_few` is right since behind a chunk that is ASCII the text goes on. Assumes nothing.
 use mathlib.Core.Path.{sym, ◌∙◌}
 use Prim.Native.Nat.{◌-◌}
 use native.Mathlib.Omega.{arith}

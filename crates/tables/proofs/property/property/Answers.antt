@@ -1,4 +1,4 @@
--- converted
+-- `tables::property::property` meets its contract: each place hands over to the function of its row. Assumes nothing.
 use Rattle.tables.proofs.property.property.Goals as goal
 
 pub returns-in-Publish : goal.returns-in-Publish

@@ -1,4 +1,4 @@
--- converted
+-- `tables::property::subscribe_property` meets its contract: each arm names an entry of the row, and the gaps are the numbers of none. Assumes nothing.
 use mathlib.Core.Path.{sym}
 use Rattle.grammar.specs.Tables.{subscribe_row}
 use Rattle.tables.proofs.Laws.{lookup_absent}

@@ -1,4 +1,4 @@
--- converted
+-- `tables::property::unsubscribe_property` meets its contract: the arm names the entry of the row, and the gaps are the numbers of none. Assumes nothing.
 use mathlib.Core.Path.{sym}
 use Rattle.grammar.specs.Tables.{unsubscribe_row}
 use Rattle.tables.proofs.Laws.{lookup_absent}

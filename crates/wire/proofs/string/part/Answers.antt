@@ -1,4 +1,4 @@
--- converted
+-- `wire::string::part` meets its contract: the part is handed back if it lies within. Assumes nothing.
 use mathlib.Core.Path.{refl, sym, ◌∙◌}
 use Prim.Native.Nat.{◌+◌}
 use native.Mathlib.Omega.{arith}

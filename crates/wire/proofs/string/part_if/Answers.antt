@@ -1,4 +1,4 @@
--- converted
+-- `wire::string::part_if` meets its contract: the place is left to `part`, the empty one if it is absent. Assumes nothing.
 use Rattle.wire.proofs.string.part_if.Goals as goal
 
 pub returns-in-Absent : goal.returns-in-Absent

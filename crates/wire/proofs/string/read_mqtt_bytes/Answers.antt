@@ -1,4 +1,5 @@
--- converted
+-- `wire::string::read_mqtt_bytes` meets its contract: the length is what `read_u16` read, and the bytes behind it are there or not.
+-- Assumes nothing.
 use mathlib.Core.Path.{refl, ap, sym, ◌∙◌}
 use native.Mathlib.Omega.{arith}
 use Rattle.reading.specs.Refusal.{cut}

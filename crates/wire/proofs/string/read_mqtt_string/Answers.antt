@@ -1,4 +1,5 @@
--- converted
+-- `wire::string::read_mqtt_string` meets its contract: what is refused as bytes is refused as text, and the part that stands there is
+-- tested. Assumes nothing.
 use mathlib.Core.Path.{ap, sym, ◌∙◌}
 use Rattle.reading.specs.Read.{is_text}
 use Rattle.wire.specs.StringRead.{told_part}
