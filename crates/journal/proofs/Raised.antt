@@ -6,12 +6,12 @@ use mathlib.Core.List.{List, [], ◌∷◌, ◌++◌, map}
 use mathlib.Core.Option.{Option}
 use Prim.Native.Nat.{ℕ, zero, suc, ◌+◌, ◌*◌, ◌-◌, ◌^◌, ◌<◌, ◌≤◌}
 use native.Mathlib.Omega.{arith}
-use lib.ListN.{length, get_or, replicate, length-append, length-replicate}
+use lib.ListN.{get_or, replicate, length-append, length-replicate}
 use Rattle.inflight.specs.Rules.{limit, waiting, one_if_waits}
 use Rattle.inflight.proofs.Theorems.{none_waiting}
 use Rattle.crc32.specs.Crc.{crc_of}
 use Rattle.journal.specs.Block.{each, bytes_of, packed_at, body_of, block_of}
-use Rattle.journal.specs.Area.{latest_in, highest, stored, Says, recovered, recover}
+use Rattle.journal.specs.Area.{highest, stored, Says, recovered, recover}
 use Rattle.journal.specs.History.{Table, widened, next, Cut, Lived, Allows, as_it_was, as_it_should_be, not_good, Life}
 use Rattle.journal.proofs.Theorems.{latest_both, cut_recovers, allows_lived, raised_recovers, old_area_recovers}
 

@@ -2,29 +2,29 @@
 -- Assumes nothing.
 use mathlib.Core.Path.{◌≡◌, refl, sym, ap, ap₂, ◌∙◌, subst}
 use mathlib.Core.Logic.{◌⊎◌, inl, inr}
-use mathlib.Core.Bool.{Bool, true, false, cond, ◌&&◌}
-use mathlib.Core.List.{List, [], ◌∷◌, ◌++◌, map}
+use mathlib.Core.Bool.{Bool, true, false, cond}
+use mathlib.Core.List.{List, [], ◌∷◌, map}
 use mathlib.Core.Option.{Option, none, some}
 use Prim.Native.Nat.{ℕ, zero, suc, ◌+◌, ◌*◌, ◌-◌, ◌/◌, ◌%◌, ◌^◌, ◌<◌, ◌≤◌}
 use native.Mathlib.Omega.{arith}
-use borrow.Author.Tests.{eq-eqb, ne_eqb, le-leb, eqb-true, eqb-false}
+use borrow.Author.Tests.{eq-eqb, le-leb, eqb-false}
 use lib.Arith.{lt_of_le-ne}
-use lib.Dec.{eqb, leb}
+use lib.Dec.{eqb}
 use lib.ListN.{length, get_or, replicate}
-use Rattle.inflight.specs.Rules.{limit, free, Call, call, waiting, one_if_freed, one_if_granted}
+use Rattle.inflight.specs.Rules.{limit, free, call, waiting, one_if_freed, one_if_granted}
 use Rattle.inflight.specs.TableAnswer.{waits_of, place_code}
 use Rattle.inflight.specs.declared.InFlight.{InFlight}
 use Rattle.inflight.specs.declared.Place.{Place}
 use Rattle.inflight.proofs.Laws.{waits_length}
 use Rattle.inflight.proofs.Theorems.{call_balanced, none_waiting}
 use Rattle.journal.specs.Block.{good, number_of, table_in, block_of}
-use Rattle.journal.specs.Area.{whole, blocks, count_of, newer, latest, latest_in, highest, stored, Says, journal_empty, journal_ended, refused, recovered, started, saved, recover, recovered_from, save, save_after, start, Left, left}
+use Rattle.journal.specs.Area.{whole, blocks, count_of, newer, latest, latest_in, highest, stored, Says, journal_empty, journal_ended, recovered, started, saved, recover, recovered_from, save, save_after, start, left}
 use Rattle.journal.specs.History.{Table, widened, next, Cut, Lived, Allows, In, here, later, as_it_was, as_it_should_be, not_good, Life}
 use Rattle.journal.proofs.Good.{length_block, number_is_lem, block_good, table_is}
-use Rattle.journal.proofs.Kept.{Kept, kept_start, kept_stored, latest_new, latest_old, latest_is, none_at_start, bounded}
+use Rattle.journal.proofs.Kept.{Kept, kept_start, kept_stored, latest_new, latest_old, latest_is, none_at_start}
 use Rattle.journal.proofs.Latest.{found, none_good}
 use Rattle.journal.proofs.Limits.{good_raised, table_raised}
-use Rattle.journal.proofs.Places.{length_blocks, count_is}
+use Rattle.journal.proofs.Places.{length_blocks}
 use Rattle.journal.proofs.Turns.{code_small}
 
 false_true : {A : Type 0} {b : Bool} → b ≡ false → b ≡ true → A

@@ -1,4 +1,4 @@
--- converted
+-- `ack::read` is right since the identifier is what `read_u16` read, and the rest goes on where it ends. Assumes nothing.
 use mathlib.Core.Path.{sym, ap, ◌∙◌}
 use Rattle.grammar.specs.Record.{ack}
 use Rattle.reading.specs.Place.{on_got}

@@ -1,4 +1,4 @@
--- converted
+-- `ack::read_behind` is right since the record is put together from what `read_last_block` read. Assumes nothing.
 use mathlib.Core.Path.{sym, ap, ◌∙◌}
 use Rattle.ack.specs.AckRead.{told_last_block}
 use Rattle.ack.proofs.Laws.{behind_bad, behind_got}

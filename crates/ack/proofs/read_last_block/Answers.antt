@@ -1,4 +1,4 @@
--- converted
+-- `ack::read_last_block` is right since a block is read only where bytes are left, and then no byte may follow it. Assumes nothing.
 use mathlib.Core.Path.{sym, ap, ◌∙◌}
 use Rattle.properties.specs.Block.{told_block_at}
 use Rattle.ack.proofs.Laws.{block_none, block_bad, bytes_after, block_ends}

@@ -1,4 +1,4 @@
--- converted
+-- `ack::read_reason` is right since a reason is tested where a byte is left, and what follows it is read then. Assumes nothing.
 use mathlib.Core.Path.{sym, ◌∙◌}
 use Rattle.ack.proofs.Laws.{rest_none, reason_bad, reason_got}
 use Rattle.ack.proofs.read_reason.Goals as goal

@@ -1,4 +1,4 @@
--- converted
+-- `ack_write::before_size` is right since the fields are tested in the order in which they are written. Assumes nothing.
 use Rattle.records.specs.AsNumbers.{told_ack_kind}
 use Rattle.ack_write.specs.Handed.{handed}
 use Rattle.ack_write.proofs.Laws.{before_size_all}

@@ -1,4 +1,4 @@
--- converted
+-- `ack_write::belongs` is right since only its block can fail to belong together. Assumes nothing.
 use Rattle.records.specs.AsNumbers.{told_ack_kind}
 use Rattle.ack_write.specs.Handed.{handed}
 use Rattle.ack_write.proofs.Laws.{belong_all}

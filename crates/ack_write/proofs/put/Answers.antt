@@ -1,4 +1,4 @@
--- converted
+-- `ack_write::put` is right since the header and the identifier are put, and where it is no plain success what is behind them. Assumes nothing.
 use mathlib.Core.Path.{sym, ◌∙◌}
 use Rattle.records.specs.AsNumbers.{told_ack_kind}
 use Rattle.ack_write.specs.Handed.{handed}

@@ -1,4 +1,4 @@
--- converted
+-- `ack_write::put_block` is right since the properties are put behind the reason. Assumes nothing.
 use Rattle.write_ack_properties.proofs.Laws.{rows_small}
 use Rattle.records.specs.AsNumbers.{told_ack_kind}
 use Rattle.ack_write.specs.Handed.{handed}

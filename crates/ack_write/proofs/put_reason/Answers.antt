@@ -1,4 +1,4 @@
--- converted
+-- `ack_write::put_reason` is right since a byte is spelled as it stands. Assumes nothing.
 use mathlib.Core.Path.{sym, ap, ◌∙◌}
 use native.Mathlib.Omega.{arith}
 use lib.Seq.{sets}

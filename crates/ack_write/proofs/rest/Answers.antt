@@ -1,4 +1,4 @@
--- converted
+-- `ack_write::rest` is right since R is the identifier alone, or the reason and the block too. Assumes nothing.
 use mathlib.Core.Path.{sym, ◌∙◌}
 use Rattle.records.specs.AsNumbers.{told_ack_kind}
 use Rattle.ack_write.specs.Handed.{handed}

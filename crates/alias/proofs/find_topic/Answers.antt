@@ -1,4 +1,4 @@
--- converted
+-- `alias::find_topic` is right since the packet has a topic, or the table has it. Assumes nothing.
 use mathlib.Core.Path.{sym, ap, ◌∙◌}
 use Rattle.alias.specs.AliasAnswer.{told_judged}
 use Rattle.alias.proofs.Laws.{permits, force_bad, force_own, force_stored}

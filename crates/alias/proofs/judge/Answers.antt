@@ -1,4 +1,4 @@
--- converted
+-- `alias::judge` is right since the table is tested first, and the rest goes by the alias. Assumes nothing.
 use mathlib.Core.Path.{sym, ◌∙◌}
 use Rattle.alias.proofs.Laws.{bad_size, bad_length, permit_table}
 use Rattle.alias.proofs.judge.Goals as goal

@@ -1,4 +1,4 @@
--- converted
+-- `alias::judge_alias` is right since it asks what the definition asks, in that order. Assumes nothing.
 use native.Mathlib.Omega.{arith}
 use Rattle.alias.proofs.Laws.{permit_zero, permit_above, permit_unknown, permit_known, permit_long, permit_new}
 use Rattle.alias.proofs.judge_alias.Goals as goal

@@ -1,4 +1,4 @@
--- converted
+-- `alias::judge_plain` is right since without an alias only an empty topic is refused. Assumes nothing.
 use Rattle.alias.proofs.Laws.{permit_missing, permit_plain}
 use Rattle.alias.proofs.judge_plain.Goals as goal
 

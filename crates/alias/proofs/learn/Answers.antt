@@ -1,4 +1,4 @@
--- converted
+-- `alias::learn` is right since it hands on the topic and the alias of the message. Assumes nothing.
 use mathlib.Core.Path.{ap, ◌∙◌}
 use Rattle.alias.specs.AliasAnswer.{number_if}
 use Rattle.alias.proofs.Laws.{number_told, learnt_as}

@@ -1,4 +1,4 @@
--- converted
+-- `alias::learn_topic` is right since what is refused leaves the table alone, and anything else is set. Assumes nothing.
 use mathlib.Core.Path.{sym, ap, ◌∙◌}
 use Rattle.alias.specs.AliasAnswer.{told_judged}
 use Rattle.alias.proofs.Laws.{after_bad, after_got}

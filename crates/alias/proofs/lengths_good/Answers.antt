@@ -1,4 +1,4 @@
--- converted
+-- `alias::lengths_good` is right since the lengths passed are good, so those left decide. Assumes nothing.
 use mathlib.Core.Path.{sym, ◌∙◌}
 use Prim.Native.Nat.{◌-◌, ◌*◌}
 use native.Mathlib.Omega.{arith}

@@ -1,4 +1,4 @@
--- converted
+-- `alias::place_in_force` is right since it hands on where the topic stands, and the alias of the message. Assumes nothing.
 use mathlib.Core.Path.{ap, ◌∙◌}
 use Rattle.alias.specs.Alias.{in_force}
 use Rattle.alias.specs.AliasAnswer.{number_if}

@@ -1,4 +1,4 @@
--- converted
+-- `alias::set` is right since the length is stored, and the topic put behind it. Assumes nothing.
 use mathlib.Core.Path.{◌∙◌}
 use native.Mathlib.Numerals.{add-one}
 use Rattle.alias.specs.Table.{set_alias}

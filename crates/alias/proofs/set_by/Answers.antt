@@ -1,4 +1,4 @@
--- converted
+-- `alias::set_by` is right since only a topic that is sent with an alias is set. Assumes nothing.
 use mathlib.Core.Path.{ap}
 use Rattle.records.specs.AsNumbers.{number_u16}
 use Rattle.alias.proofs.Laws.{permits, good_length, in_range_lem, has_room}

@@ -1,4 +1,4 @@
--- converted
+-- `alias::topic_in_force` is right since `part` hands back what lies at the place. Assumes nothing.
 use mathlib.Core.Path.{sym, ap, ◌∙◌}
 use Rattle.alias.specs.AliasAnswer.{told_placed}
 use Rattle.alias.proofs.topic_in_force.Goals as goal

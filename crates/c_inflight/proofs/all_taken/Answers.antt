@@ -1,4 +1,4 @@
--- converted (mended)
+-- `c_inflight::all_taken` is right since a byte that is free leaves its mark. Assumes nothing.
 use Prim.Native.Nat.{◌-◌}
 use native.Mathlib.Omega.{arith}
 use Rattle.c_inflight.proofs.Laws.{passed_more}

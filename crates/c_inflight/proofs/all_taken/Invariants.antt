@@ -1,4 +1,3 @@
--- converted (mended)
 use Prim.Native.Nat.{◌-◌, ◌≤◌}
 use Rattle.c_inflight.proofs.Laws.{Passed}
 use Rattle.c_inflight.proofs.all_taken.Given as goal

@@ -1,4 +1,4 @@
--- converted (mended)
+-- `c_inflight::answers` is right since each way to end is one of the definition's. Assumes nothing.
 use mathlib.Core.Path.{refl, sym, ◌∙◌}
 use mathlib.Core.List.{[]}
 use Rattle.c_inflight.proofs.Laws.{refuses, named, ack_none, ack_some, due_above, next_told}

@@ -1,4 +1,4 @@
--- converted (mended)
+-- `c_inflight::claim_for` is right since the byte that changes is the first free one. Assumes nothing.
 use mathlib.Core.Path.{refl}
 use Rattle.c_inflight.proofs.Laws.{granted_ends, full_ends}
 use Rattle.c_inflight.proofs.claim_for.Goals as goal

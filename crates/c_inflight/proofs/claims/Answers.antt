@@ -1,4 +1,4 @@
--- converted (mended)
+-- `c_inflight::claims` is right since each way to end is one of the definition's. Assumes nothing.
 use mathlib.Core.Path.{refl, sym, ◌∙◌}
 use mathlib.Core.List.{◌∷◌, []}
 use native.Mathlib.Omega.{arith}

@@ -1,4 +1,4 @@
--- converted (mended)
+-- `c_inflight::clear` is right since every byte passed is free. Assumes nothing.
 use Prim.Native.Nat.{◌-◌}
 use lib.ListN.{length}
 use Rattle.c_inflight.proofs.Laws.{Cleared}

@@ -1,4 +1,4 @@
--- converted (mended)
+-- `c_inflight::count` is right since the count goes by what is left. Assumes nothing.
 use Prim.Native.Nat.{◌-◌}
 use native.Mathlib.Omega.{arith}
 use Rattle.inflight.proofs.Laws.{counted, all_counted}

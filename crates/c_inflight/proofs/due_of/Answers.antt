@@ -1,4 +1,4 @@
--- converted (mended)
+-- `c_inflight::due_of` is right since each kind is tested in turn. Assumes nothing.
 use borrow.Author.Tests.{ne_eqb}
 use Rattle.c_inflight.specs.Given.{due_of}
 use Rattle.c_inflight.proofs.due_of.Goals as goal

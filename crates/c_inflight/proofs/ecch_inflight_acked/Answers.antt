@@ -1,4 +1,4 @@
--- converted (mended)
+-- `c_inflight::ecch_inflight_acked` is right since what is stored is what `answers` says. Assumes nothing.
 use mathlib.Core.Path.{◌∙◌}
 use Rattle.c_inflight.proofs.Laws.{ends}
 use Rattle.c_inflight.proofs.ecch_inflight_acked.Goals as goal

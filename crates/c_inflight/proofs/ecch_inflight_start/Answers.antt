@@ -1,4 +1,4 @@
--- converted (mended)
+-- `c_inflight::ecch_inflight_start` is right since every byte is cleared where there is one for each identifier. Assumes nothing.
 use mathlib.Core.Path.{refl}
 use native.Mathlib.Omega.{arith}
 use Rattle.c_inflight.proofs.Laws.{start_fine, start_bad}

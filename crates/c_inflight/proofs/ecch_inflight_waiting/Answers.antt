@@ -1,4 +1,4 @@
--- converted (mended)
+-- `c_inflight::ecch_inflight_waiting` is right since what is stored is what `waits` says. Assumes nothing.
 use mathlib.Core.Path.{◌∙◌}
 use Rattle.c_inflight.proofs.ecch_inflight_waiting.Goals as goal
 

@@ -1,4 +1,4 @@
--- converted (mended)
+-- `c_inflight::first_free` is right since none of the bytes before the one reached is free. Assumes nothing.
 use Prim.Native.Nat.{◌-◌}
 use native.Mathlib.Omega.{arith}
 use Rattle.inflight.proofs.Laws.{passed, found, none_free}

@@ -1,4 +1,4 @@
--- converted (mended)
+-- `c_inflight::is_table` is right since the two tests are the definition's. Assumes nothing.
 use native.Mathlib.Omega.{arith}
 use Rattle.c_inflight.proofs.Laws.{not_long, as_states}
 use Rattle.c_inflight.proofs.is_table.Goals as goal

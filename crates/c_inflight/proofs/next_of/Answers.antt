@@ -1,4 +1,4 @@
--- converted (mended)
+-- `c_inflight::next_of` is right since a PubRec alone moves on. Assumes nothing.
 use mathlib.Core.Path.{◌∙◌}
 use borrow.Author.Tests.{ne_eqb}
 use Rattle.inflight.proofs.Laws.{pubrec_on, pubrec_off}

@@ -1,4 +1,4 @@
--- converted (mended)
+-- `c_inflight::pass_taken` is right since none of the bytes passed is free. Assumes nothing.
 use Prim.Native.Nat.{◌-◌}
 use native.Mathlib.Omega.{arith}
 use Rattle.inflight.proofs.Laws.{at_start}

@@ -1,4 +1,4 @@
--- converted (mended)
+-- `c_inflight::settle` is right since one byte changes, or none. Assumes nothing.
 use mathlib.Core.Path.{refl, sym, ◌∙◌}
 use native.Mathlib.Omega.{arith}
 use Rattle.inflight.proofs.Laws.{wait_in_lem, put_in}

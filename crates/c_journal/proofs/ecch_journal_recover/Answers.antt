@@ -1,4 +1,4 @@
--- converted (mended)
+-- `c_journal::ecch_journal_recover` is right since number, table and answer are those of `recover`. Assumes nothing.
 use mathlib.Core.Path.{ap, ◌∙◌}
 use Rattle.inflight.specs.TableAnswer.{waits_of}
 use Rattle.c_journal.specs.Given.{number_of, first_of}

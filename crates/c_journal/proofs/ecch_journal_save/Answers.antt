@@ -1,4 +1,4 @@
--- converted (mended)
+-- `c_journal::ecch_journal_save` is right since what is stored is what `saves` says. Assumes nothing.
 use mathlib.Core.Path.{◌∙◌}
 use Rattle.c_journal.proofs.Laws.{done_ends}
 use Rattle.c_journal.proofs.ecch_journal_save.Goals as goal

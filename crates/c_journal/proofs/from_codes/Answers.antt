@@ -1,4 +1,4 @@
--- converted (mended)
+-- `c_journal::from_codes` is right since each byte is a state, or the first that is none ends it. Assumes nothing.
 use mathlib.Core.Path.{◌∙◌}
 use Prim.Native.Nat.{◌-◌}
 use native.Mathlib.Omega.{arith}

@@ -1,4 +1,4 @@
--- converted (mended)
+-- `c_journal::put_all` is right since the places are stored one behind the other. Assumes nothing.
 use mathlib.Core.Path.{◌≡◌, sym, ◌∙◌}
 use Prim.Native.Nat.{◌-◌}
 use native.Mathlib.Omega.{arith}

@@ -1,4 +1,3 @@
--- converted (mended)
 use Prim.Native.Nat.{◌-◌}
 use Rattle.inflight.specs.Rules.{limit}
 use Rattle.inflight.specs.TableAnswer.{waits_of}

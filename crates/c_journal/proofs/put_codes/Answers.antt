@@ -1,4 +1,4 @@
--- converted (mended)
+-- `c_journal::put_codes` is right since it stores all or nothing. Assumes nothing.
 use mathlib.Core.Path.{◌∙◌}
 use Rattle.c_journal.proofs.Bytes.{stored_fits, stored_not}
 use Rattle.c_journal.proofs.put_codes.Goals as goal

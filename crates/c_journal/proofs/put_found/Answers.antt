@@ -1,4 +1,4 @@
--- converted (mended)
+-- `c_journal::put_found` is right since a bad area is the one number that stores nothing. Assumes nothing.
 use borrow.Author.Tests.{ne_eqb}
 use Rattle.c_journal.proofs.put_found.Goals as goal
 

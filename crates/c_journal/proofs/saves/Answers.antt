@@ -1,4 +1,4 @@
--- converted (mended)
+-- `c_journal::saves` is right since each way to end is one of the definition's. Assumes nothing.
 use mathlib.Core.Path.{refl, sym, ◌∙◌}
 use Rattle.journal.specs.JournalAnswer.{save_of}
 use Rattle.c_journal.proofs.Laws.{done_save, done_table, done_area}

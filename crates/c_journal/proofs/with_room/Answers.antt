@@ -1,4 +1,4 @@
--- converted (mended)
+-- `c_journal::with_room` is right since each test is the definition's. Assumes nothing.
 use Rattle.c_journal.proofs.Laws.{room_bad, room_short, room_fine}
 use Rattle.c_journal.proofs.with_room.Goals as goal
 

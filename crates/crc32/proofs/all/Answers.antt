@@ -1,4 +1,4 @@
--- converted
+-- `crc32::all` is right since what is left decides, eight bytes at a time. Assumes nothing.
 use mathlib.Core.Path.{sym, ◌∙◌}
 use Prim.Native.Nat.{◌-◌}
 use native.Mathlib.Omega.{arith}

@@ -1,4 +1,3 @@
--- converted
 use Prim.Native.Nat.{◌-◌}
 use lib.ListN.{length}
 use Rattle.crc32.specs.Crc.{bytes_in, all_ones}

@@ -1,4 +1,4 @@
--- converted
+-- `crc32::crc32` is right since the tables are right by computing them, and the rest is the law of slices. Assumes nothing.
 use mathlib.Core.Path.{ap}
 use Prim.Native.Nat.{ℕ, ◌-◌}
 use lib.Bits.{bit_xor}

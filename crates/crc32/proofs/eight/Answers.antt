@@ -1,4 +1,4 @@
--- converted
+-- `crc32::eight` is right since each of the eight bytes goes in by the number of bytes behind it. Assumes nothing.
 use native.Mathlib.Omega.{arith}
 use Rattle.crc32.proofs.Laws.{eight_passes}
 use Rattle.crc32.proofs.eight.Goals as goal

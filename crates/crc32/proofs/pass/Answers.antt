@@ -1,4 +1,4 @@
--- converted
+-- `crc32::pass` is right since the two halves of a byte go in by their tables, and shifts are linear. Assumes nothing.
 use mathlib.Core.Path.{ap}
 use Prim.Native.Nat.{ℕ}
 use native.Mathlib.Omega.{arith}

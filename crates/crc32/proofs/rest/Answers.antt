@@ -1,4 +1,4 @@
--- converted
+-- `crc32::rest` is right since what is left decides. Assumes nothing.
 use Prim.Native.Nat.{◌-◌}
 use native.Mathlib.Omega.{arith}
 use Rattle.crc32.proofs.Laws.{one_more_lem, all_passed}

@@ -1,4 +1,4 @@
--- converted
+-- `filter_runs::nth` is right since each turn passes one filter and keeps the n-th of those passed. Assumes nothing.
 use Prim.Native.Nat.{◌-◌}
 use native.Mathlib.Omega.{arith}
 use Rattle.filters.proofs.Laws.{filter_ahead}

@@ -1,4 +1,4 @@
--- converted
+-- `filter_runs::read_filters` is right since each turn passes one filter, and what stands at `i` decides. Assumes nothing.
 use mathlib.Core.Path.{sym, ◌∙◌}
 use Prim.Native.Nat.{◌-◌}
 use native.Mathlib.Omega.{arith}

@@ -1,4 +1,4 @@
--- converted
+-- `filters::pass_filter` is right since a filter is a text, then an options byte, and goes on behind it where its options may stand. Assumes nothing.
 use mathlib.Core.Path.{sym, ◌∙◌}
 use Rattle.filters.proofs.Laws.{past_text, past_cut, past_fine, past_unfit}
 use Rattle.filters.proofs.pass_filter.Goals as goal

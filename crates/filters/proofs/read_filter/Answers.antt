@@ -1,4 +1,4 @@
--- converted
+-- `filters::read_filter` is right since a filter is a text, then an options byte, and its options decide. Assumes nothing.
 use mathlib.Core.Path.{◌∙◌}
 use Rattle.filters.proofs.Laws.{filter_text, filter_cut, filter_options}
 use Rattle.filters.proofs.read_filter.Goals as goal

@@ -1,4 +1,4 @@
--- converted
+-- `inflight::became` is right since the one state that is free has the number 0. Assumes nothing.
 use mathlib.Core.Path.{sym, ◌∙◌}
 use Rattle.inflight.proofs.Laws.{became_free, became_on}
 use Rattle.inflight.proofs.became.Goals as goal

@@ -1,4 +1,4 @@
--- converted
+-- `items::is_single` meets its contract: 38 is a list at every place, 11 at that of a Publish. Assumes nothing.
 use Rattle.tables.specs.declared.property.PropertyRow.TheVariants.{Publish, Subscribe, Ack, Unsubscribe}
 use Rattle.items.proofs.Laws.{single_user, single_ident, single_other}
 use Rattle.items.proofs.is_single.Goals as goal

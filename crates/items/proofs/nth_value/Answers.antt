@@ -1,4 +1,4 @@
--- converted
+-- `items::nth_value` is right since a place within the slice is the end of the slice that ends where the place does. Assumes nothing.
 use mathlib.Core.Path.{sym, ◌∙◌}
 use borrow.Author.Tests.{leb-true, leb-false}
 use Rattle.items.proofs.Laws.{nth_outside, nth_within}

@@ -1,4 +1,4 @@
--- converted
+-- `items::seek_in` is right since each turn passes one property, which was not met before, and what is left decides. Assumes nothing.
 use native.Mathlib.Omega.{arith}
 use Prim.Native.Nat.{◌-◌}
 use Rattle.items.proofs.Laws.{seeking_start, seeking_end, seeking_twice, seeking_bad, seeking_ahead, seeking_next}

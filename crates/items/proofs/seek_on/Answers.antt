@@ -1,4 +1,4 @@
--- converted
+-- `items::seek_on` is right since a value of the property takes one off the count, and any other property leaves it. Assumes nothing.
 use Rattle.items.proofs.Laws.{seek_other, seek_here, seek_past}
 use Rattle.items.proofs.seek_on.Goals as goal
 

@@ -1,4 +1,4 @@
--- by hand
+-- `items::subscription_identifier` is right since in the row of a Publish property 11 is a number. Assumes nothing.
 use borrow.Enum.Refused.{opened}
 use mathlib.Core.List.{[], ◌∷◌}
 use Rattle.grammar.specs.Tables.{number, publish_row}

@@ -1,4 +1,4 @@
--- by hand
+-- `items::user_property` is right since in every row property 38 is a pair. Assumes nothing.
 use borrow.Enum.Refused.{opened}
 use mathlib.Core.Path.{◌∙◌}
 use mathlib.Core.List.{[], ◌∷◌}

@@ -1,4 +1,3 @@
--- converted
 use mathlib.Core.Path.{sym, ◌∙◌}
 use Rattle.journal.proofs.Finding.{taken, left_bad, left_less}
 use Rattle.journal.proofs.better.Goals as goal

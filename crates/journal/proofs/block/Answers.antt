@@ -1,4 +1,3 @@
--- converted
 use Rattle.journal.proofs.Turns.{block_at}
 use Rattle.journal.proofs.block.Goals as goal
 

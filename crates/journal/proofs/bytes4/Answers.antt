@@ -1,4 +1,3 @@
--- converted
 use native.Mathlib.Nat.{div-one}
 use Rattle.journal.specs.Block.{bytes_of}
 use Rattle.journal.proofs.bytes4.Goals as goal

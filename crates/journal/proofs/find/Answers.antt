@@ -1,4 +1,3 @@
--- converted
 use native.Mathlib.Omega.{arith}
 use Rattle.journal.proofs.Finding.{walk_none, walk_more, walk_all}
 use Rattle.journal.proofs.find.Goals as goal

@@ -1,4 +1,3 @@
--- converted
 use Rattle.journal.proofs.Finding.{Walked}
 use Rattle.journal.proofs.find.Given as goal
 

@@ -1,4 +1,3 @@
--- converted
 use mathlib.Core.Path.{sym, ◌∙◌}
 use Rattle.journal.proofs.Turns.{bad_check, bad_zeros, bad_number, good_above}
 use Rattle.journal.proofs.is_good.Goals as goal

@@ -1,4 +1,4 @@
--- converted
+-- `journal::look` is right since each test of it is the definition's. Assumes nothing.
 use mathlib.Core.Path.{sym, ◌∙◌}
 use Rattle.journal.proofs.Finding.{look_bad, look_past, look_not, look_good}
 use Rattle.journal.proofs.look.Goals as goal

@@ -1,4 +1,3 @@
--- converted
 use Prim.Native.Nat.{◌-◌}
 use Rattle.journal.specs.Block.{wait_in}
 use Rattle.journal.proofs.Turns.{Above}

@@ -1,4 +1,3 @@
--- converted
 use Rattle.journal.specs.Block.{number_of}
 use Rattle.journal.proofs.number_of.Goals as goal
 

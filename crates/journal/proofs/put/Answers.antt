@@ -1,4 +1,3 @@
--- converted
 use Prim.Native.Nat.{◌-◌}
 use native.Mathlib.Omega.{arith}
 use Rattle.journal.proofs.Stores.{put_more}

@@ -1,4 +1,3 @@
--- converted
 use native.Mathlib.Omega.{arith}
 use Rattle.journal.proofs.Turns.{part_long}
 use Rattle.journal.proofs.put_check.Goals as goal

@@ -1,4 +1,4 @@
--- converted by hand
+-- `journal::put_marks` is right since each byte is that of its four places. Assumes nothing.
 use mathlib.Core.Path.{◌≡◌}
 use Prim.Native.Nat.{◌-◌}
 use native.Mathlib.Omega.{arith}

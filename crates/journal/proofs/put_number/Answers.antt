@@ -1,4 +1,3 @@
--- converted
 use mathlib.Core.Path.{ap, ◌∙◌}
 use lib.Seq.{sets}
 use Rattle.journal.proofs.put_number.Goals as goal

@@ -1,4 +1,3 @@
--- converted
 use mathlib.Core.Path.{sym, ◌∙◌}
 use Rattle.journal.proofs.Finding.{whole_count, recover_bad, recover_empty, recover_found}
 use Rattle.journal.proofs.Turns.{pos_of}

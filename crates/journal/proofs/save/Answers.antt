@@ -1,4 +1,3 @@
--- converted
 use mathlib.Core.Path.{sym, ◌∙◌}
 use native.Mathlib.Omega.{arith}
 use Rattle.journal.proofs.Finding.{save_bad, save_ended, whole_count, block_fits, save_put}

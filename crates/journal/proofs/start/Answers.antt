@@ -1,4 +1,3 @@
--- converted
 use mathlib.Core.Path.{sym, ◌∙◌}
 use Rattle.journal.proofs.Finding.{start_bad, start_done}
 use Rattle.journal.proofs.start.Goals as goal

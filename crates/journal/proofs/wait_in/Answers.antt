@@ -1,4 +1,3 @@
--- converted
 use Rattle.journal.specs.Block.{wait_in}
 use Rattle.journal.proofs.wait_in.Goals as goal
 

@@ -1,4 +1,4 @@
--- converted
+-- `kinds::kind_of` is right since the tables, looked up at each number of the match, say what its arm says. Assumes nothing.
 use mathlib.Core.Path.{sym}
 use mathlib.Core.Logic.{⊎_elim, inl, inr}
 use borrow.Author.Tests.{ne_eqb}

@@ -1,4 +1,4 @@
--- converted
+-- `ping::ping_size` is right since a ping has no bytes behind R. Assumes nothing.
 use mathlib.Core.Path.{◌∙◌}
 use Rattle.writing.specs.Handed.{ping}
 use Rattle.write_order.proofs.Laws.{sized_found}

@@ -1,4 +1,4 @@
--- converted
+-- `ping::write_ping` is right since nothing of a ping is refused but for the limit and the room, and its frame is its header. Assumes nothing.
 use mathlib.Core.Path.{sym, ap, ◌∙◌}
 use mathlib.Core.List.{List}
 use Prim.Native.Nat.{ℕ}

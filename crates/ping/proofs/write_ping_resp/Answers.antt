@@ -1,4 +1,4 @@
--- converted
+-- `ping::write_ping_resp` is right since its first byte is that of a PingResp. Assumes nothing.
 use Rattle.ping.proofs.write_ping_resp.Goals as goal
 
 pub returns : goal.returns

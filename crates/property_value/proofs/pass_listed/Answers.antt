@@ -1,4 +1,4 @@
--- converted
+-- `property_value::pass_listed` is right since the identifier that was read says whether a list's value is to follow. Assumes nothing.
 use mathlib.Core.Path.{refl}
 use Rattle.tables.proofs.Laws.{lookup_absent}
 use Rattle.property_value.specs.OneProperty.{publish_lists}

@@ -1,4 +1,4 @@
--- converted
+-- `property_value::pass_number` is right since the number ends where `read_identifier` says. Assumes nothing.
 use Rattle.property_value.proofs.Laws.{of_number, past, not_past}
 use Rattle.property_value.proofs.pass_number.Goals as goal
 

@@ -1,4 +1,4 @@
--- converted
+-- `property_value::pass_pair` is right since the second text is read where the first ends. Assumes nothing.
 use Rattle.property_value.proofs.Laws.{pair_not_past, pair_next_not_past, pair_past}
 use Rattle.property_value.proofs.pass_pair.Goals as goal
 

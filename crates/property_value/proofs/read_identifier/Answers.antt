@@ -1,4 +1,4 @@
--- converted
+-- `property_value::read_identifier` is right since the number that `read_length` reads is refused where it is 0. Assumes nothing.
 use Rattle.property_value.proofs.Laws.{identifier_bad, identifier_zero, identifier_fine}
 use Rattle.property_value.proofs.read_identifier.Goals as goal
 

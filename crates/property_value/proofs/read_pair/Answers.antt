@@ -1,4 +1,4 @@
--- converted
+-- `property_value::read_pair` is right since the second text is read where the first ends. Assumes nothing.
 use Rattle.property_value.proofs.Laws.{pair_bad, pair_next_bad, pair_got}
 use Rattle.property_value.proofs.read_pair.Goals as goal
 

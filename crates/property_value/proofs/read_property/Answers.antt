@@ -1,4 +1,4 @@
--- converted
+-- `property_value::read_property` is right since the identifier that was read says the form of the value behind it. Assumes nothing.
 use Rattle.property_value.proofs.Laws.{property_refused, property_read}
 use Rattle.property_value.proofs.read_property.Goals as goal
 

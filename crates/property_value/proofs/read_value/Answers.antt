@@ -1,4 +1,4 @@
--- converted
+-- `property_value::read_value` is right form by form: what the leaf of the form reads is the value. Assumes nothing.
 use mathlib.Core.Path.{refl}
 use Rattle.reading.specs.Read.{value_at}
 use Rattle.positions.specs.Position.{from_at}

@@ -1,4 +1,5 @@
--- converted
+-- `publish::apply` meets its contract: by the row, the form of a value tells which field it is of; the identifier is asked
+-- for text alone. Assumes nothing.
 use mathlib.Core.Path.{◌≡◌}
 use mathlib.Core.Logic.{◌⊎◌, ⊎_elim}
 use Prim.Native.Nat.{ℕ}

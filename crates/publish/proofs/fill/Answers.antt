@@ -1,4 +1,5 @@
--- converted
+-- `publish::fill` meets its contract. The loop's invariant: the rest of the loop decides the whole. Each property takes a byte at
+-- least, and what is left of the slice is the measure. Assumes nothing.
 use mathlib.Core.Path.{sym, ap, ◌∙◌}
 use mathlib.Core.Option.{some}
 use native.Mathlib.Omega.{arith}

@@ -1,4 +1,4 @@
--- converted
+-- `publish::none` meets its contract: of no properties each single value is absent. Assumes nothing.
 use mathlib.Core.Path.{refl}
 use Rattle.grammar.specs.Record.{last_of, publish_props}
 use Rattle.publish.proofs.none.Goals as goal

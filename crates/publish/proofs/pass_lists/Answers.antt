@@ -1,4 +1,4 @@
--- converted
+-- `publish::pass_lists` meets its contract. The loop's invariant: properties of lists stand from `from` to `at`. Assumes nothing.
 use Prim.Native.Nat.{◌-◌}
 use native.Mathlib.Omega.{arith}
 use Rattle.properties.proofs.Laws.Fold.{over_ahead}

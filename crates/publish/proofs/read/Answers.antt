@@ -1,4 +1,4 @@
--- converted
+-- `publish::read` is right since each field is read where the one before it ends, and the first refusal stands. Assumes nothing.
 use Rattle.publish.proofs.Laws.{qos_refused, topic_within, topic_bad, pkid_bad, block_within, block_bad, fields_got}
 use Rattle.publish.proofs.read.Goals as goal
 

@@ -1,4 +1,4 @@
--- converted
+-- `publish::read_pkid` is right since at QoS 0 nothing stands there, and at 1 and 2 the same. Assumes nothing.
 use Rattle.reading.specs.Read.{ident_of}
 use Rattle.publish.proofs.Laws.{ident_none}
 use Rattle.publish.proofs.read_pkid.Goals as goal

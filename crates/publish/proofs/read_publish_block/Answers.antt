@@ -1,4 +1,5 @@
--- converted
+-- `publish::read_publish_block` meets its contract: the room of the block is what `read_room` found; with no byte in it the block is absent,
+-- else it is what `fill` makes of the slice that ends with it. Assumes nothing.
 use mathlib.Core.Path.{sym, ◌∙◌}
 use native.Mathlib.Omega.{arith}
 use lib.Seq.{length-take-le}

@@ -1,4 +1,4 @@
--- converted
+-- `publish::read_some_pkid` is right since the identifier is what `read_u16` read, and 0 is refused. Assumes nothing.
 use Rattle.publish.proofs.Laws.{ident_bad, ident_zero, ident_some}
 use Rattle.publish.proofs.read_some_pkid.Goals as goal
 

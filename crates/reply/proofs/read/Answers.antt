@@ -1,4 +1,4 @@
--- converted
+-- `reply::read` is right since a reply is an identifier, a block, and reasons to the end, each read where the last ends. Assumes nothing.
 use mathlib.Core.Path.{◌∙◌}
 use Rattle.positions.proofs.Listed.{listed_ident, listed_block, listed_entries, listed_fine}
 use Rattle.reply.proofs.Laws.{as_listed}

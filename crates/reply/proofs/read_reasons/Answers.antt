@@ -1,4 +1,4 @@
--- converted
+-- `reply::read_reasons` is right since each turn passes one reason, and what stands at `i` decides. Assumes nothing.
 use mathlib.Core.Path.{sym, ◌∙◌}
 use Prim.Native.Nat.{◌-◌}
 use native.Mathlib.Omega.{arith}

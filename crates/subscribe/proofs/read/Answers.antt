@@ -1,4 +1,4 @@
--- converted
+-- `subscribe::read` is right since a Subscribe is an identifier, a block, and filters to the end, each read where the last ends. Assumes nothing.
 use mathlib.Core.Path.{◌∙◌}
 use Rattle.positions.proofs.Listed.{listed_ident, listed_block, listed_entries, listed_fine}
 use Rattle.subscribe.proofs.Laws.{as_listed}

@@ -1,4 +1,4 @@
--- converted
+-- `topics::after` is right since what is left of one of the two decides, or what is left of both. Assumes nothing.
 use Prim.Native.Nat.{◌-◌}
 use Rattle.topics.proofs.Laws.{decides_end, decides_short, decides_rest}
 use Rattle.topics.proofs.after.Goals as goal

@@ -1,4 +1,4 @@
--- converted
+-- `topics::differ_in` is right since the mark of each two bytes goes into the sum. Assumes nothing.
 use Prim.Native.Nat.{◌-◌}
 use native.Mathlib.Omega.{arith}
 use Rattle.topics.proofs.Laws.{marked_next}

@@ -1,4 +1,4 @@
--- converted
+-- `topics::first_levels` is right since a level `#` decides, `+` has its own case, and any other level has to be the first of the topic. Assumes nothing.
 use mathlib.Core.Path.{sym, ◌∙◌}
 use Rattle.topics.proofs.Laws.{level_clear, decides_hash, level_met, level_missed}
 use Rattle.topics.proofs.first_levels.Goals as goal

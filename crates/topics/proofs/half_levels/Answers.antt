@@ -1,4 +1,4 @@
--- converted
+-- `topics::half_levels` is right since each level passed leaves it to the rest, and the loop ends when less is left than was passed. Assumes nothing.
 use Prim.Native.Nat.{◌-◌}
 use native.Mathlib.Omega.{arith}
 use Rattle.topics.proofs.Laws.{passing_decided, passing_on, passing_end}

@@ -1,4 +1,4 @@
--- converted
+-- `topics::is_first` is right since the first level of the topic ends behind the level if it is the same. Assumes nothing.
 use mathlib.Core.Path.{sym, ◌∙◌}
 use Rattle.topics.proofs.Laws.{first_short, first_longer, first_same}
 use Rattle.topics.proofs.is_first.Goals as goal

@@ -1,4 +1,4 @@
--- converted
+-- `topics::is_lone` is right since a level of one byte is that byte. Assumes nothing.
 use mathlib.Core.Path.{sym}
 use Prim.Native.Nat.{◌-◌}
 use Rattle.topics.proofs.Laws.{lone_one, lone_other}

@@ -1,4 +1,4 @@
--- converted
+-- `topics::level_fine` is right since a level of one byte is a wildcard or has none. Assumes nothing.
 use mathlib.Core.Path.{ap, ◌∙◌}
 use Prim.Native.Nat.{◌-◌}
 use mathlib.Core.Bool.{not}

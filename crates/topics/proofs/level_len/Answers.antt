@@ -1,4 +1,4 @@
--- converted
+-- `topics::level_len` is right since no byte before the one that is found is a separator. Assumes nothing.
 use native.Mathlib.Omega.{arith}
 use lib.ListN.{length}
 use Rattle.topics.specs.Step.{slash_at}

@@ -1,4 +1,4 @@
--- converted
+-- `topics::levels_fine` is right since each level passed is fine, so what is left decides. Assumes nothing.
 use mathlib.Core.Path.{sym, ◌∙◌}
 use Prim.Native.Nat.{◌-◌}
 use Rattle.topics.proofs.Laws.{fine_broken, fine_on, fine_done}

@@ -1,4 +1,4 @@
--- converted
+-- `topics::matches` is right since it asks what the definition asks, in that order. Assumes nothing.
 use mathlib.Core.Path.{sym, ◌∙◌}
 use Prim.Native.Nat.{◌-◌}
 use Rattle.topics.specs.Match.{matches_of}

@@ -1,4 +1,4 @@
--- converted
+-- `topics::meet_plus` is right since `+` meets every level but `#`. Assumes nothing.
 use mathlib.Core.Path.{sym, ◌∙◌}
 use Rattle.topics.proofs.Laws.{plus_hash, plus_met}
 use Rattle.topics.proofs.meet_plus.Goals as goal

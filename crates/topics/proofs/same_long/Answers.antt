@@ -1,4 +1,4 @@
--- converted
+-- `topics::same_long` is right since what is not asked in the last sixteen was asked before. Assumes nothing.
 use mathlib.Core.Path.{sym}
 use Prim.Native.Nat.{◌-◌}
 use native.Mathlib.Omega.{arith}

@@ -1,4 +1,4 @@
--- converted
+-- `topics::same_short` is right since the bytes passed are equal. Assumes nothing.
 use mathlib.Core.Path.{sym, ap}
 use mathlib.Core.Bool.{not}
 use Prim.Native.Nat.{◌-◌}

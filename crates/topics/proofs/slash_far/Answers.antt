@@ -1,4 +1,4 @@
--- converted
+-- `topics::slash_far` is right since no byte passed is a separator. Assumes nothing.
 use Prim.Native.Nat.{◌+◌, ◌-◌}
 use native.Mathlib.Omega.{arith}
 use Rattle.topics.specs.Step.{slash_at}

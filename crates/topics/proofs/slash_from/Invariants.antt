@@ -1,4 +1,4 @@
--- converted
+-- `topics::slash_from` is right since no byte passed is a separator. Assumes nothing.
 use Prim.Native.Nat.{◌-◌, ◌≤◌}
 use Rattle.topics.specs.Step.{Clear, slash_at}
 use Rattle.topics.proofs.slash_from.Given as goal

@@ -1,4 +1,4 @@
--- converted
+-- `topics::slash_in` is right since the mark of each byte goes into the sum. Assumes nothing.
 use Prim.Native.Nat.{◌-◌}
 use native.Mathlib.Omega.{arith}
 use Rattle.topics.proofs.Laws.{marked_next}

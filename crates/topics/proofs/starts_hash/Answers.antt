@@ -1,4 +1,4 @@
--- converted
+-- `topics::starts_hash` is right since it asks the first level. Assumes nothing.
 use mathlib.Core.Path.{sym}
 use Prim.Native.Nat.{◌-◌}
 use lib.Seq.{length-take-le}

@@ -1,4 +1,4 @@
--- converted
+-- `topics::valid_filter` is right since a filter with no wildcards has none in a level, and any other goes level by level. Assumes nothing.
 use mathlib.Core.Path.{sym, ◌∙◌}
 use Rattle.topics.proofs.Laws.{filter_none, filter_some, filter_plain}
 use Rattle.topics.proofs.valid_filter.Goals as goal

@@ -1,4 +1,4 @@
--- converted
+-- `topics::valid_topic` is right since it asks for wildcards. Assumes nothing.
 use mathlib.Core.Path.{ap}
 use mathlib.Core.Bool.{not}
 use Rattle.topics.proofs.valid_topic.Goals as goal

@@ -1,4 +1,4 @@
--- converted
+-- `topics::wild_eights` is right since what is not among the first eight is among the last. Assumes nothing.
 use mathlib.Core.Path.{sym}
 use native.Mathlib.Omega.{arith}
 use Rattle.topics.proofs.Laws.{wild_hit, wild_asked}

@@ -1,4 +1,4 @@
--- converted
+-- `topics::wild_in` is right since the mark of each byte goes into the sum. Assumes nothing.
 use mathlib.Core.Path.{ap, ◌∙◌}
 use mathlib.Core.Bool.{not}
 use Prim.Native.Nat.{◌-◌}

@@ -1,4 +1,3 @@
--- converted
 use Prim.Native.Nat.{◌-◌, ◌≤◌}
 use Rattle.topics.specs.Step.{wild_at}
 use Rattle.topics.proofs.Laws.{Marked}

@@ -1,4 +1,4 @@
--- converted
+-- `topics::wild_short` is right since each byte passed is no wildcard. Assumes nothing.
 use mathlib.Core.Path.{sym, ◌∙◌}
 use Prim.Native.Nat.{◌-◌}
 use native.Mathlib.Omega.{arith}

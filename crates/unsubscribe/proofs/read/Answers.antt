@@ -1,4 +1,4 @@
--- converted
+-- `unsubscribe::read` is right since an Unsubscribe is an identifier, a block, and topics to the end, each read where the last ends. Assumes nothing.
 use mathlib.Core.Path.{◌∙◌}
 use Rattle.positions.proofs.Listed.{listed_ident, listed_block, listed_entries, listed_fine}
 use Rattle.unsubscribe.proofs.Laws.{as_listed}

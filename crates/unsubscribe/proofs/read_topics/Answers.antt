@@ -1,4 +1,4 @@
--- converted
+-- `unsubscribe::read_topics` is right since each turn passes one topic, and what stands at `i` decides. Assumes nothing.
 use Prim.Native.Nat.{◌-◌}
 use native.Mathlib.Omega.{arith}
 use mathlib.Core.Path.{sym}

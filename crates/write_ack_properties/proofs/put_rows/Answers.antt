@@ -1,4 +1,4 @@
--- converted
+-- `write_ack_properties::put_rows` is right since each row is put behind the one before it. Assumes nothing.
 use Rattle.grammar.specs.Tables.{text}
 use Rattle.write_runs.specs.Given.{run}
 use Rattle.write_ack_properties.proofs.Laws.{put_both}

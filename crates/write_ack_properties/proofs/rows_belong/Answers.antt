@@ -1,4 +1,4 @@
--- converted
+-- `write_ack_properties::rows_belong` is right since the block belongs together exactly if both rows do. Assumes nothing.
 use Rattle.write_runs.specs.Given.{run}
 use Rattle.write_ack_properties.proofs.Laws.{belong_both}
 use Rattle.write_ack_properties.proofs.rows_belong.Goals as goal

@@ -1,4 +1,4 @@
--- converted
+-- `write_ack_properties::rows_length` is right since it adds up the rows of the table. Assumes nothing.
 use Rattle.grammar.specs.Tables.{text}
 use Rattle.write_runs.specs.Given.{run}
 use Rattle.write_ack_properties.proofs.Laws.{length_both}

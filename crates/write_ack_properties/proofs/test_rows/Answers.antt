@@ -1,4 +1,4 @@
--- converted
+-- `write_ack_properties::test_rows` is right since the texts are tested in the order in which they are written. Assumes nothing.
 use Rattle.write_runs.specs.Given.{run}
 use Rattle.write_ack_properties.proofs.Laws.{test_both}
 use Rattle.write_ack_properties.proofs.test_rows.Goals as goal

@@ -1,4 +1,4 @@
--- converted
+-- `write_lengths::put_fitting` is right since past the end nothing is stored, and `len_len` counts all the same. Assumes nothing.
 use mathlib.Core.Path.{sym, ◌∙◌}
 use native.Mathlib.Omega.{arith}
 use Rattle.writing.specs.Spell.{short}

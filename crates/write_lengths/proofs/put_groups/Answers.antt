@@ -1,4 +1,4 @@
--- converted
+-- `write_lengths::put_groups` is right since after each turn what is left to put is the spelling of `rest`. Assumes nothing.
 use Prim.Native.Nat.{◌-◌}
 use Rattle.write_lengths.proofs.Laws.{none_spelt, spelt_last, spelt_next, spelt_full}
 use Rattle.write_lengths.proofs.put_groups.Goals as goal

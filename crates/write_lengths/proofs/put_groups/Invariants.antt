@@ -1,4 +1,3 @@
--- converted
 use Prim.Native.Nat.{◌-◌}
 use Rattle.write_lengths.proofs.Laws.{Spelt}
 use Rattle.write_lengths.proofs.put_groups.Given as goal

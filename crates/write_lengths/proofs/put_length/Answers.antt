@@ -1,4 +1,4 @@
--- converted
+-- `write_lengths::put_length` is right since what fits is left to `put_fitting`, and what does not is not put. Assumes nothing.
 use mathlib.Core.Path.{refl}
 use native.Mathlib.Omega.{arith}
 use Rattle.write_lengths.proofs.Fits.{short_fits, short_not}

@@ -1,4 +1,5 @@
--- converted
+-- `write_lengths::write_remaining_length` is right since it tests first the number, then the room, and puts the spelling at the front.
+-- Assumes nothing.
 use mathlib.Core.Path.{sym, ◌∙◌}
 use native.Mathlib.Omega.{arith}
 use borrow.Author.Tests.{le-leb}

@@ -1,4 +1,4 @@
--- converted
+-- `write_lists::cut_pairs` is right since after each turn the pairs from the i-th length on, at the index `from` of the run, are left to put. Assumes nothing.
 use mathlib.Core.Path.{ap, sym, ◌∙◌}
 use Prim.Native.Nat.{◌+◌, ◌-◌}
 use native.Mathlib.Omega.{arith}

@@ -1,4 +1,4 @@
--- converted
+-- `write_lists::lay_pair` is right since no place is cut off where there is room for all. Assumes nothing.
 use native.Mathlib.Omega.{arith}
 use Rattle.write_strings.proofs.Fits.{string_most}
 use Rattle.write_lists.proofs.Laws.{put_whole}

@@ -1,4 +1,4 @@
--- converted
+-- `write_lists::lay_pairs` is right since after each turn the pairs from the i-th length on, at the index `from` of the run, are left to put, and where one has no room the rest are put by `cut_pairs`. Assumes nothing.
 use Prim.Native.Nat.{◌+◌, ◌-◌}
 use native.Mathlib.Omega.{arith}
 use lib.ListN.{get_or}

@@ -1,4 +1,4 @@
--- converted
+-- `write_lists::put_ids` is right since after each turn the identifiers from the i-th on are left to put. Assumes nothing.
 use Prim.Native.Nat.{◌-◌}
 use native.Mathlib.Omega.{arith}
 use Rattle.write_properties.proofs.Laws.{put_more}

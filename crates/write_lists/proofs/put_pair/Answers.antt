@@ -1,4 +1,4 @@
--- converted
+-- `write_lists::put_pair` is right since the identifier byte, the key and the value, one behind the other, are one put. Assumes nothing.
 use native.Mathlib.Omega.{arith}
 use Rattle.write_strings.proofs.Fits.{string_most}
 use Rattle.write_lists.proofs.Laws.{put_both}

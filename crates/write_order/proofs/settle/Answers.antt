@@ -1,4 +1,4 @@
--- converted
+-- `write_order::settle` is right since each test is made in its turn, and what is found stands for the tests of a kind. Assumes nothing.
 use mathlib.Core.Path.{sym, ap, ◌∙◌}
 use native.Mathlib.Omega.{arith}
 use Rattle.records.specs.AsNumbers.{limit_of}

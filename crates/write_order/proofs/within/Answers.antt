@@ -1,4 +1,4 @@
--- converted
+-- `write_order::within` is right since a limit is compared with the size, and where there is none nothing is tested. Assumes nothing.
 use mathlib.Core.Path.{sym}
 use mathlib.Core.Option.{some}
 use native.Mathlib.Omega.{arith}

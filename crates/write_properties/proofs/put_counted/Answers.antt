@@ -1,4 +1,4 @@
--- converted
+-- `write_properties::put_counted` is right since the byte and the spelling behind it, of four bytes at most, are one put. Assumes nothing.
 use mathlib.Core.Path.{ap}
 use Prim.Native.Nat.{ℕ, ◌+◌}
 use native.Mathlib.Omega.{arith}

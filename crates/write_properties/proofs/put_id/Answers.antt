@@ -1,4 +1,4 @@
--- converted
+-- `write_properties::put_id` is right since a byte is a number of one byte. Assumes nothing.
 use mathlib.Core.Path.{ap, sym, ◌∙◌}
 use mathlib.Core.List.{List}
 use Prim.Native.Nat.{ℕ}

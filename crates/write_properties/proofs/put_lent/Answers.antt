@@ -1,4 +1,4 @@
--- converted
+-- `write_properties::put_lent` is right since a string that is on is its identifier byte and the string behind it. Assumes nothing.
 use native.Mathlib.Omega.{arith}
 use Rattle.write_strings.proofs.Fits.{string_most}
 use Rattle.write_properties.proofs.Laws.{put_string}

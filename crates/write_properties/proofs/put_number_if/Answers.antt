@@ -1,4 +1,4 @@
--- converted
+-- `write_properties::put_number_if` is right since it is one number, or none. Assumes nothing.
 use Rattle.write_properties.proofs.Laws.{put_short}
 use Rattle.write_properties.proofs.put_number_if.Goals as goal
 

@@ -1,4 +1,4 @@
--- converted
+-- `write_properties::put_u16_if` is right since the identifier byte and the number behind it are one put. Assumes nothing.
 use mathlib.Core.Path.{refl}
 use Rattle.grammar.specs.Tables.{u16}
 use Rattle.writing.specs.Spell.{numeral}

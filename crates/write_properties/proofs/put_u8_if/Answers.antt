@@ -1,4 +1,4 @@
--- converted
+-- `write_properties::put_u8_if` is right since the identifier byte and the number behind it are one put. Assumes nothing.
 use native.Mathlib.Omega.{arith}
 use Rattle.grammar.specs.Tables.{u8}
 use Rattle.writing.specs.Spell.{numeral}

@@ -1,4 +1,4 @@
--- converted
+-- `write_sizes::ids_size` is right since after each turn the identifiers before the i-th are counted. Assumes nothing.
 use Prim.Native.Nat.{◌-◌}
 use lib.ListN.{length}
 use Rattle.write_sizes.proofs.Laws.{Counted}

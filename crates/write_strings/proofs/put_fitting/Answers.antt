@@ -1,4 +1,4 @@
--- converted
+-- `write_strings::put_fitting` meets its contract: the length and the bytes behind it are one run of stores. Assumes nothing.
 use Rattle.writing.specs.Spell.{string}
 use Rattle.write_bytes.proofs.Laws.{sets_out}
 use Rattle.write_strings.proofs.Laws.{put_string}

@@ -1,4 +1,4 @@
--- converted
+-- `write_strings::put_string` is right since what does not fit is not put, and the rest is left to `put_fitting`. Assumes nothing.
 use mathlib.Core.Path.{refl, sym}
 use native.Mathlib.Omega.{arith}
 use Rattle.writing.proofs.Sizes.{length_string}

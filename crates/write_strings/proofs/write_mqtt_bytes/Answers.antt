@@ -1,4 +1,4 @@
--- converted
+-- `write_strings::write_mqtt_bytes` meets its contract: the length is tested first, and the rest is left to `write_string`. Assumes nothing.
 use mathlib.Core.Path.{ap, sym, ◌∙◌}
 use borrow.Author.Tests.{leb-true}
 use Rattle.write_tests.specs.Tested.{told_tested}

@@ -1,4 +1,4 @@
--- converted
+-- `write_strings::write_string` is right since it tests the room, and puts the string at the front. Assumes nothing.
 use mathlib.Core.Path.{sym}
 use native.Mathlib.Omega.{arith}
 use borrow.Author.Tests.{le-leb}

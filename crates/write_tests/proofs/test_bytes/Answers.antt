@@ -1,4 +1,4 @@
--- converted
+-- `write_tests::test_bytes` is right since bytes that are on are one field, and those that are off none. Assumes nothing.
 use Rattle.writing.specs.Order.{judge}
 use Rattle.write_tests.proofs.test_bytes.Goals as goal
 

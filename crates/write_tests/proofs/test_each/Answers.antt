@@ -1,4 +1,4 @@
--- converted
+-- `write_tests::test_each` is right since the texts from the i-th on, at the index `at` of the run, decide. Assumes nothing.
 use mathlib.Core.Path.{refl, ap, sym, ◌∙◌}
 use mathlib.Core.List.{List, map}
 use Prim.Native.Nat.{ℕ, ◌-◌}

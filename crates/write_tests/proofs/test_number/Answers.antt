@@ -1,4 +1,4 @@
--- converted
+-- `write_tests::test_number` is right since a number is compared with the largest that four bytes spell. Assumes nothing.
 use native.Mathlib.Omega.{arith}
 use Rattle.writing.specs.Order.{judge}
 use Rattle.write_tests.proofs.Laws.{number_large, number_zero, number_fine}

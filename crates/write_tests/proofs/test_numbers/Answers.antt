@@ -1,4 +1,4 @@
--- converted
+-- `write_tests::test_numbers` is right since the numbers from the i-th on decide. Assumes nothing.
 use Prim.Native.Nat.{◌-◌}
 use Rattle.write_tests.proofs.Lists.{number_refused, number_passed, numbers_done}
 use Rattle.write_tests.proofs.test_numbers.Goals as goal

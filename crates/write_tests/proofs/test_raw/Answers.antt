@@ -1,4 +1,4 @@
--- converted
+-- `write_tests::test_raw` is right since only the length is tested: the test holds or is the one that fails. Assumes nothing.
 use mathlib.Core.Path.{sym}
 use native.Mathlib.Omega.{arith}
 use Rattle.writing.specs.Order.{raw}

@@ -1,4 +1,4 @@
--- converted
+-- `write_tests::test_word` is right since the length is tested first, then the text. Assumes nothing.
 use mathlib.Core.Path.{sym, ◌∙◌}
 use Rattle.write_tests.proofs.Laws.{word_long, word_fine, word_broken}
 use Rattle.write_tests.proofs.test_word.Goals as goal

@@ -1,4 +1,4 @@
--- converted
+-- `write_tests::test_words` is right since every part of a run of ASCII bytes is text. Assumes nothing.
 use mathlib.Core.Path.{sym, ◌∙◌}
 use native.Mathlib.Omega.{arith}
 use Rattle.write_tests.proofs.Lists.{run_fine}

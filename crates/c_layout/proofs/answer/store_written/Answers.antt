@@ -1,4 +1,4 @@
--- converted
+-- `c_layout::answer::store_written` is right since it returns and stores what the answer tells. Assumes nothing.
 use mathlib.Core.Path.{◌∙◌}
 use Rattle.c_layout.proofs.answer.store_written.Goals as goal
 

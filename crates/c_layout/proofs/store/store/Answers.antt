@@ -1,4 +1,4 @@
--- converted
+-- `c_layout::store::store` is right since what is left to store is what is left of `xs`; at the end that is nothing, or nothing that fits. Assumes nothing.
 use Prim.Native.Nat.{◌-◌}
 use native.Mathlib.Omega.{arith}
 use Rattle.write_bytes.proofs.Laws.{putting_end}

@@ -1,4 +1,3 @@
--- converted
 use Prim.Native.Nat.{◌≤◌, ◌-◌}
 use Rattle.write_bytes.proofs.Laws.{Putting}
 use Rattle.c_layout.proofs.store.store.Given as goal

@@ -1,4 +1,4 @@
--- converted
+-- `framing::check::check` is right since it refuses as the header does, then above the limit, then where bytes are lacking: 01's order. Assumes nothing.
 use native.Mathlib.Omega.{arith}
 use Rattle.framing.proofs.Laws.{header_within, frame_refused, frame_checked}
 use Rattle.framing.proofs.check.check.Goals as goal

@@ -1,4 +1,4 @@
--- converted
+-- `framing::check::limited` is right since F is refused above the limit alone. Assumes nothing.
 use borrow.Author.Tests.{le-leb, lt-leb}
 use Rattle.reading.specs.Refusal.{within, over}
 use Rattle.framing.proofs.check.limited.Goals as goal

@@ -1,4 +1,4 @@
--- converted
+-- `framing::check::parse_fixed_header` is right since a header is a first byte and the number that `length` reads behind it. Assumes nothing.
 use mathlib.Core.Path.{sym}
 use mathlib.Core.List.{[], ◌∷◌}
 use native.Mathlib.Omega.{arith}

@@ -1,4 +1,4 @@
--- converted
+-- `InFlight::acked` is right since each kind is handed to the function of its name. Assumes nothing.
 use Rattle.inflight.specs.Rules.{call, answer_by}
 use Rattle.inflight.proofs.InFlight.acked.Goals as goal
 

@@ -1,4 +1,4 @@
--- converted
+-- `InFlight::claim` is right since the first free place is taken, if there is one. Assumes nothing.
 use Rattle.inflight.specs.Rules.{claimed}
 use Rattle.inflight.proofs.InFlight.claim.Goals as goal
 

@@ -1,4 +1,4 @@
--- converted
+-- `InFlight::claim_for` is right since the place found is the first free one. Assumes nothing.
 use mathlib.Core.Path.{◌≡◌, ap, ◌∙◌}
 use Prim.Native.Nat.{ℕ, ◌+◌}
 use native.Mathlib.Omega.{arith}

@@ -1,4 +1,4 @@
--- converted
+-- `InFlight::first_free` is right since all places before the one reached are taken. Assumes nothing.
 use mathlib.Core.Path.{◌≡◌, sym, ◌∙◌}
 use Prim.Native.Nat.{◌-◌}
 use native.Mathlib.Omega.{arith}

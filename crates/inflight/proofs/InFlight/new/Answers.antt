@@ -1,4 +1,4 @@
--- converted
+-- `InFlight::new` is right since every place is free: the array computes. Assumes nothing.
 use mathlib.Core.Path.{refl}
 use Rattle.inflight.specs.TableAnswer.{waits_of}
 use Rattle.inflight.proofs.InFlight.new.Goals as goal

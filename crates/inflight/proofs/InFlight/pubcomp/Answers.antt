@@ -1,4 +1,4 @@
--- converted
+-- `InFlight::pubcomp` is right since the identifier is settled as the definition says. Assumes nothing.
 use Rattle.inflight.specs.Rules.{call}
 use Rattle.inflight.proofs.InFlight.pubcomp.Goals as goal
 

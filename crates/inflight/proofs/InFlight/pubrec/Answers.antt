@@ -1,4 +1,4 @@
--- converted
+-- `InFlight::pubrec` is right since the reason says where it goes on to. Assumes nothing.
 use mathlib.Core.Path.{sym}
 use Rattle.inflight.specs.Rules.{call}
 use Rattle.inflight.proofs.Laws.{pubrec_on, pubrec_off}

@@ -1,4 +1,4 @@
--- converted
+-- `InFlight::put` is right since one place changes, or none. Assumes nothing.
 use mathlib.Core.Path.{◌≡◌, ◌∙◌}
 use native.Mathlib.Omega.{arith}
 use borrow.Author.Rules.{rules}

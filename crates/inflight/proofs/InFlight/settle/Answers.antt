@@ -1,4 +1,4 @@
--- converted
+-- `InFlight::settle` is right since the test is the definition's. Assumes nothing.
 use mathlib.Core.Path.{sym, ◌∙◌}
 use Rattle.inflight.proofs.Laws.{settle_due, settle_not}
 use Rattle.inflight.proofs.InFlight.settle.Goals as goal

@@ -1,4 +1,4 @@
--- converted
+-- `InFlight::waiting` is right since the count goes by what is left. Assumes nothing.
 use mathlib.Core.Path.{◌≡◌, sym, ap, ◌∙◌}
 use Prim.Native.Nat.{◌-◌}
 use native.Mathlib.Omega.{arith}

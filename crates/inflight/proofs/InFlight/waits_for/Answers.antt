@@ -1,4 +1,4 @@
--- converted
+-- `InFlight::waits_for` is right since an identifier outside has no place. Assumes nothing.
 use mathlib.Core.Path.{◌≡◌, sym, ◌∙◌}
 use native.Mathlib.Omega.{arith}
 use borrow.Author.Rules.{rules}

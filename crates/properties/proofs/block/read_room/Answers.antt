@@ -1,4 +1,5 @@
--- converted
+-- `properties::block::read_room` meets its contract: the length is what `read_length` read, and as many bytes are left behind it or not.
+-- Assumes nothing.
 use mathlib.Core.Path.{ap, sym, ◌∙◌}
 use native.Mathlib.Omega.{arith}
 use Rattle.numbers.specs.NumberRead.{told_got_u32}

@@ -1,4 +1,4 @@
--- converted
+-- `properties::row_block::apply` meets its contract: wherever they stand, 31 is a text and 11 a number, and the record keeps no other. Assumes nothing.
 use borrow.Author.Tests.{ne_eqb}
 use Rattle.tables.specs.Property.{other_of}
 use Rattle.properties.proofs.Laws.Fold.{plain_is}

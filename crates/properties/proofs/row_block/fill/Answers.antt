@@ -1,4 +1,5 @@
--- converted
+-- `properties::row_block::fill` meets its contract. The loop's invariant: the rest of the loop decides the whole. Each property takes a byte at
+-- least, and what is left of the slice is the measure. Assumes nothing.
 use mathlib.Core.Path.{refl, sym, ◌∙◌}
 use native.Mathlib.Omega.{arith}
 use Rattle.grammar.specs.Record.{last_of, props_of}

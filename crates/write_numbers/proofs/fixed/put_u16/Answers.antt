@@ -1,4 +1,4 @@
--- converted
+-- `write_numbers::fixed::put_u16` is right since a number is its high half, then its low one; past the end nothing is stored. Assumes nothing.
 use native.Mathlib.Omega.{arith}
 use Rattle.writing.specs.Spell.{wide}
 use Rattle.write_bytes.proofs.Laws.{sets_out}

@@ -1,4 +1,4 @@
--- converted
+-- `write_numbers::fixed::put_u8` is right since a byte is its own one digit; past the end nothing is stored. Assumes nothing.
 use native.Mathlib.Omega.{arith}
 use mathlib.Core.Path.{ap}
 use lib.Seq.{sets}

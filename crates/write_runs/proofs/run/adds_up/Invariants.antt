@@ -1,4 +1,4 @@
--- converted
+-- `write_runs::run::adds_up` is right since the lengths add up exactly if those from the i-th on add up to what is left. Assumes nothing.
 use mathlib.Core.Path.{◌≡◌}
 use Prim.Native.Nat.{◌-◌}
 use lib.Dec.{eqb}
