@@ -1,5 +1,7 @@
 // The publish acknowledgements, after puback.rs, pubrec.rs, pubrel.rs and pubcomp.rs: the read of their fields (MQTT 3.4 to 3.7), which is
 // one for all four, and the reason string as a part of the stream.
+#![tactic(auto)]
+
 ghost use Rattle.std.specs.Prelude.{◌≡◌, ℕ, length, drop};
 ghost use Rattle.grammar.specs.Tables.{ack_row, an_ack, reasons_of};
 ghost use Rattle.grammar.specs.Record as record_of;
@@ -22,14 +24,14 @@ use tables::property::OtherRow;
 use tables::reason::is_ack_reason;
 use wire::string;
 
-#[derive(Drop)]
+#[derive(Clone, Copy)]
 pub enum GotAck {
     Value(Ack),
     Refused(Error),
 }
 
 // What follows the reason, to the end of the frame.
-#[derive(Drop)]
+#[derive(Clone, Copy)]
 enum GotLastBlock {
     Value(MaybeProperties),
     Refused(Error),

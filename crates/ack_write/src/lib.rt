@@ -1,5 +1,7 @@
 // The publish acknowledgements, written, after `write` and `size` of puback.rs to pubcomp.rs: first every refusal and the size, touching nothing, then the bytes. A plain
 // success is four bytes.
+#![tactic(auto)]
+
 ghost use Rattle.std.specs.Prelude.{◌≡◌, [], ◌∷◌, ◌++◌, ◌≤◌};
 ghost use Rattle.std.proofs.lemmas.List.Edits.{sets};
 ghost use Rattle.grammar.specs.Octets.{Each};
@@ -27,7 +29,7 @@ use write_runs::run;
 use write_tests::Tested;
 
 // What is handed over by value; the reason string and the user properties are lent beside it.
-#[derive(Drop)]
+#[derive(Clone, Copy)]
 pub struct AckHead {
     pub kind: AckKind,
     pub pkid: u16,

@@ -1,5 +1,7 @@
 // Topics by alias, 02's P6: a lent table of 2,064 bytes, for aliases 1 to 16 in turn a length byte and 128 bytes for the topic. Whoever owns
 // the table fills it with zeros where a connection begins.
+#![tactic(auto)]
+
 ghost use Rattle.std.specs.Prelude.{◌≡◌, true, ◌≤◌, length};
 ghost use Rattle.std.proofs.Math.Option.{none, some};
 ghost use Rattle.reading.specs.Reader.{got};
@@ -14,7 +16,7 @@ use records::span::{MaybeU16, Span};
 use wire::string;
 
 // The refusals of P6, in its order: 24 to 28.
-#[derive(Drop)]
+#[derive(Clone, Copy)]
 pub enum AliasError {
     // 24: the table has the wrong size, or a stored length above 128
     AliasTableBad,
@@ -43,7 +45,7 @@ pub fn number(e: AliasError) -> u8
 
 // ---- which messages are refused
 
-#[derive(Drop)]
+#[derive(Clone, Copy)]
 pub enum Judged {
     Permitted,
     Refused(AliasError),
@@ -182,7 +184,7 @@ pub fn learn(table: &mut [u8], stream: &[u8], m: Publish) -> Judged
 // ---- the topic in force
 
 // Where the topic in force lies: in the stream that the packet was read from, or in the table.
-#[derive(Drop)]
+#[derive(Clone, Copy)]
 pub enum Placed {
     InPacket(Span),
     InTable(Span),

@@ -10,6 +10,6 @@ is_on n = not (eqb n 0)
 abbrev pub limit_given : ℕ → ℕ → Option ℕ
 limit_given l n = cond (eqb l 0) none (some n)
 
--- header: "``.._on` says whether the value behind it is present", of a number
+-- header: "`.._on` says whether the value behind it is present", of a number
 abbrev pub maybe : ℕ → ℕ → Option ℕ
 maybe on n = cond (is_on on) (some n) none

@@ -1,5 +1,7 @@
 // The filters of a Subscribe in a table that C lends as an array of numbers, three for an entry (02, P7); bindings/c/ecchjulmina.h has the
 // words.
+#![tactic(auto)]
+
 ghost use Rattle.std.specs.Prelude.{◌≡◌, ◌+◌, ◌*◌, ◌≤◌, length};
 ghost use Rattle.std.proofs.Math.Option.{none};
 ghost use Rattle.std.proofs.lemmas.List.Edits.{sets};

@@ -9,7 +9,7 @@ use Rattle.records.specs.AsNumbers.{told_bool}
 use Rattle.write_runs.specs.Given.{run}
 use Rattle.c_arguments.specs.Given.{is_on, maybe}
 
--- header: "``.._on` says whether the value behind it is present", of bytes
+-- header: "`.._on` says whether the value behind it is present", of bytes
 abbrev pub lent_by : ℕ → List ℕ → Lent
 lent_by on b = record { on = is_on on; bytes = b }
 

@@ -16,7 +16,7 @@ use tables::qos;
 use tables::qos::GotQos;
 use write_tests::Tested;
 
-#[derive(Drop)]
+#[derive(Clone, Copy)]
 pub struct PublishBy {
     // whether each number whose flag is off is 0, else 20
     pub zeros: bool,

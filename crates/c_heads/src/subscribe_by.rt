@@ -7,7 +7,7 @@ use crate::absent::zero_if_off;
 use c_arguments::number::{is_on, maybe_u32};
 use subscribe_write::SubscribeHead;
 
-#[derive(Drop)]
+#[derive(Clone, Copy)]
 pub struct SubscribeBy {
     // whether the identifier is 0 where its flag is off, else 20
     pub zeros: bool,

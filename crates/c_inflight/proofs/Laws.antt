@@ -1,4 +1,4 @@
--- Bytes gathered by ``|``, the walk to the first free one by sixteens, and the ways that a call of C can end.
+-- Bytes gathered by `|`, the walk to the first free one by sixteens, and the ways that a call of C can end.
 -- Assumes nothing.
 use mathlib.Core.Path.{◌≡◌, refl, sym, ap, ◌∙◌}
 use mathlib.Core.Bool.{Bool, true, false, not, ◌&&◌, cond, false≢true}
@@ -18,7 +18,7 @@ use Rattle.inflight.specs.TableAnswer.{Ahead}
 use Rattle.inflight.proofs.Laws.{first_taken, wait_zero, wait_above}
 use Rattle.c_inflight.specs.Given.{bad_table, start_given, claim_given, due_of, next_of, ack_given, waiting_number, waiting_value, number_of, value_of, Ends, Outcomes}
 
--- ---- bytes gathered by ``|``
+-- ---- bytes gathered by `|`
 
 both : (a b : Bool) → (a && b) ≡ true → (a ≡ true) × (b ≡ true)
 both true b e = (refl, e)

@@ -1,6 +1,8 @@
 // What C calls for P4: the table as lent bytes, one for each identifier from 1 upward, 0 if it is free, 1, 2 or 3 if it waits for PubAck,
 // PubRec or PubComp. A start clears every byte, whatever it was; any other call tests every byte, and changes at most one.
 // bindings/c/ecchjulmina.h says the rest.
+#![tactic(auto)]
+
 ghost use Rattle.std.specs.Prelude.{◌≡◌, true, not, ◌∷◌, [], ◌+◌, ◌≤◌, ◌<◌, ltb, length, drop, replicate};
 ghost use Rattle.std.proofs.lemmas.List.Edits.{sets};
 ghost use Rattle.inflight.specs.Rules.{free, all_states, is_table, first_free, claim_for, settled, became_of, one_if_waits, waiting};
@@ -19,7 +21,7 @@ pub const NOT_WAITING: u32 = 31;
 pub const BAD_TABLE: u32 = 39;
 
 // What a call returns and stores.
-#[derive(Drop)]
+#[derive(Clone, Copy)]
 struct Outcome {
     number: u32,
     value: u64,
@@ -27,7 +29,7 @@ struct Outcome {
 
 // ---- the bytes of a table
 
-// Every byte is a state, one of 0 to 3, just where all of them gathered by ``|`` are.
+// Every byte is a state, one of 0 to 3, just where all of them gathered by `|` are.
 fn all_states(codes: &[u8]) -> bool
     ensures { result ≡ all_states codes.now }
 {
@@ -86,7 +88,7 @@ fn count(codes: &[u8]) -> u64
 
 // ---- the first free one
 
-// A mark that ``|`` gathers: its top bit is set just where hit is true.
+// A mark that `|` gathers: its top bit is set just where hit is true.
 fn mark(hit: bool) -> u8
     ensures { ltb result 128 ≡ not hit }
 {

@@ -1,4 +1,6 @@
 // What C calls for P11: a journal over lent memory, and its table as the lent bytes of c_inflight. bindings/c/ecchjulmina.h says the rest.
+#![tactic(auto)]
+
 ghost use Rattle.std.specs.Prelude.{◌≡◌, ◌∷◌, [], ◌≤◌, length};
 ghost use Rattle.std.proofs.lemmas.List.Edits.{sets};
 ghost use Rattle.inflight.specs.Rules.{limit};
@@ -21,7 +23,7 @@ pub const JOURNAL_ENDED: u32 = 34;
 // ---- a table as the lent bytes of c_inflight, one for each identifier
 
 // The table of those bytes, if they are one.
-#[derive(Drop)]
+#[derive(Clone, Copy)]
 struct FromCodes {
     fine: bool,
     table: InFlight,
@@ -72,7 +74,7 @@ fn put_all(table: InFlight, out: &mut [u8])
 // ---- saving and recovering
 
 // What a save returns and stores.
-#[derive(Drop)]
+#[derive(Clone, Copy)]
 struct Outcome {
     number: u32,
     first: u64,

@@ -1,4 +1,6 @@
 // What is returned and stored of an n-th item; `next` has the same of what stands at an index.
+#![tactic(auto)]
+
 pub mod next;
 
 ghost use Rattle.std.specs.Prelude.{◌≡◌};

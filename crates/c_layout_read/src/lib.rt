@@ -1,4 +1,6 @@
 // What of a read stands under which name of the layout, and each name's index in the array that C is handed.
+#![tactic(auto)]
+
 pub mod place;
 
 ghost use Rattle.std.specs.Prelude.{◌≡◌};

@@ -2,14 +2,14 @@
 use records::span::{Bounds, Span};
 
 // A number that may be absent: 0 and 0, or 1 and the number.
-#[derive(Drop)]
+#[derive(Clone, Copy)]
 pub struct Number {
     pub on: u64,
     pub value: u64,
 }
 
 // A place that may be absent: 0, 0 and 0, or 1 and the place.
-#[derive(Drop)]
+#[derive(Clone, Copy)]
 pub struct Text {
     pub on: u64,
     pub start: u64,
@@ -17,7 +17,7 @@ pub struct Text {
 }
 
 // The numbers of every kind and of a refusal.
-#[derive(Drop)]
+#[derive(Clone, Copy)]
 pub struct Head {
     pub taken: u64,
     pub first: u64,
@@ -37,7 +37,7 @@ pub struct Head {
 }
 
 // The properties of every kind.
-#[derive(Drop)]
+#[derive(Clone, Copy)]
 pub struct Block {
     pub place: Text,
     pub format: Number,

@@ -1,4 +1,6 @@
 // Where the next frame of a stream that arrives in pieces lies (02, P10), as C asks for it; bindings/c/ecchjulmina.h has the words.
+#![tactic(auto)]
+
 ghost use Rattle.std.specs.Prelude.{◌≡◌};
 ghost use Rattle.std.proofs.lemmas.List.Edits.{sets};
 ghost use Rattle.records.specs.AsNumbers.{limit_of};
@@ -15,13 +17,13 @@ use pieces::{End, Given, State, Step, Stop};
 use records::answer::Limit;
 use records::error::Error;
 
-#[derive(Drop)]
+#[derive(Clone, Copy)]
 enum GotEnd {
     Bad,
     End(End),
 }
 
-#[derive(Drop)]
+#[derive(Clone, Copy)]
 enum GotState {
     Bad,
     State(State),

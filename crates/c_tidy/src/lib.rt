@@ -1,4 +1,6 @@
 // The tidy form of a frame (02, P14), as C asks for it; bindings/c/ecchjulmina.h has the words.
+#![tactic(auto)]
+
 ghost use Rattle.std.specs.Prelude.{◌≡◌, length};
 ghost use Rattle.std.proofs.lemmas.List.Edits.{sets};
 ghost use Rattle.tidying.specs.Tidied.{told_tidied, tidied_of, size_in, stands_in};

@@ -1,4 +1,6 @@
 // What C and Rust call of topics and filters: the functions of `topics` with 1 for true and 0 for false.
+#![tactic(auto)]
+
 ghost use Rattle.std.specs.Prelude.{◌≡◌};
 ghost use Rattle.c_topics.specs.Flag.{flag_of};
 ghost use Rattle.topics.specs.Levels.{has_wild, valid_topic, valid_filter};

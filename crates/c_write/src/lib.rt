@@ -1,5 +1,7 @@
 // What C and Rust call to write: each kind's size, and its bytes, as exported functions over numbers and slices. What is stored of an answer
 // is in bindings/c/ecchjulmina.h.
+#![tactic(auto)]
+
 pub mod put_ack;
 pub mod put_ping;
 pub mod put_publish;

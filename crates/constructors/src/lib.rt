@@ -1,5 +1,7 @@
 // The crate's constructors that take no `Into`, by value: `FixedHeader::new` of v5/mod.rs, `PubAck::new` of puback.rs and its like, and
 // `Subscribe::new` of subscribe.rs. Strings and lists are lent beside a head, so that only their presence is handed over here.
+#![tactic(auto)]
+
 ghost use Rattle.std.specs.Prelude.{◌≡◌, List, ℕ};
 ghost use Rattle.writing.specs.Handed.{ack};
 ghost use Rattle.records.specs.AsNumbers.{told_ack_kind, number_u32};

@@ -1,5 +1,7 @@
 // Replays the answers that the crate's own text and 01's rules gave (oracle/README.md) through the port's exported functions: every number
 // and every byte of output. The file stdout was counted over the answers by oracle/count-answers.
+#![tactic(auto)]
+
 mod expect;
 mod file;
 mod put_ack;
@@ -14,6 +16,8 @@ mod tally;
 mod writes;
 
 use file::LOST;
+use std::fs::File;
+use std::io::Stdout;
 
 // 2 MiB
 fn buffer() -> [u8; 2097152] {
@@ -30,32 +34,32 @@ fn replay(f: &[u8], v: &[usize]) -> usize {
 }
 
 // A row that is not as stored, and the first field of it that is not.
-fn otherwise(v: &[usize], k: u64, field: usize) {
-    tally::say(b"row ", k);
-    tally::say(b", type ", file::value(v, row::TYPE) as u64);
-    tally::say(b": not as stored: field ", field as u64);
-    io::write_all(1, b"\n");
+fn otherwise(to: Stdout, v: &[usize], k: u64, field: usize) {
+    tally::say(to, b"row ", k);
+    tally::say(to, b", type ", file::value(v, row::TYPE) as u64);
+    tally::say(to, b": not as stored: field ", field as u64);
+    tally::put(to, b"\n");
 }
 
 // The first is row 1.
-fn tell(tally: &mut [u64], f: &[u8], v: &[usize], k: u64) {
+fn tell(to: Stdout, tally: &mut [u64], f: &[u8], v: &[usize], k: u64) {
     let field = replay(f, v);
     if field == row::AS_STORED {
         tally::as_stored(&mut *tally, f, v);
         return;
     }
-    otherwise(v, k, field);
+    otherwise(to, v, k, field);
     tally::add(&mut *tally, tally::ENTRIES, tally::OTHERWISE, 1);
 }
 
 // The row that is not whole.
-fn damaged(k: u64) {
-    tally::say(b"DAMAGED: row ", k);
-    io::write_all(1, b" cannot be read\n");
+fn damaged(to: Stdout, k: u64) {
+    tally::say(to, b"DAMAGED: row ", k);
+    tally::put(to, b" cannot be read\n");
 }
 
 // Every row; the place after the last, or LOST.
-fn every_row(f: &[u8], tally: &mut [u64]) -> usize {
+fn every_row(to: Stdout, f: &[u8], tally: &mut [u64]) -> usize {
     let n = file::number(f, 0, 4);
     let mut at = file::after(f, 0, 4);
     let mut k: u64 = 0;
@@ -64,41 +68,42 @@ fn every_row(f: &[u8], tally: &mut [u64]) -> usize {
         let mut v = [LOST; 31];
         at = row::fields_at(f, at, &mut v);
         if at == LOST {
-            damaged(k);
+            damaged(to, k);
             return LOST;
         }
-        tell(&mut *tally, f, &v, k);
+        tell(to, &mut *tally, f, &v, k);
     }
     at
 }
 
 // Does the file end where its last row does, before the buffer's end? Its lines tell what was counted in any case.
-fn whole(f: &[u8]) {
+fn whole(to: Stdout, f: &[u8]) {
     let mut tally = [0; 1943];
-    let end = every_row(f, &mut tally);
-    tally::lines(&tally);
+    let end = every_row(to, f, &mut tally);
+    tally::lines(to, &tally);
     if end == f.len() {
         if end < 2097152 {
-            tally::total(&tally);
+            tally::total(to, &tally);
             return;
         }
     }
-    io::write_all(1, b"DAMAGED: the file does not end with its last row\n");
+    tally::put(to, b"DAMAGED: the file does not end with its last row\n");
 }
 
-fn read(fd: i32) {
+fn read(to: Stdout, file: File) {
+    let mut from = file;
     let mut buf = buffer();
-    let n = io::read_full(fd, &mut buf);
-    whole(&buf[..n]);
+    let n = outside::read_full(&mut from, &mut buf);
+    whole(to, &buf[..n]);
 }
 
-fn main() {
-    let fd = os::open_read(b"answers.bin");
-    if fd < 0 {
-        io::write_all(1, b"DAMAGED: the file cannot be opened\n");
-        os::fail(b"answers.bin");
-        return;
+fn main(rt: HostRuntime) {
+    let to = rt.stdout();
+    match outside::open(&rt, b"answers.bin") {
+        Err(e) => {
+            tally::put(to, b"DAMAGED: the file cannot be opened\n");
+            outside::fail(rt.stderr(), b"answers.bin", outside::number_of(e));
+        }
+        Ok(file) => read(to, file),
     }
-    read(fd);
-    libc::close(fd);
 }

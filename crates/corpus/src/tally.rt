@@ -5,6 +5,7 @@
 use crate::expect::number;
 use crate::{file, row};
 use records::span::Span;
+use std::io::{Print, Stdout};
 use wire::string;
 
 // How many counts a group has.
@@ -96,57 +97,63 @@ pub fn as_stored(tally: &mut [u64], f: &[u8], v: &[usize]) {
 
 // ---- the lines
 
+// Words. What standard output does not take is lost.
+pub fn put(to: Stdout, w: &[u8]) {
+    let _ = Print::write_all(&to, w);
+}
+
 // Words and a number.
-pub fn say(words: &[u8], n: u64) {
-    io::write_all(1, words);
-    io::print_decimal(1, n);
+pub fn say(to: Stdout, words: &[u8], n: u64) {
+    put(to, words);
+    let _ = to.print(n);
 }
 
 // If there is one.
-fn count(tally: &[u64], words: &[u8], group: usize, k: usize) {
+fn count(to: Stdout, tally: &[u64], words: &[u8], group: usize, k: usize) {
     let n = number(tally, group, k);
     if n == 0 {
         return;
     }
-    say(words, k as u64);
-    say(b": ", n);
+    say(to, words, k as u64);
+    say(to, b": ", n);
 }
 
 // The rest of a line: the first count of the group, then each with its number.
-fn counts(tally: &[u64], first: &[u8], words: &[u8], group: usize) {
-    say(first, number(tally, group, 0));
+fn counts(to: Stdout, tally: &[u64], first: &[u8], words: &[u8], group: usize) {
+    say(to, first, number(tally, group, 0));
     let mut k: usize = 1;
     while k < OTHERWISE {
-        count(tally, words, group, k);
+        count(to, tally, words, group, k);
         k = k + 1;
     }
-    io::write_all(1, b"\n");
+    put(to, b"\n");
 }
 
-fn line(tally: &[u64], words: &[u8], name: &[u8], group: usize) {
-    io::write_all(1, words);
-    io::write_all(1, name);
-    say(b": ", number(tally, group, ALL));
-    counts(tally, b"; accepted: ", b"; refused ", group);
+fn line(to: Stdout, tally: &[u64], words: &[u8], name: &[u8], group: usize) {
+    put(to, words);
+    put(to, name);
+    say(to, b": ", number(tally, group, ALL));
+    counts(to, tally, b"; accepted: ", b"; refused ", group);
 }
 
 // A line for each group up to an end, by words and a name, which has its length before it.
-fn groups(tally: &[u64], words: &[u8], names: &[u8], first: usize, end: usize) {
+fn groups(to: Stdout, tally: &[u64], words: &[u8], names: &[u8], first: usize, end: usize) {
     let mut at: usize = 0;
     let mut k = first;
     while k < end {
         let from = file::after(names, at, 1);
         let len = file::byte(names, at, 0) as usize;
         let name = Span { start: from, len };
-        line(tally, words, string::part(names, name), start(k));
+        line(to, tally, words, string::part(names, name), start(k));
         at = file::after(names, from, len);
         k = k + 1;
     }
 }
 
 // The writes, or the sizes, of each kind.
-fn kinds(tally: &[u64], words: &[u8], first: usize, end: usize) {
+fn kinds(to: Stdout, tally: &[u64], words: &[u8], first: usize, end: usize) {
     groups(
+        to,
         tally,
         words,
         b"\x07Publish\x06PubAck\x06PubRec\x06PubRel\x07PubComp\x09Subscribe\x06SubAck\x0BUnsubscribe\x08UnsubAck\x07PingReq\x08PingResp",
@@ -155,22 +162,23 @@ fn kinds(tally: &[u64], words: &[u8], first: usize, end: usize) {
     );
 }
 
-pub fn lines(tally: &[u64]) {
+pub fn lines(to: Stdout, tally: &[u64]) {
     groups(
+        to,
         tally,
         b"",
         b"\x05reads\x0Fuser properties\x18subscription identifiers\x07filters\x07reasons\x06topics",
         READ,
         GROUPS,
     );
-    kinds(tally, b"writes of ", 0, KINDS);
-    kinds(tally, b"sizes of ", KINDS, READ);
-    counts(tally, b"no difference: ", b"\ndifference ", ENTRIES);
+    kinds(to, tally, b"writes of ", 0, KINDS);
+    kinds(to, tally, b"sizes of ", KINDS, READ);
+    counts(to, tally, b"no difference: ", b"\ndifference ", ENTRIES);
 }
 
 // The last line, of a file that was read to its end.
-pub fn total(tally: &[u64]) {
-    say(b"rows as stored: ", number(tally, ENTRIES, ALL));
-    say(b"; otherwise: ", number(tally, ENTRIES, OTHERWISE));
-    io::write_all(1, b"\n");
+pub fn total(to: Stdout, tally: &[u64]) {
+    say(to, b"rows as stored: ", number(tally, ENTRIES, ALL));
+    say(to, b"; otherwise: ", number(tally, ENTRIES, OTHERWISE));
+    put(to, b"\n");
 }

@@ -1,5 +1,7 @@
 // CRC-32 as P11 of 02 has it: reflected polynomial EDB88320, start and final inversion all ones. Eight bytes go in at once, each half
 // byte by a table of its own; specs/Crc.antt says it bit by bit.
+#![tactic(auto)]
+
 ghost use Rattle.std.specs.Prelude.{◌≡◌, ◌+◌, ◌*◌, ◌%◌, ◌≤◌, ◌<◌, length, drop, take};
 ghost use Rattle.std.specs.Int.Bits.{bit_xor};
 ghost use Rattle.crc32.specs.Crc.{shifts, byte_in, bytes_in, crc_of, all_ones};

@@ -1,24 +1,23 @@
-// The words that the program is started with: `desk [--limit N] [--topic FILTER] [--payload N] [--ascii] [FILE]````. With ``--status` among them the exit status is written to
-// descriptor 3 as a digit: a program of Rattle has no exit status, and the script `desk` at the top gives it one.
+// The words that the program is started with: `desk [--limit N] [--topic FILTER] [--payload N] [--ascii] [FILE]`. With `--status` among them the program ends with an
+// exit status, which the script `desk` at the top ends with too; else its exit status is 0.
 use desk_arguments::Asked;
 
 // A word that is too long for the buffer is no word of desk's.
-fn with_arg(mut a: Asked, i: usize) -> Asked {
-    let mut text = io::buffer();
-    let n = os::arg(i, &mut text);
-    if os::errno() != 0 {
+fn with_arg(rt: HostRuntime, mut a: Asked, i: usize) -> Asked {
+    let mut text = outside::word_buffer();
+    let Some(n) = outside::word(&rt, i, &mut text) else {
         a.bad = true;
         return a;
-    }
+    };
     desk_arguments::with_word(a, &text[..n], i)
 }
 
-pub fn read() -> Asked {
+pub fn read(rt: HostRuntime) -> Asked {
     let mut a = desk_arguments::none();
-    let n = os::arg_count();
+    let n = outside::word_count(&rt);
     let mut i: usize = 1;
     while i < n {
-        a = with_arg(a, i);
+        a = with_arg(rt, a, i);
         i = i + 1;
     }
     desk_arguments::ended(a)

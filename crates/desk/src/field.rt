@@ -2,41 +2,59 @@
 use crate::output;
 use records::answer::Limit;
 use records::span::{MaybeSpan, MaybeU8, MaybeU16, MaybeU32, Span};
+use std::io::Stdout;
 use wire::string;
 
-pub fn number(out: &mut [u8], at: usize, name: &[u8], n: u64) -> usize {
-    let value = output::word(&mut *out, at, name);
-    output::decimal(&mut *out, value, n)
+pub fn number(to: Stdout, out: &mut [u8], at: usize, name: &[u8], n: u64) -> usize {
+    let value = output::word(to, &mut *out, at, name);
+    output::decimal(to, &mut *out, value, n)
 }
 
-pub fn id(out: &mut [u8], at: usize, pkid: u16) -> usize {
-    number(&mut *out, at, b" id=", pkid as u64)
+pub fn id(to: Stdout, out: &mut [u8], at: usize, pkid: u16) -> usize {
+    number(to, &mut *out, at, b" id=", pkid as u64)
 }
 
-pub fn reason(out: &mut [u8], at: usize, b: u8) -> usize {
-    let value = output::word(&mut *out, at, b" reason=0x");
-    output::hex(&mut *out, value, b)
+pub fn reason(to: Stdout, out: &mut [u8], at: usize, b: u8) -> usize {
+    let value = output::word(to, &mut *out, at, b" reason=0x");
+    output::hex(to, &mut *out, value, b)
 }
 
 // The part of s at a place, and the quote behind it.
-pub fn part(out: &mut [u8], at: usize, name: &[u8], ascii: bool, s: &[u8], place: Span) -> usize {
-    let value = output::word(&mut *out, at, name);
-    let end = output::shown(&mut *out, value, string::part(s, place), ascii);
-    output::word(&mut *out, end, b"\"")
+pub fn part(
+    to: Stdout,
+    out: &mut [u8],
+    at: usize,
+    name: &[u8],
+    ascii: bool,
+    s: &[u8],
+    place: Span,
+) -> usize {
+    let value = output::word(to, &mut *out, at, name);
+    let end = output::shown(to, &mut *out, value, string::part(s, place), ascii);
+    output::word(to, &mut *out, end, b"\"")
 }
 
 // The first n bytes of a payload, and how many it has.
-fn cut(out: &mut [u8], at: usize, ascii: bool, s: &[u8], place: Span, n: usize) -> usize {
+fn cut(
+    to: Stdout,
+    out: &mut [u8],
+    at: usize,
+    ascii: bool,
+    s: &[u8],
+    place: Span,
+    n: usize,
+) -> usize {
     let front = Span {
         start: place.start,
         len: n,
     };
-    let a = part(&mut *out, at, b" payload=\"", ascii, s, front);
-    number(&mut *out, a, b" payload-bytes=", place.len as u64)
+    let a = part(to, &mut *out, at, b" payload=\"", ascii, s, front);
+    number(to, &mut *out, a, b" payload-bytes=", place.len as u64)
 }
 
 // A payload, or so many bytes of it, at most, and then how many it has.
 pub fn payload(
+    to: Stdout,
     out: &mut [u8],
     at: usize,
     ascii: bool,
@@ -46,35 +64,36 @@ pub fn payload(
 ) -> usize {
     if let Limit::AtMost(n) = most {
         if n < place.len {
-            return cut(&mut *out, at, ascii, s, place, n);
+            return cut(to, &mut *out, at, ascii, s, place, n);
         }
     }
-    part(&mut *out, at, b" payload=\"", ascii, s, place)
+    part(to, &mut *out, at, b" payload=\"", ascii, s, place)
 }
 
 // The fields that may be absent, and are then no field.
-pub fn u8_if(out: &mut [u8], at: usize, name: &[u8], n: MaybeU8) -> usize {
+pub fn u8_if(to: Stdout, out: &mut [u8], at: usize, name: &[u8], n: MaybeU8) -> usize {
     match n {
         MaybeU8::Absent => at,
-        MaybeU8::Present(x) => number(&mut *out, at, name, x as u64),
+        MaybeU8::Present(x) => number(to, &mut *out, at, name, x as u64),
     }
 }
 
-pub fn u16_if(out: &mut [u8], at: usize, name: &[u8], n: MaybeU16) -> usize {
+pub fn u16_if(to: Stdout, out: &mut [u8], at: usize, name: &[u8], n: MaybeU16) -> usize {
     match n {
         MaybeU16::Absent => at,
-        MaybeU16::Present(x) => number(&mut *out, at, name, x as u64),
+        MaybeU16::Present(x) => number(to, &mut *out, at, name, x as u64),
     }
 }
 
-pub fn u32_if(out: &mut [u8], at: usize, name: &[u8], n: MaybeU32) -> usize {
+pub fn u32_if(to: Stdout, out: &mut [u8], at: usize, name: &[u8], n: MaybeU32) -> usize {
     match n {
         MaybeU32::Absent => at,
-        MaybeU32::Present(x) => number(&mut *out, at, name, x as u64),
+        MaybeU32::Present(x) => number(to, &mut *out, at, name, x as u64),
     }
 }
 
 pub fn part_if(
+    to: Stdout,
     out: &mut [u8],
     at: usize,
     name: &[u8],
@@ -84,6 +103,6 @@ pub fn part_if(
 ) -> usize {
     match place {
         MaybeSpan::Absent => at,
-        MaybeSpan::Present(p) => part(&mut *out, at, name, ascii, s, p),
+        MaybeSpan::Present(p) => part(to, &mut *out, at, name, ascii, s, p),
     }
 }

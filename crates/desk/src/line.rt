@@ -10,26 +10,28 @@ use records::reply_record::Reply;
 use records::span::Span;
 use records::subscribe_record::Subscribe;
 use records::unsubscribe_record::Unsubscribe;
+use std::io::Stdout;
 use tables::property::PropertyRow;
 use wire::string;
 
 // The identifier, which a Publish has at QoS 1 and 2.
-fn identifier(out: &mut [u8], at: usize, q: u8, pkid: u16) -> usize {
+fn identifier(to: Stdout, out: &mut [u8], at: usize, q: u8, pkid: u16) -> usize {
     if q == 0 {
         return at;
     }
-    field::id(&mut *out, at, pkid)
+    field::id(to, &mut *out, at, pkid)
 }
 
-fn flags(out: &mut [u8], at: usize, dup: bool, q: u8, retain: bool) -> usize {
+fn flags(to: Stdout, out: &mut [u8], at: usize, dup: bool, q: u8, retain: bool) -> usize {
     let mut text = *b" dup=0 qos=0 retain=0";
     text[5] = output::digit(dup as u8);
     text[11] = output::digit(q);
     text[20] = output::digit(retain as u8);
-    output::word(&mut *out, at, &text)
+    output::word(to, &mut *out, at, &text)
 }
 
 fn publish_head(
+    to: Stdout,
     out: &mut [u8],
     at: usize,
     ascii: bool,
@@ -39,13 +41,14 @@ fn publish_head(
 ) -> usize {
     let qos = m.qos;
     let q = qos_numbers::qos_number(qos);
-    let a = flags(&mut *out, at, m.dup, q, m.retain);
-    let b = field::part(&mut *out, a, b" topic=\"", ascii, s, m.topic);
-    let c = force::topic(&mut *out, b, ascii, s, table, m);
-    identifier(&mut *out, c, q, m.pkid)
+    let a = flags(to, &mut *out, at, m.dup, q, m.retain);
+    let b = field::part(to, &mut *out, a, b" topic=\"", ascii, s, m.topic);
+    let c = force::topic(to, &mut *out, b, ascii, s, table, m);
+    identifier(to, &mut *out, c, q, m.pkid)
 }
 
 fn publish_singles(
+    to: Stdout,
     out: &mut [u8],
     at: usize,
     ascii: bool,
@@ -57,14 +60,23 @@ fn publish_singles(
     let alias = p.topic_alias;
     let response = p.response_topic;
     let correlation = p.correlation_data;
-    let a = field::u8_if(&mut *out, at, b" payload-format=", format);
-    let b = field::u32_if(&mut *out, a, b" message-expiry=", expiry);
-    let c = field::u16_if(&mut *out, b, b" topic-alias=", alias);
-    let d = field::part_if(&mut *out, c, b" response-topic=\"", ascii, s, response);
-    field::part_if(&mut *out, d, b" correlation-data=\"", ascii, s, correlation)
+    let a = field::u8_if(to, &mut *out, at, b" payload-format=", format);
+    let b = field::u32_if(to, &mut *out, a, b" message-expiry=", expiry);
+    let c = field::u16_if(to, &mut *out, b, b" topic-alias=", alias);
+    let d = field::part_if(to, &mut *out, c, b" response-topic=\"", ascii, s, response);
+    field::part_if(
+        to,
+        &mut *out,
+        d,
+        b" correlation-data=\"",
+        ascii,
+        s,
+        correlation,
+    )
 }
 
 fn publish_properties(
+    to: Stdout,
     out: &mut [u8],
     at: usize,
     ascii: bool,
@@ -73,13 +85,14 @@ fn publish_properties(
 ) -> usize {
     let block = p.block;
     let content = p.content_type;
-    let a = publish_singles(&mut *out, at, ascii, s, p);
-    let b = list::users(&mut *out, a, PropertyRow::Publish, ascii, s, block);
-    let c = list::identifiers(&mut *out, b, ascii, s, block);
-    field::part_if(&mut *out, c, b" content-type=\"", ascii, s, content)
+    let a = publish_singles(to, &mut *out, at, ascii, s, p);
+    let b = list::users(to, &mut *out, a, PropertyRow::Publish, ascii, s, block);
+    let c = list::identifiers(to, &mut *out, b, ascii, s, block);
+    field::part_if(to, &mut *out, c, b" content-type=\"", ascii, s, content)
 }
 
 fn publish_block(
+    to: Stdout,
     out: &mut [u8],
     at: usize,
     ascii: bool,
@@ -88,11 +101,12 @@ fn publish_block(
 ) -> usize {
     match properties {
         MaybePublishProperties::Absent => at,
-        MaybePublishProperties::Present(p) => publish_properties(&mut *out, at, ascii, s, p),
+        MaybePublishProperties::Present(p) => publish_properties(to, &mut *out, at, ascii, s, p),
     }
 }
 
 fn publish_of(
+    to: Stdout,
     out: &mut [u8],
     at: usize,
     s: &[u8],
@@ -101,14 +115,15 @@ fn publish_of(
     m: Publish,
 ) -> usize {
     let properties = m.properties;
-    let a = publish_head(&mut *out, at, style.ascii, s, table, m);
-    let b = publish_block(&mut *out, a, style.ascii, s, properties);
+    let a = publish_head(to, &mut *out, at, style.ascii, s, table, m);
+    let b = publish_block(to, &mut *out, a, style.ascii, s, properties);
     let most = style.most;
-    field::payload(&mut *out, b, style.ascii, s, m.payload, most)
+    field::payload(to, &mut *out, b, style.ascii, s, m.payload, most)
 }
 
 // The block of any other kind; what its place does not have is absent.
 fn block(
+    to: Stdout,
     out: &mut [u8],
     at: usize,
     place: PropertyRow,
@@ -122,79 +137,118 @@ fn block(
             let text = p.reason_string;
             let id = p.id;
             let held = p.block;
-            let a = field::part_if(&mut *out, at, b" reason-string=\"", ascii, s, text);
-            let b = field::u32_if(&mut *out, a, b" subscription-id=", id);
-            list::users(&mut *out, b, place, ascii, s, held)
+            let a = field::part_if(to, &mut *out, at, b" reason-string=\"", ascii, s, text);
+            let b = field::u32_if(to, &mut *out, a, b" subscription-id=", id);
+            list::users(to, &mut *out, b, place, ascii, s, held)
         }
     }
 }
 
 // PubAck, PubRec, PubRel, PubComp.
-fn ack_of(out: &mut [u8], at: usize, ascii: bool, s: &[u8], m: Ack) -> usize {
+fn ack_of(to: Stdout, out: &mut [u8], at: usize, ascii: bool, s: &[u8], m: Ack) -> usize {
     let properties = m.properties;
-    let a = field::id(&mut *out, at, m.pkid);
-    let b = field::reason(&mut *out, a, m.reason);
-    block(&mut *out, b, PropertyRow::Ack, ascii, s, properties)
+    let a = field::id(to, &mut *out, at, m.pkid);
+    let b = field::reason(to, &mut *out, a, m.reason);
+    block(to, &mut *out, b, PropertyRow::Ack, ascii, s, properties)
 }
 
-fn subscribe_of(out: &mut [u8], at: usize, ascii: bool, s: &[u8], m: Subscribe) -> usize {
+fn subscribe_of(
+    to: Stdout,
+    out: &mut [u8],
+    at: usize,
+    ascii: bool,
+    s: &[u8],
+    m: Subscribe,
+) -> usize {
     let properties = m.properties;
     let filters = m.filters;
-    let a = field::id(&mut *out, at, m.pkid);
-    let b = block(&mut *out, a, PropertyRow::Subscribe, ascii, s, properties);
-    list::filters(&mut *out, b, ascii, s, filters)
+    let a = field::id(to, &mut *out, at, m.pkid);
+    let b = block(
+        to,
+        &mut *out,
+        a,
+        PropertyRow::Subscribe,
+        ascii,
+        s,
+        properties,
+    );
+    list::filters(to, &mut *out, b, ascii, s, filters)
 }
 
 // SubAck, UnsubAck.
-fn reply_of(out: &mut [u8], at: usize, ascii: bool, s: &[u8], m: Reply) -> usize {
+fn reply_of(to: Stdout, out: &mut [u8], at: usize, ascii: bool, s: &[u8], m: Reply) -> usize {
     let properties = m.properties;
     let reasons = m.reasons;
-    let a = field::id(&mut *out, at, m.pkid);
-    let b = block(&mut *out, a, PropertyRow::Ack, ascii, s, properties);
-    list::reasons(&mut *out, b, ascii, s, reasons)
+    let a = field::id(to, &mut *out, at, m.pkid);
+    let b = block(to, &mut *out, a, PropertyRow::Ack, ascii, s, properties);
+    list::reasons(to, &mut *out, b, ascii, s, reasons)
 }
 
-fn unsubscribe_of(out: &mut [u8], at: usize, ascii: bool, s: &[u8], m: Unsubscribe) -> usize {
+fn unsubscribe_of(
+    to: Stdout,
+    out: &mut [u8],
+    at: usize,
+    ascii: bool,
+    s: &[u8],
+    m: Unsubscribe,
+) -> usize {
     let properties = m.properties;
     let topics = m.topics;
-    let a = field::id(&mut *out, at, m.pkid);
-    let b = block(&mut *out, a, PropertyRow::Unsubscribe, ascii, s, properties);
-    list::topics(&mut *out, b, ascii, s, topics)
+    let a = field::id(to, &mut *out, at, m.pkid);
+    let b = block(
+        to,
+        &mut *out,
+        a,
+        PropertyRow::Unsubscribe,
+        ascii,
+        s,
+        properties,
+    );
+    list::topics(to, &mut *out, b, ascii, s, topics)
 }
 
 // The fields of the kind; a ping has none.
-fn fields(out: &mut [u8], at: usize, s: &[u8], table: &[u8], style: Style, p: Packet) -> usize {
+fn fields(
+    to: Stdout,
+    out: &mut [u8],
+    at: usize,
+    s: &[u8],
+    table: &[u8],
+    style: Style,
+    p: Packet,
+) -> usize {
     match p {
-        Packet::Publish(m) => publish_of(&mut *out, at, s, table, style, m),
-        Packet::Ack(_, m) => ack_of(&mut *out, at, style.ascii, s, m),
-        Packet::Subscribe(m) => subscribe_of(&mut *out, at, style.ascii, s, m),
-        Packet::Reply(_, m) => reply_of(&mut *out, at, style.ascii, s, m),
-        Packet::Unsubscribe(m) => unsubscribe_of(&mut *out, at, style.ascii, s, m),
+        Packet::Publish(m) => publish_of(to, &mut *out, at, s, table, style, m),
+        Packet::Ack(_, m) => ack_of(to, &mut *out, at, style.ascii, s, m),
+        Packet::Subscribe(m) => subscribe_of(to, &mut *out, at, style.ascii, s, m),
+        Packet::Reply(_, m) => reply_of(to, &mut *out, at, style.ascii, s, m),
+        Packet::Unsubscribe(m) => unsubscribe_of(to, &mut *out, at, style.ascii, s, m),
         Packet::PingReq => at,
         Packet::PingResp => at,
     }
 }
 
 // The word for a number's kind.
-fn kind_word(out: &mut [u8], at: usize, num: u8) -> usize {
+fn kind_word(to: Stdout, out: &mut [u8], at: usize, num: u8) -> usize {
     let shown = kinds::word_of(num);
     let bytes = shown.bytes;
     let text = Span {
         start: 0,
         len: shown.len,
     };
-    output::word(&mut *out, at, string::part(&bytes, text))
+    output::word(to, &mut *out, at, string::part(&bytes, text))
 }
 
 // The kind, in bold where lines are coloured.
-fn kind(out: &mut [u8], at: usize, num: u8, colour: bool) -> usize {
-    let a = output::paint(&mut *out, at, colour, b"\x1B[1m");
-    let b = kind_word(&mut *out, a, num);
-    output::paint(&mut *out, b, colour, b"\x1B[0m")
+fn kind(to: Stdout, out: &mut [u8], at: usize, num: u8, colour: bool) -> usize {
+    let a = output::paint(to, &mut *out, at, colour, b"\x1B[1m");
+    let b = kind_word(to, &mut *out, a, num);
+    output::paint(to, &mut *out, b, colour, b"\x1B[0m")
 }
 
 // Of the packet p that was read from s; the table has the topics by alias.
 pub fn packet(
+    to: Stdout,
     out: &mut [u8],
     at: usize,
     offset: u64,
@@ -204,25 +258,26 @@ pub fn packet(
     p: Packet,
     taken: usize,
 ) -> usize {
-    let a = output::decimal(&mut *out, at, offset);
-    let b = output::word(&mut *out, a, b" ");
-    let c = kind(&mut *out, b, desk_summary::number_in(p), style.colour);
-    let d = field::number(&mut *out, c, b" taken=", taken as u64);
-    let e = fields(&mut *out, d, s, table, style, p);
-    output::word(&mut *out, e, b"\n")
+    let a = output::decimal(to, &mut *out, at, offset);
+    let b = output::word(to, &mut *out, a, b" ");
+    let c = kind(to, &mut *out, b, desk_summary::number_in(p), style.colour);
+    let d = field::number(to, &mut *out, c, b" taken=", taken as u64);
+    let e = fields(to, &mut *out, d, s, table, style, p);
+    output::word(to, &mut *out, e, b"\n")
 }
 
 // The kind of a first byte: its word, or its number where there is none.
-fn kind_or_number(out: &mut [u8], at: usize, num: u8) -> usize {
+fn kind_or_number(to: Stdout, out: &mut [u8], at: usize, num: u8) -> usize {
     let shown = kinds::word_of(num);
     if shown.len == 0 {
-        return output::decimal(&mut *out, at, num as u64);
+        return output::decimal(to, &mut *out, at, num as u64);
     }
-    kind_word(&mut *out, at, num)
+    kind_word(to, &mut *out, at, num)
 }
 
 // Of a frame of `size` bytes that begins with `first` and is longer than the buffer.
 pub fn skipped(
+    to: Stdout,
     out: &mut [u8],
     at: usize,
     offset: u64,
@@ -230,11 +285,11 @@ pub fn skipped(
     size: u64,
     colour: bool,
 ) -> usize {
-    let a = output::paint(&mut *out, at, colour, b"\x1B[33m");
-    let b = output::decimal(&mut *out, a, offset);
-    let c = output::word(&mut *out, b, b" skipped ");
-    let d = kind_or_number(&mut *out, c, first / 16);
-    let e = field::number(&mut *out, d, b" taken=", size);
-    let f = output::paint(&mut *out, e, colour, b"\x1B[0m");
-    output::word(&mut *out, f, b"\n")
+    let a = output::paint(to, &mut *out, at, colour, b"\x1B[33m");
+    let b = output::decimal(to, &mut *out, a, offset);
+    let c = output::word(to, &mut *out, b, b" skipped ");
+    let d = kind_or_number(to, &mut *out, c, first / 16);
+    let e = field::number(to, &mut *out, d, b" taken=", size);
+    let f = output::paint(to, &mut *out, e, colour, b"\x1B[0m");
+    output::word(to, &mut *out, f, b"\n")
 }

@@ -7,12 +7,13 @@ use qos_numbers;
 use qos_numbers::rule_number;
 use records::span::Span;
 use records::subscribe_record::Filter;
+use std::io::Stdout;
 use tables::property::PropertyRow;
 use wire::got::GotSpan;
 use wire::string;
 
 // What a list is made of.
-#[derive(Drop)]
+#[derive(Clone, Copy)]
 enum Items {
     // user properties, and the place of their block
     Users(PropertyRow),
@@ -24,73 +25,98 @@ enum Items {
 }
 
 // Where the output goes on, and the list; no further than before where nothing is left.
-#[derive(Drop)]
+#[derive(Clone, Copy)]
 struct Step {
     put: usize,
     next: usize,
 }
 
 // Key and value of a user property.
-fn user(out: &mut [u8], at: usize, ascii: bool, s: &[u8], key: Span, value: Span) -> usize {
-    let a = field::part(&mut *out, at, b" user=\"", ascii, s, key);
-    field::part(&mut *out, a, b"=\"", ascii, s, value)
+fn user(
+    to: Stdout,
+    out: &mut [u8],
+    at: usize,
+    ascii: bool,
+    s: &[u8],
+    key: Span,
+    value: Span,
+) -> usize {
+    let a = field::part(to, &mut *out, at, b" user=\"", ascii, s, key);
+    field::part(to, &mut *out, a, b"=\"", ascii, s, value)
 }
 
-fn user_if(out: &mut [u8], at: usize, ascii: bool, s: &[u8], v: Value) -> usize {
+fn user_if(to: Stdout, out: &mut [u8], at: usize, ascii: bool, s: &[u8], v: Value) -> usize {
     if let Value::Pair(key, value) = v {
-        return user(&mut *out, at, ascii, s, key, value);
+        return user(to, &mut *out, at, ascii, s, key, value);
     }
     at
 }
 
 // The field of a value that is a variable length number: only subscription identifiers are.
-fn identifier_if(out: &mut [u8], at: usize, v: Value) -> usize {
+fn identifier_if(to: Stdout, out: &mut [u8], at: usize, v: Value) -> usize {
     if let Value::Number(id) = v {
-        return field::number(&mut *out, at, b" subscription-id=", id as u64);
+        return field::number(to, &mut *out, at, b" subscription-id=", id as u64);
     }
     at
 }
 
 // The property at i, if it is a user property.
-fn user_at(out: &mut [u8], at: usize, place: PropertyRow, ascii: bool, s: &[u8], i: usize) -> Step {
+fn user_at(
+    to: Stdout,
+    out: &mut [u8],
+    at: usize,
+    place: PropertyRow,
+    ascii: bool,
+    s: &[u8],
+    i: usize,
+) -> Step {
     match property_value::read_property(place, s, i) {
         GotProperty::Refused(_) => Step { put: at, next: i },
         GotProperty::Found(_, v, next) => {
-            let put = user_if(&mut *out, at, ascii, s, v);
+            let put = user_if(to, &mut *out, at, ascii, s, v);
             Step { put, next }
         }
     }
 }
 
-fn identifier_at(out: &mut [u8], at: usize, s: &[u8], i: usize) -> Step {
+fn identifier_at(to: Stdout, out: &mut [u8], at: usize, s: &[u8], i: usize) -> Step {
     match property_value::read_property(PropertyRow::Publish, s, i) {
         GotProperty::Refused(_) => Step { put: at, next: i },
         GotProperty::Found(_, v, next) => {
-            let put = identifier_if(&mut *out, at, v);
+            let put = identifier_if(to, &mut *out, at, v);
             Step { put, next }
         }
     }
 }
 
-fn options(out: &mut [u8], at: usize, q: u8, no_local: bool, preserve: bool, rule: u8) -> usize {
+fn options(
+    to: Stdout,
+    out: &mut [u8],
+    at: usize,
+    q: u8,
+    no_local: bool,
+    preserve: bool,
+    rule: u8,
+) -> usize {
     let mut text = *b" qos=0 no-local=0 preserve-retain=0 forward=0";
     text[5] = output::digit(q);
     text[16] = output::digit(no_local as u8);
     text[34] = output::digit(preserve as u8);
     text[44] = output::digit(rule);
-    output::word(&mut *out, at, &text)
+    output::word(to, &mut *out, at, &text)
 }
 
 // The text of a filter.
-fn path(out: &mut [u8], at: usize, ascii: bool, s: &[u8], place: Span) -> usize {
-    field::part(&mut *out, at, b" filter=\"", ascii, s, place)
+fn path(to: Stdout, out: &mut [u8], at: usize, ascii: bool, s: &[u8], place: Span) -> usize {
+    field::part(to, &mut *out, at, b" filter=\"", ascii, s, place)
 }
 
-fn filter_of(out: &mut [u8], at: usize, ascii: bool, s: &[u8], f: Filter) -> usize {
+fn filter_of(to: Stdout, out: &mut [u8], at: usize, ascii: bool, s: &[u8], f: Filter) -> usize {
     let q = f.qos;
     let rule = f.retain_forward_rule;
-    let a = path(&mut *out, at, ascii, s, f.path);
+    let a = path(to, &mut *out, at, ascii, s, f.path);
     options(
+        to,
         &mut *out,
         a,
         qos_numbers::qos_number(q),
@@ -100,51 +126,59 @@ fn filter_of(out: &mut [u8], at: usize, ascii: bool, s: &[u8], f: Filter) -> usi
     )
 }
 
-fn filter_at(out: &mut [u8], at: usize, ascii: bool, s: &[u8], i: usize) -> Step {
+fn filter_at(to: Stdout, out: &mut [u8], at: usize, ascii: bool, s: &[u8], i: usize) -> Step {
     match filters::read_filter(s, i) {
         GotFilter::Refused(_) => Step { put: at, next: i },
         GotFilter::Value(f, next) => {
-            let put = filter_of(&mut *out, at, ascii, s, f);
+            let put = filter_of(to, &mut *out, at, ascii, s, f);
             Step { put, next }
         }
     }
 }
 
-fn topic_at(out: &mut [u8], at: usize, ascii: bool, s: &[u8], i: usize) -> Step {
+fn topic_at(to: Stdout, out: &mut [u8], at: usize, ascii: bool, s: &[u8], i: usize) -> Step {
     match string::read_mqtt_string(s, i) {
         GotSpan::Refused(_) => Step { put: at, next: i },
         GotSpan::Value(topic, next) => {
-            let put = path(&mut *out, at, ascii, s, topic);
+            let put = path(to, &mut *out, at, ascii, s, topic);
             Step { put, next }
         }
     }
 }
 
-fn reason_at(out: &mut [u8], at: usize, s: &[u8], i: usize) -> Step {
+fn reason_at(to: Stdout, out: &mut [u8], at: usize, s: &[u8], i: usize) -> Step {
     if i < s.len() {
-        let put = field::reason(&mut *out, at, s[i]);
+        let put = field::reason(to, &mut *out, at, s[i]);
         return Step { put, next: i + 1 };
     }
     Step { put: at, next: i }
 }
 
 // The item at i.
-fn item(out: &mut [u8], at: usize, items: Items, ascii: bool, s: &[u8], i: usize) -> Step {
+fn item(
+    to: Stdout,
+    out: &mut [u8],
+    at: usize,
+    items: Items,
+    ascii: bool,
+    s: &[u8],
+    i: usize,
+) -> Step {
     match items {
-        Items::Users(place) => user_at(&mut *out, at, place, ascii, s, i),
-        Items::Identifiers => identifier_at(&mut *out, at, s, i),
-        Items::Filters => filter_at(&mut *out, at, ascii, s, i),
-        Items::Topics => topic_at(&mut *out, at, ascii, s, i),
-        Items::Reasons => reason_at(&mut *out, at, s, i),
+        Items::Users(place) => user_at(to, &mut *out, at, place, ascii, s, i),
+        Items::Identifiers => identifier_at(to, &mut *out, at, s, i),
+        Items::Filters => filter_at(to, &mut *out, at, ascii, s, i),
+        Items::Topics => topic_at(to, &mut *out, at, ascii, s, i),
+        Items::Reasons => reason_at(to, &mut *out, at, s, i),
     }
 }
 
 // All items of s; each goes further on.
-fn items_in(out: &mut [u8], at: usize, items: Items, ascii: bool, s: &[u8]) -> usize {
+fn items_in(to: Stdout, out: &mut [u8], at: usize, items: Items, ascii: bool, s: &[u8]) -> usize {
     let mut put = at;
     let mut i: usize = 0;
     while i < s.len() {
-        let step = item(&mut *out, put, items, ascii, s, i);
+        let step = item(to, &mut *out, put, items, ascii, s, i);
         if step.next <= i {
             return put;
         }
@@ -156,6 +190,7 @@ fn items_in(out: &mut [u8], at: usize, items: Items, ascii: bool, s: &[u8]) -> u
 
 // The user properties of the block at a place of s.
 pub fn users(
+    to: Stdout,
     out: &mut [u8],
     at: usize,
     place: PropertyRow,
@@ -164,6 +199,7 @@ pub fn users(
     block: Span,
 ) -> usize {
     items_in(
+        to,
         &mut *out,
         at,
         Items::Users(place),
@@ -173,8 +209,16 @@ pub fn users(
 }
 
 // The subscription identifiers of a Publish.
-pub fn identifiers(out: &mut [u8], at: usize, ascii: bool, s: &[u8], block: Span) -> usize {
+pub fn identifiers(
+    to: Stdout,
+    out: &mut [u8],
+    at: usize,
+    ascii: bool,
+    s: &[u8],
+    block: Span,
+) -> usize {
     items_in(
+        to,
         &mut *out,
         at,
         Items::Identifiers,
@@ -184,16 +228,37 @@ pub fn identifiers(out: &mut [u8], at: usize, ascii: bool, s: &[u8], block: Span
 }
 
 // The filters of the run at a place of s.
-pub fn filters(out: &mut [u8], at: usize, ascii: bool, s: &[u8], run: Span) -> usize {
-    items_in(&mut *out, at, Items::Filters, ascii, string::part(s, run))
+pub fn filters(to: Stdout, out: &mut [u8], at: usize, ascii: bool, s: &[u8], run: Span) -> usize {
+    items_in(
+        to,
+        &mut *out,
+        at,
+        Items::Filters,
+        ascii,
+        string::part(s, run),
+    )
 }
 
 // The topics of the run at a place of s.
-pub fn topics(out: &mut [u8], at: usize, ascii: bool, s: &[u8], run: Span) -> usize {
-    items_in(&mut *out, at, Items::Topics, ascii, string::part(s, run))
+pub fn topics(to: Stdout, out: &mut [u8], at: usize, ascii: bool, s: &[u8], run: Span) -> usize {
+    items_in(
+        to,
+        &mut *out,
+        at,
+        Items::Topics,
+        ascii,
+        string::part(s, run),
+    )
 }
 
 // The reasons of the run at a place of s.
-pub fn reasons(out: &mut [u8], at: usize, ascii: bool, s: &[u8], run: Span) -> usize {
-    items_in(&mut *out, at, Items::Reasons, ascii, string::part(s, run))
+pub fn reasons(to: Stdout, out: &mut [u8], at: usize, ascii: bool, s: &[u8], run: Span) -> usize {
+    items_in(
+        to,
+        &mut *out,
+        at,
+        Items::Reasons,
+        ascii,
+        string::part(s, run),
+    )
 }

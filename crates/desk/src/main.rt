@@ -1,5 +1,7 @@
 // Shows a stream of MQTT 5 frames, from a file or from standard input: a line for each frame on standard output, and what was read in all
 // on standard error.
+#![tactic(auto)]
+
 mod args;
 mod field;
 mod force;
@@ -9,66 +11,66 @@ mod output;
 mod stream;
 
 use desk_arguments::Asked;
+use outside::Source;
+use std::process::ExitCode;
 
 // The file that is named by a word.
-fn read_file(a: Asked, filter: &[u8]) -> u8 {
+fn read_file(rt: HostRuntime, a: Asked, filter: &[u8]) -> u8 {
     let limit = a.limit;
     let style = a.style;
-    let mut path = io::buffer();
-    let n = os::arg(a.file, &mut path);
+    let mut path = outside::word_buffer();
+    let n = outside::word(&rt, a.file, &mut path).unwrap_or(0);
     let name = &path[..n];
-    let fd = os::open_read(name);
-    if fd < 0 {
-        output::fail(name);
-        return 1;
+    match outside::open(&rt, name) {
+        Err(e) => {
+            output::fail(rt.stderr(), name, outside::number_of(e));
+            1
+        }
+        Ok(file) => stream::read(rt, Source::Named(file), name, limit, filter, style),
     }
-    let status = stream::read(fd, name, limit, filter, style);
-    libc::close(fd);
-    status
 }
 
 // The frames that the filter lets pass, all if it is empty.
-fn read(a: Asked, filter: &[u8]) -> u8 {
+fn read(rt: HostRuntime, a: Asked, filter: &[u8]) -> u8 {
     if a.file == 0 {
         let limit = a.limit;
         let style = a.style;
-        return stream::read(libc::STDIN_FILENO, b"standard input", limit, filter, style);
+        let input = Source::Standard(rt.stdin());
+        return stream::read(rt, input, b"standard input", limit, filter, style);
     }
-    read_file(a, filter)
+    read_file(rt, a, filter)
 }
 
 // With the filter that is named by a word.
-fn read_by_topic(a: Asked) -> u8 {
-    let mut text = io::buffer();
-    let n = os::arg(a.topic, &mut text);
+fn read_by_topic(rt: HostRuntime, a: Asked) -> u8 {
+    let mut text = outside::word_buffer();
+    let n = outside::word(&rt, a.topic, &mut text).unwrap_or(0);
     let filter = &text[..n];
     if topics::valid_filter(filter) {
-        return read(a, filter);
+        return read(rt, a, filter);
     }
-    output::bad_filter(filter);
+    output::bad_filter(rt.stderr(), filter);
     2
 }
 
-fn run(a: Asked) -> u8 {
+fn run(rt: HostRuntime, a: Asked) -> u8 {
     if a.bad {
-        output::usage();
+        output::usage(rt.stderr());
         return 2;
     }
     if a.topic == 0 {
-        return read(a, b"");
+        return read(rt, a, b"");
     }
-    read_by_topic(a)
+    read_by_topic(rt, a)
 }
 
-// The status as a digit, on descriptor 3.
-fn tell(status: u8) {
-    io::write_all(3, &[output::digit(status)]);
-}
-
-fn main() {
-    let a = args::read();
-    let status = run(a);
-    if a.status {
-        tell(status);
+// The exit status, where it is asked for, or nobody takes the lines any more; else 0.
+fn main(rt: HostRuntime) -> ExitCode {
+    let a = args::read(rt);
+    let is_asked = a.status;
+    let status = run(rt, a);
+    if is_asked || status == stream::UNTAKEN {
+        return ExitCode::from(status);
     }
+    ExitCode::SUCCESS
 }

@@ -6,10 +6,12 @@ ghost use Rattle.desk.specs.Held.{fronted, Kept};
 
 use crate::{line, output};
 use desk_arguments::Style;
+use outside::Source;
 use records::answer::{Limit, Read};
 use records::error::Error;
 use records::packet_record::Packet;
 use records::span::Span;
+use std::io::{Stderr, Stdout};
 use wire::string;
 use write_bytes::put_bytes;
 
@@ -24,7 +26,7 @@ const STOPPED: u8 = 3;
 // The input could not be read.
 const UNREADABLE: u8 = 4;
 
-#[derive(Drop)]
+#[derive(Clone, Copy)]
 struct Desk {
     // what is held of the stream, in the buffer
     held: Span,
@@ -44,11 +46,18 @@ struct Desk {
     // of a frame above the limit: its bytes, and the limit
     over: usize,
     most: usize,
+    // the system's number of why the input could not be read
+    failed: i32,
 }
 
 // 1 MiB
 fn buffer() -> [u8; 1048576] {
     [0; 1048576]
+}
+
+// 64 KiB
+fn out_buffer() -> [u8; 65536] {
+    [0; 65536]
 }
 
 // The topics by alias, none set.
@@ -88,11 +97,18 @@ fn passed(mut d: Desk, put: usize, taken: usize) -> Desk {
 }
 
 // Where the output goes on after the line of a refusal, which is put if no filter is given.
-fn refused_line(out: &mut [u8], d: Desk, colour: bool, e: Error, taken: usize) -> usize {
+fn refused_line(
+    to: Stdout,
+    out: &mut [u8],
+    d: Desk,
+    colour: bool,
+    e: Error,
+    taken: usize,
+) -> usize {
     if d.all {
-        let a = output::paint(&mut *out, d.put, colour, b"\x1B[31m");
-        let b = output::refused(&mut *out, a, d.offset, e, taken);
-        return output::paint(&mut *out, b, colour, b"\x1B[0m");
+        let a = output::paint(to, &mut *out, d.put, colour, b"\x1B[31m");
+        let b = output::refused(to, &mut *out, a, d.offset, e, taken);
+        return output::paint(to, &mut *out, b, colour, b"\x1B[0m");
     }
     d.put
 }
@@ -108,6 +124,7 @@ fn over_limit(mut d: Desk, e: Error) -> Desk {
 
 // A refusal; that of no byte at all is the end of the stream.
 fn refused(
+    to: Stdout,
     out: &mut [u8],
     tally: &mut [u64],
     colour: bool,
@@ -120,7 +137,7 @@ fn refused(
         d.state = DONE;
         return d;
     }
-    let put = refused_line(&mut *out, d, colour, e, taken);
+    let put = refused_line(to, &mut *out, d, colour, e, taken);
     desk_summary::add_refused(&mut *tally, e);
     passed(over_limit(d, e), put, taken)
 }
@@ -158,31 +175,42 @@ fn with_room(buf: &mut [u8], held: Span) -> Span
     Span { start: 0, len }
 }
 
-// Reads once from index `from` on; -1 where there is no such index, or the input cannot be read.
-fn read_from(fd: i32, buf: &mut [u8], from: usize) -> isize {
+// Reads once from index `from` on; the system's number of why the input cannot be read, and 0 where there is no such index.
+fn read_from(source: &mut Source, buf: &mut [u8], from: usize) -> Result<usize, i32> {
     if buf.len() < from {
-        return -1;
+        return Err(0);
     }
-    libc::read(fd, &mut buf[from..])
+    match outside::read(&mut *source, &mut buf[from..]) {
+        Ok(n) => Ok(n),
+        Err(e) => Err(outside::number_of(e)),
+    }
 }
 
 // Reads once behind what is held.
-fn fill(fd: i32, buf: &mut [u8], mut d: Desk) -> Desk {
+fn fill(source: &mut Source, buf: &mut [u8], mut d: Desk) -> Desk {
     let held = d.held;
     let start = held.start;
-    let got = read_from(fd, &mut *buf, std::num::wrapping_add_usize(start, held.len));
-    if 0 < got {
-        let len = std::num::wrapping_add_usize(held.len, io::count(got, &*buf));
-        let now = Span { start, len };
-        d.held = now;
-        return d;
+    match read_from(
+        &mut *source,
+        &mut *buf,
+        std::num::wrapping_add_usize(start, held.len),
+    ) {
+        Ok(0) => {
+            d.state = ENDED;
+            d
+        }
+        Ok(n) => {
+            let len = std::num::wrapping_add_usize(held.len, n);
+            let now = Span { start, len };
+            d.held = now;
+            d
+        }
+        Err(number) => {
+            d.state = UNREADABLE;
+            d.failed = number;
+            d
+        }
     }
-    if got == 0 {
-        d.state = ENDED;
-        return d;
-    }
-    d.state = UNREADABLE;
-    d
 }
 
 // The first byte of what is held.
@@ -206,19 +234,30 @@ fn skipping(mut d: Desk, first: u8, lacks: usize) -> Desk {
 }
 
 // More of the stream, for a frame that lacks some bytes. What was put is written first: a line does not wait for input.
-fn more(fd: i32, buf: &mut [u8], out: &mut [u8], mut d: Desk, lacks: usize) -> Desk {
-    d.put = output::flush(&*out, d.put);
+fn more(
+    source: &mut Source,
+    buf: &mut [u8],
+    to: Stdout,
+    out: &mut [u8],
+    mut d: Desk,
+    lacks: usize,
+) -> Desk {
+    d.put = output::flush(to, &*out, d.put);
+    if output::is_lost(&*out, d.put) {
+        return d;
+    }
     let held = with_room(&mut *buf, d.held);
     d.held = held;
     if buf.len() <= held.len {
         return skipping(d, first_of(&*buf, held), lacks);
     }
-    fill(fd, &mut *buf, d)
+    fill(&mut *source, &mut *buf, d)
 }
 
 fn unread(
-    fd: i32,
+    source: &mut Source,
     buf: &mut [u8],
+    to: Stdout,
     out: &mut [u8],
     tally: &mut [u64],
     colour: bool,
@@ -228,15 +267,15 @@ fn unread(
 ) -> Desk {
     let lacks = lacking(d.state, e);
     if 0 < lacks {
-        return more(fd, &mut *buf, &mut *out, d, lacks);
+        return more(&mut *source, &mut *buf, to, &mut *out, d, lacks);
     }
-    refused(&mut *out, &mut *tally, colour, d, e, taken)
+    refused(to, &mut *out, &mut *tally, colour, d, e, taken)
 }
 
 // The line of a frame that was passed over.
-fn skipped_line(out: &mut [u8], d: Desk, colour: bool) -> usize {
+fn skipped_line(to: Stdout, out: &mut [u8], d: Desk, colour: bool) -> usize {
     if d.all {
-        return line::skipped(&mut *out, d.put, d.offset, d.first, d.size, colour);
+        return line::skipped(to, &mut *out, d.put, d.offset, d.first, d.size, colour);
     }
     d.put
 }
@@ -249,9 +288,9 @@ fn forget(table: &mut [u8], first: u8) {
 }
 
 // Its last byte is passed.
-fn skipped(table: &mut [u8], out: &mut [u8], mut d: Desk, colour: bool) -> Desk {
+fn skipped(table: &mut [u8], to: Stdout, out: &mut [u8], mut d: Desk, colour: bool) -> Desk {
     forget(&mut *table, d.first);
-    let put = skipped_line(&mut *out, d, colour);
+    let put = skipped_line(to, &mut *out, d, colour);
     d.put = put;
     d.offset = std::num::wrapping_add_u64(d.offset, d.size);
     d.skipped = std::num::wrapping_add_u64(d.skipped, 1);
@@ -275,9 +314,9 @@ fn pass_held(mut d: Desk) -> Desk {
     d
 }
 
-fn cut_off(out: &mut [u8], tally: &mut [u64], colour: bool, mut d: Desk) -> Desk {
+fn cut_off(to: Stdout, out: &mut [u8], tally: &mut [u64], colour: bool, mut d: Desk) -> Desk {
     let e = Error::InsufficientBytes(d.skip);
-    let put = refused_line(&mut *out, d, colour, e, 0);
+    let put = refused_line(to, &mut *out, d, colour, e, 0);
     d.put = put;
     desk_summary::add_refused(&mut *tally, e);
     d.state = STOPPED;
@@ -286,21 +325,22 @@ fn cut_off(out: &mut [u8], tally: &mut [u64], colour: bool, mut d: Desk) -> Desk
 
 // One read of a frame that is passed over; where the input ends inside it, it lacks what is yet to come.
 fn pass_over(
-    fd: i32,
+    source: &mut Source,
     buf: &mut [u8],
     table: &mut [u8],
+    to: Stdout,
     out: &mut [u8],
     tally: &mut [u64],
     colour: bool,
     d: Desk,
 ) -> Desk {
-    let got = fill(fd, &mut *buf, d);
+    let got = fill(&mut *source, &mut *buf, d);
     if got.state == ENDED {
-        return cut_off(&mut *out, &mut *tally, colour, got);
+        return cut_off(to, &mut *out, &mut *tally, colour, got);
     }
     let left = pass_held(got);
     if left.skip == 0 {
-        return skipped(&mut *table, &mut *out, left, colour);
+        return skipped(&mut *table, to, &mut *out, left, colour);
     }
     left
 }
@@ -310,6 +350,7 @@ fn packet_line(
     s: &[u8],
     filter: &[u8],
     table: &[u8],
+    to: Stdout,
     out: &mut [u8],
     style: Style,
     d: Desk,
@@ -317,7 +358,7 @@ fn packet_line(
     taken: usize,
 ) -> usize {
     if desk_topic::is_shown(filter, s, table, p) {
-        return line::packet(&mut *out, d.put, d.offset, s, table, style, p, taken);
+        return line::packet(to, &mut *out, d.put, d.offset, s, table, style, p, taken);
     }
     d.put
 }
@@ -326,6 +367,7 @@ fn accepted(
     s: &[u8],
     filter: &[u8],
     table: &mut [u8],
+    to: Stdout,
     out: &mut [u8],
     tally: &mut [u64],
     style: Style,
@@ -334,18 +376,19 @@ fn accepted(
     taken: usize,
 ) -> Desk {
     desk_topic::learn(&mut *table, s, p);
-    let put = packet_line(s, filter, &*table, &mut *out, style, d, p, taken);
+    let put = packet_line(s, filter, &*table, to, &mut *out, style, d, p, taken);
     desk_summary::add_packet(&mut *tally, p);
     passed(d, put, taken)
 }
 
 // One frame, or one read for it.
 fn read_frame(
-    fd: i32,
+    source: &mut Source,
     limit: Limit,
     filter: &[u8],
     buf: &mut [u8],
     table: &mut [u8],
+    to: Stdout,
     out: &mut [u8],
     tally: &mut [u64],
     style: Style,
@@ -357,6 +400,7 @@ fn read_frame(
             s,
             filter,
             &mut *table,
+            to,
             &mut *out,
             &mut *tally,
             style,
@@ -365,8 +409,9 @@ fn read_frame(
             taken,
         ),
         Read::Refused(e, taken) => unread(
-            fd,
+            &mut *source,
             &mut *buf,
+            to,
             &mut *out,
             &mut *tally,
             style.colour,
@@ -378,11 +423,12 @@ fn read_frame(
 }
 
 fn turn(
-    fd: i32,
+    source: &mut Source,
     limit: Limit,
     filter: &[u8],
     buf: &mut [u8],
     table: &mut [u8],
+    to: Stdout,
     out: &mut [u8],
     tally: &mut [u64],
     style: Style,
@@ -390,9 +436,10 @@ fn turn(
 ) -> Desk {
     if 0 < d.skip {
         return pass_over(
-            fd,
+            &mut *source,
             &mut *buf,
             &mut *table,
+            to,
             &mut *out,
             &mut *tally,
             style.colour,
@@ -400,11 +447,12 @@ fn turn(
         );
     }
     read_frame(
-        fd,
+        &mut *source,
         limit,
         filter,
         &mut *buf,
         &mut *table,
+        to,
         &mut *out,
         &mut *tally,
         style,
@@ -433,16 +481,18 @@ fn begun(all: bool) -> Desk {
         skipped: 0,
         over: 0,
         most: 0,
+        failed: 0,
     }
 }
 
 // A proved loop has to end, and nothing says that a stream does. So the loop counts its turns down, from a number that no run uses up.
 fn read_all(
-    fd: i32,
+    source: &mut Source,
     limit: Limit,
     filter: &[u8],
     buf: &mut [u8],
     table: &mut [u8],
+    to: Stdout,
     out: &mut [u8],
     tally: &mut [u64],
     style: Style,
@@ -451,11 +501,12 @@ fn read_all(
     let mut turns: u64 = 18446744073709551615;
     while 0 < turns {
         d = turn(
-            fd,
+            &mut *source,
             limit,
             filter,
             &mut *buf,
             &mut *table,
+            to,
             &mut *out,
             &mut *tally,
             style,
@@ -470,7 +521,7 @@ fn read_all(
 }
 
 // What was above the limit, on standard error.
-fn tell_over(out: &mut [u8], d: Desk) {
+fn tell_over(to: Stderr, out: &mut [u8], d: Desk) {
     if d.over == 0 {
         return;
     }
@@ -483,29 +534,42 @@ fn tell_over(out: &mut [u8], d: Desk) {
         d.most as u64,
     );
     let len = desk_lines::put_word(&mut *out, c as u16, b": stopped there\n");
-    output::tell(&*out, len);
+    output::tell(to, &*out, len);
 }
 
 // How many frames were passed over, on standard error, if any was.
-fn tell_skipped(out: &mut [u8], d: Desk) {
+fn tell_skipped(to: Stderr, out: &mut [u8], d: Desk) {
     if d.skipped == 0 {
         return;
     }
     let a = desk_lines::put_number(&mut *out, 0, b"desk: skipped=", d.skipped);
     let len = desk_lines::put_word(&mut *out, a as u16, b" longer than 1048576 bytes\n");
-    output::tell(&*out, len);
+    output::tell(to, &*out, len);
+}
+
+// What the system ends a program with that writes where nobody takes it any more; `std` has it go on, so that the program ends itself.
+pub const UNTAKEN: u8 = 141;
+
+// What was put could not be written; gives the exit status.
+fn lost(to: Stderr, number: i32) -> u8 {
+    if number == output::BROKEN_PIPE {
+        return UNTAKEN;
+    }
+    output::fail(to, b"standard output", number);
+    1
 }
 
 // Writes what is left of the output, then what was read, on standard error; gives the exit status.
-fn finish(out: &mut [u8], tally: &[u64], d: Desk) -> u8 {
-    if output::is_lost(&*out, output::flush(&*out, d.put)) {
-        output::fail(b"standard output");
-        return 1;
+fn finish(rt: HostRuntime, out: &mut [u8], tally: &[u64], d: Desk) -> u8 {
+    let to = rt.stderr();
+    let end = output::flush(rt.stdout(), &*out, d.put);
+    if output::is_lost(&*out, end) {
+        return lost(to, output::number_of_lost(end));
     }
-    tell_over(&mut *out, d);
-    tell_skipped(&mut *out, d);
+    tell_over(to, &mut *out, d);
+    tell_skipped(to, &mut *out, d);
     let len = desk_summary::put_summary(&mut *out, tally, d.offset);
-    output::tell(&*out, len);
+    output::tell(to, &*out, len);
     if d.state == DONE {
         return 0;
     }
@@ -513,16 +577,31 @@ fn finish(out: &mut [u8], tally: &[u64], d: Desk) -> u8 {
 }
 
 // Reads the stream to its end, or to where it stops; gives the exit status.
-pub fn read(fd: i32, name: &[u8], limit: Limit, filter: &[u8], style: Style) -> u8 {
+pub fn read(
+    rt: HostRuntime,
+    mut source: Source,
+    name: &[u8],
+    limit: Limit,
+    filter: &[u8],
+    style: Style,
+) -> u8 {
     let mut buf = buffer();
     let mut table = fresh();
-    let mut out = io::large_buffer();
+    let mut out = out_buffer();
     let mut tally = desk_summary::none();
     let d = read_all(
-        fd, limit, filter, &mut buf, &mut table, &mut out, &mut tally, style,
+        &mut source,
+        limit,
+        filter,
+        &mut buf,
+        &mut table,
+        rt.stdout(),
+        &mut out,
+        &mut tally,
+        style,
     );
     if d.state == UNREADABLE {
-        output::fail(name);
+        output::fail(rt.stderr(), name, d.failed);
     }
-    finish(&mut out, &tally, d)
+    finish(rt, &mut out, &tally, d)
 }

@@ -1,5 +1,7 @@
-// The words that `desk` is started with: `desk [--limit N] [--topic FILTER] [--payload N] [--ascii] [FILE]````, and ``--status` and
+// The words that `desk` is started with: `desk [--limit N] [--topic FILTER] [--payload N] [--ascii] [FILE]`, and `--status` and
 // `--colour`, which the script at the top hands over.
+#![tactic(auto)]
+
 ghost use Rattle.std.specs.Prelude.{◌≡◌};
 ghost use Rattle.std.proofs.Math.Option.{some};
 ghost use Rattle.desk_arguments.specs.Words.{same, is_option, grow, number_of, told_number, said_of, unasked, as_bad, as_awaiting, as_styled, with_limit, with_most, with_name, with_said, with_word, with_end};
@@ -7,7 +9,7 @@ ghost use Rattle.desk_arguments.specs.Words.{same, is_option, grow, number_of, t
 use records::answer::Limit;
 
 // How lines are shown.
-#[derive(Drop)]
+#[derive(Clone, Copy)]
 pub struct Style {
     // every byte that is not ASCII as `\xHH`
     pub ascii: bool,
@@ -18,7 +20,7 @@ pub struct Style {
 }
 
 // What the next word is.
-#[derive(Drop)]
+#[derive(Clone, Copy)]
 pub enum Awaited {
     Nothing,
     Limit,
@@ -26,7 +28,7 @@ pub enum Awaited {
     Payload,
 }
 
-#[derive(Drop)]
+#[derive(Clone, Copy)]
 pub struct Asked {
     // which word names the file; 0 for standard input
     pub file: usize,
@@ -44,7 +46,7 @@ pub struct Asked {
 }
 
 // What a word says that no other waits for.
-#[derive(Drop)]
+#[derive(Clone, Copy)]
 enum Said {
     Limit,
     Topic,
@@ -57,7 +59,7 @@ enum Said {
     Name,
 }
 
-#[derive(Drop)]
+#[derive(Clone, Copy)]
 enum Parsed {
     Value(usize),
     Bad,

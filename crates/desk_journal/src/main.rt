@@ -1,108 +1,117 @@
 // Shows a journal of P11: desk_journal FILE [FILE]. A line for each block, good or not, with its number, and below it the identifiers that wait
 // and for what; at the end what a recovery takes. What is said of a block is `look` of crates/journal, what is taken `recover`.
+#![tactic(auto)]
+
 use inflight::{InFlight, code};
 use journal::{Found, look, recover};
+use std::io::{Print, Stdout};
 
-fn say(s: &[u8]) {
-    io::write_all(libc::STDOUT_FILENO, s);
+// What standard output does not take is lost.
+fn say(to: Stdout, s: &[u8]) {
+    let _ = Print::write_all(&to, s);
 }
 
-fn number(n: u64) {
-    io::print_decimal(libc::STDOUT_FILENO, n);
+fn number(to: Stdout, n: u64) {
+    let _ = to.print(n);
 }
 
-fn state(x: u8) {
+fn state(to: Stdout, x: u8) {
     if x == 1 {
-        say(b" PubAck");
+        say(to, b" PubAck");
     }
     if x == 2 {
-        say(b" PubRec");
+        say(to, b" PubRec");
     }
     if x == 3 {
-        say(b" PubComp");
+        say(to, b" PubComp");
     }
 }
 
 // An identifier that waits.
-fn identifier(id: u16, x: u8) {
+fn identifier(to: Stdout, id: u16, x: u8) {
     if x != 0 {
-        say(b" ");
-        number(id as u64);
-        state(x);
+        say(to, b" ");
+        number(to, id as u64);
+        state(to, x);
     }
 }
 
 // What waits, in one line.
-fn waits(table: InFlight) {
+fn waits(to: Stdout, table: InFlight) {
     let mut id: u16 = 1;
     while id <= 1024 {
         let w = table.waits_for(id);
-        identifier(id, code(w));
+        identifier(to, id, code(w));
         id += 1;
     }
-    say(b"\n");
+    say(to, b"\n");
 }
 
 // `empty` is said where there is no table.
-fn found(f: Found, table: InFlight, empty: &[u8]) {
+fn found(to: Stdout, f: Found, table: InFlight, empty: &[u8]) {
     match f {
         Found::Number(n) => {
-            say(b"number ");
-            number(n);
-            say(b" waiting ");
-            number(table.waiting() as u64);
-            waits(table);
+            say(to, b"number ");
+            number(to, n);
+            say(to, b" waiting ");
+            number(to, table.waiting() as u64);
+            waits(to, table);
         }
-        Found::BadArea => say(b"32 BadArea\n"),
-        Found::JournalEmpty => say(empty),
+        Found::BadArea => say(to, b"32 BadArea\n"),
+        Found::JournalEmpty => say(to, empty),
     }
 }
 
-fn one(area: &[u8], i: usize) {
-    say(b"block ");
-    number(i as u64);
-    say(b": ");
+fn one(to: Stdout, area: &[u8], i: usize) {
+    say(to, b"block ");
+    number(to, i as u64);
+    say(to, b": ");
     let r = look(area, i);
     let f = r.found;
     let table = r.table;
-    found(f, table, b"not good\n");
+    found(to, f, table, b"not good\n");
 }
 
-fn show(area: &[u8]) {
+fn show(to: Stdout, area: &[u8]) {
     let mut i: usize = 0;
     while i < area.len() / 512 {
-        one(area, i);
+        one(to, area, i);
         i += 1;
     }
-    say(b"recovered: ");
+    say(to, b"recovered: ");
     let r = recover(area);
     let f = r.found;
     let table = r.table;
-    found(f, table, b"33 JournalEmpty\n");
+    found(to, f, table, b"33 JournalEmpty\n");
 }
 
-fn file(name: &[u8]) {
-    let fd = os::open_read(name);
-    if fd < 0 {
-        os::fail(name);
-        return;
+// The file's first 65,536 bytes.
+fn file(rt: HostRuntime, name: &[u8]) {
+    match outside::open(&rt, name) {
+        Err(e) => outside::fail(rt.stderr(), name, outside::number_of(e)),
+        Ok(mut file) => {
+            let mut area = area_buffer();
+            let n = outside::read_full(&mut file, &mut area);
+            show(rt.stdout(), &area[..n]);
+        }
     }
-    let mut area = io::large_buffer();
-    let n = io::read_full(fd, &mut area);
-    libc::close(fd);
-    show(&area[..n]);
+}
+
+// 64 KiB
+fn area_buffer() -> [u8; 65536] {
+    [0; 65536]
 }
 
 // The file that is named by word i, if there is one.
-fn named(i: usize) {
-    if i < os::arg_count() {
-        let mut path = io::buffer();
-        let n = os::arg(i, &mut path);
-        file(&path[..n]);
+fn named(rt: HostRuntime, i: usize) {
+    if i < outside::word_count(&rt) {
+        let mut path = outside::word_buffer();
+        let n = outside::word(&rt, i, &mut path).unwrap_or(0);
+        file(rt, &path[..n]);
     }
 }
 
-fn main() {
-    named(1);
-    named(2);
+fn main(rt: HostRuntime) {
+    named(rt, 1);
+    named(rt, 2);
 }

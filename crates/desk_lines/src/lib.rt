@@ -1,5 +1,7 @@
 // The lines of `desk` that are names and numbers alone, put at the front of a lent output: those of a refusal and of a frame that is too
 // long here, that of what was read in `desk_summary`. docs/DESK.md has the format. What would lie past the end of the output is not stored.
+#![tactic(auto)]
+
 ghost use Rattle.std.specs.Prelude.{◌++◌, ◌+◌, ◌≤◌, length};
 ghost use Rattle.records.specs.AsNumbers.{told_values};
 ghost use Rattle.records.specs.Ascii.{codes_of};

@@ -19,7 +19,7 @@ decimal_in (suc bound) n = cond (ltb n 10) ((48 + n) ∷ []) (decimal_in bound (
 abbrev pub decimal_of : ℕ → List ℕ
 decimal_of n = decimal_in n n
 
--- ``"`` and `\` have a `\` before them
+-- `"` and `\` have a `\` before them
 abbrev pub is_marked : ℕ → Bool
 is_marked b = eqb b 34 || eqb b 92
 

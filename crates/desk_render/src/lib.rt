@@ -1,5 +1,7 @@
 // Bytes and numbers as people read them, put into a lent output: decimal, two hexadecimal digits, and bytes as they stand between double
 // quotes. What would lie past the end of the output is not stored.
+#![tactic(auto)]
+
 ghost use Rattle.std.specs.Prelude.{◌≡◌, ◌∷◌, [], ◌+◌, ◌-◌, ◌%◌, ◌≤◌, length};
 ghost use Rattle.std.proofs.lemmas.List.Edits.{sets};
 ghost use Rattle.desk_render.specs.Shown.{decimal_of, hex_digit, hex_of, shown_of, shown_size, Shows};
@@ -7,7 +9,7 @@ ghost use Rattle.desk_render.specs.Shown.{decimal_of, hex_digit, hex_of, shown_o
 use write_bytes::put_bytes;
 
 // How many bytes of the source are shown, and how many bytes they take in the output.
-#[derive(Drop)]
+#[derive(Clone, Copy)]
 pub struct Shown {
     pub taken: usize,
     pub put: usize,

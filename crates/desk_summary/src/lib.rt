@@ -1,4 +1,6 @@
 // What was read: a count for each refusal at its number, for each kind behind them, and for all refusals; and the line that tells them.
+#![tactic(auto)]
+
 ghost use Rattle.std.specs.Prelude.{◌≡◌, ◌+◌, ◌≤◌, ◌++◌, length, replicate, slice_index};
 ghost use Rattle.records.specs.Ascii.{codes_of};
 ghost use Rattle.kinds.specs.Kinds.{word_of};

@@ -59,7 +59,7 @@ module _ {o o' : List ℕ} {at n : ℕ} (text : Bool) (s : List ℕ) (i : ℕ) w
   unfolding piece_of
   piece_shown e w = rw (sym e) w
 
--- the bytes behind ``"``, up to `~`, but for `\`
+-- the bytes behind `"`, up to `~`, but for `\`
 pub plain_shown : (b : ℕ) → 35 ≤ b → (b ≡ 92 → ⊥) → b ≤ 126 → shown_of b ≡ b ∷ []
 plain_shown b l m h = form_plain b (size_plain b (λ e. omega arith) m (omega arith) h)
 

@@ -1,5 +1,7 @@
 // Text between quotes, put into a lent output: the bytes of UTF-8 stand as they are, but for controls and what turns the direction of text,
 // and every other byte as `desk_render` shows it. What would lie past the end of the output is not stored.
+#![tactic(auto)]
+
 ghost use Rattle.std.specs.Prelude.{◌≡◌, true, ◌∷◌, [], ◌+◌, ◌-◌, ◌≤◌, ◌<◌, length, get_or};
 ghost use Rattle.grammar.specs.Text.{in_range};
 ghost use Rattle.desk_text.specs.Text.{is_control, is_turning, control_at, turning_at, hidden, seen, stands, piece_of, ShowsText};

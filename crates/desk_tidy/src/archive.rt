@@ -1,8 +1,10 @@
 // The stream, frame by frame: what is held of it in the buffer is tidied into the output behind what waits there, and more is read where a
 // frame is unfinished. A full output is written to standard output.
 use crate::tell;
+use outside::Source;
 use records::error::Error;
 use records::span::Span;
+use std::io::{Print, Stderr};
 use tidying::{Tidied, tidy};
 use wire::string;
 use write_bytes::put_bytes;
@@ -23,7 +25,7 @@ const LOST: u8 = 5;
 // It is room in the output that is wanted.
 const ROOM: usize = 18446744073709551615;
 
-#[derive(Drop)]
+#[derive(Clone, Copy)]
 struct Archive {
     // what is held of the stream, in the buffer
     start: usize,
@@ -37,6 +39,8 @@ struct Archive {
     // frames that were refused
     refused: u64,
     state: u8,
+    // the system's number of why it was not read or written to its end
+    failed: i32,
 }
 
 // 1 MiB
@@ -64,12 +68,12 @@ fn tidied(mut d: Archive, size: usize, taken: usize) -> Archive {
 }
 
 // A refusal; that of no byte at all is the end of the stream.
-fn refused(mut d: Archive, e: Error, taken: usize) -> Archive {
+fn refused(rt: HostRuntime, mut d: Archive, e: Error, taken: usize) -> Archive {
     if d.len == 0 {
         d.state = DONE;
         return d;
     }
-    tell::refused(d.offset, e, taken);
+    tell::refused(rt.stderr(), d.offset, e, taken);
     d.refused = add(d.refused, 1);
     if taken == 0 {
         d.state = STOPPED;
@@ -99,18 +103,18 @@ fn or_room(waits: usize, e: Error, lacks: usize) -> usize {
     lacks
 }
 
-fn not_put(mut d: Archive, e: Error, taken: usize) -> Archive {
+fn not_put(rt: HostRuntime, mut d: Archive, e: Error, taken: usize) -> Archive {
     d.wants = or_room(d.waits, e, lacking(d.state, e));
     if d.wants == 0 {
-        return refused(d, e, taken);
+        return refused(rt, d, e, taken);
     }
     d
 }
 
-fn judged(d: Archive, t: Tidied) -> Archive {
+fn judged(rt: HostRuntime, d: Archive, t: Tidied) -> Archive {
     match t {
         Tidied::Put(size, taken) => tidied(d, size, taken),
-        Tidied::Refused(e, taken) => not_put(d, e, taken),
+        Tidied::Refused(e, taken) => not_put(rt, d, e, taken),
     }
 }
 
@@ -122,19 +126,27 @@ fn tidy_at(s: &[u8], out: &mut [u8], at: usize) -> Tidied {
     tidy(s, &mut out[at..])
 }
 
-fn frame(buf: &[u8], out: &mut [u8], d: Archive) -> Archive {
+fn frame(rt: HostRuntime, buf: &[u8], out: &mut [u8], d: Archive) -> Archive {
     let held = Span {
         start: d.start,
         len: d.len,
     };
     let t = tidy_at(string::part(buf, held), &mut *out, d.waits);
-    judged(d, t)
+    judged(rt, d, t)
 }
 
 // ---- input and output
 
+// What waited could not be written.
+fn lost(mut d: Archive, number: i32) -> Archive {
+    d.state = LOST;
+    d.failed = number;
+    d.wants = 0;
+    d
+}
+
 // Writes what waits.
-fn written(out: &[u8], mut d: Archive) -> Archive {
+fn written(rt: HostRuntime, out: &[u8], mut d: Archive) -> Archive {
     let waits = Span {
         start: 0,
         len: d.waits,
@@ -143,19 +155,18 @@ fn written(out: &[u8], mut d: Archive) -> Archive {
     if d.wants == ROOM {
         d.wants = 0;
     }
-    if !io::write_all(libc::STDOUT_FILENO, string::part(out, waits)) {
-        d.state = LOST;
-        d.wants = 0;
+    match Print::write_all(&rt.stdout(), string::part(out, waits)) {
+        Ok(()) => d,
+        Err(e) => lost(d, outside::number_of(e)),
     }
-    d
 }
 
 // The same where something is wanted: an archive does not wait for input.
-fn ready(out: &[u8], d: Archive) -> Archive {
+fn ready(rt: HostRuntime, out: &[u8], d: Archive) -> Archive {
     if d.wants == 0 {
         return d;
     }
-    written(out, d)
+    written(rt, out, d)
 }
 
 // The part at a place to the front of another slice.
@@ -171,55 +182,63 @@ fn to_front(buf: &mut [u8], out: &mut [u8], mut d: Archive) -> Archive {
     d
 }
 
-// A read gave n bytes more.
-fn filled(mut d: Archive, got: isize, n: usize) -> Archive {
+// A read gave n bytes more; none where the input has ended.
+fn filled(mut d: Archive, n: usize) -> Archive {
     d.len = std::num::wrapping_add_usize(d.len, n);
     d.wants = 0;
-    if got == 0 {
+    if n == 0 {
         d.state = ENDED;
-    }
-    if got < 0 {
-        d.state = UNREADABLE;
     }
     d
 }
 
-fn too_long(mut d: Archive) -> Archive {
-    tell::too_long(d.offset, add(d.len as u64, d.wants), 1048576);
+// The input could not be read.
+fn unreadable(mut d: Archive, number: i32) -> Archive {
+    d.wants = 0;
+    d.state = UNREADABLE;
+    d.failed = number;
+    d
+}
+
+fn too_long(rt: HostRuntime, mut d: Archive) -> Archive {
+    tell::too_long(rt.stderr(), d.offset, add(d.len as u64, d.wants), 1048576);
     d.state = STOPPED;
     d
 }
 
 // Reads once behind what is held, which stands at the front.
-fn fill(buf: &mut [u8], d: Archive) -> Archive {
+fn fill(rt: HostRuntime, buf: &mut [u8], d: Archive) -> Archive {
     let from = d.len;
     if buf.len() <= from {
-        return too_long(d);
+        return too_long(rt, d);
     }
-    let got = libc::read(libc::STDIN_FILENO, &mut buf[from..]);
-    filled(d, got, io::count(got, &*buf))
+    let mut input = Source::Standard(rt.stdin());
+    match outside::read(&mut input, &mut buf[from..]) {
+        Ok(n) => filled(d, n),
+        Err(e) => unreadable(d, outside::number_of(e)),
+    }
 }
 
 // More of the stream, if more is wanted; then nothing waits in the output.
-fn more(buf: &mut [u8], out: &mut [u8], d: Archive) -> Archive {
+fn more(rt: HostRuntime, buf: &mut [u8], out: &mut [u8], d: Archive) -> Archive {
     if d.wants == 0 {
         return d;
     }
     let front = to_front(&mut *buf, &mut *out, d);
-    fill(&mut *buf, front)
+    fill(rt, &mut *buf, front)
 }
 
 // ---- the stream
 
 // One frame, or one write, or one read with a write before it.
-fn turn(buf: &mut [u8], out: &mut [u8], d: Archive) -> Archive {
-    let next = frame(&*buf, &mut *out, d);
-    let w = ready(&*out, next);
-    more(&mut *buf, &mut *out, w)
+fn turn(rt: HostRuntime, buf: &mut [u8], out: &mut [u8], d: Archive) -> Archive {
+    let next = frame(rt, &*buf, &mut *out, d);
+    let w = ready(rt, &*out, next);
+    more(rt, &mut *buf, &mut *out, w)
 }
 
 // A proved loop has to end, and nothing says that a stream does. So the loop counts its turns down, from a number that no run uses up.
-fn read_all(buf: &mut [u8], out: &mut [u8]) -> Archive {
+fn read_all(rt: HostRuntime, buf: &mut [u8], out: &mut [u8]) -> Archive {
     let mut d = Archive {
         start: 0,
         len: 0,
@@ -228,10 +247,11 @@ fn read_all(buf: &mut [u8], out: &mut [u8]) -> Archive {
         offset: 0,
         refused: 0,
         state: GOING,
+        failed: 0,
     };
     let mut turns: u64 = 18446744073709551615;
     while 0 < turns {
-        d = turn(&mut *buf, &mut *out, d);
+        d = turn(rt, &mut *buf, &mut *out, d);
         if ENDED < d.state {
             return d;
         }
@@ -241,29 +261,29 @@ fn read_all(buf: &mut [u8], out: &mut [u8]) -> Archive {
 }
 
 // Why it was not read or written to its end, where that is so.
-fn explain(state: u8) {
+fn explain(to: Stderr, state: u8, number: i32) {
     if state == LOST {
-        tell::fail(b"standard output");
+        tell::fail(to, b"standard output", number);
     }
     if state == UNREADABLE {
-        tell::fail(b"standard input");
+        tell::fail(to, b"standard input", number);
     }
 }
 
 // What came of the stream; gives the exit status.
-fn told(d: Archive) -> u8 {
-    explain(d.state);
-    tell::summary(d.refused, d.offset);
+fn told(to: Stderr, d: Archive) -> u8 {
+    explain(to, d.state, d.failed);
+    tell::summary(to, d.refused, d.offset);
     if d.state != DONE || 0 < d.refused {
-        tell::not_whole();
+        tell::not_whole(to);
     }
     (d.state != DONE) as u8
 }
 
 // Reads the stream to its end, or to where it stops; gives the exit status.
-pub fn read() -> u8 {
+pub fn read(rt: HostRuntime) -> u8 {
     let mut buf = buffer();
     let mut out = buffer();
-    let d = read_all(&mut buf, &mut out);
-    told(written(&out, d))
+    let d = read_all(rt, &mut buf, &mut out);
+    told(rt.stderr(), written(rt, &out, d))
 }

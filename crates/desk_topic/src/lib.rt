@@ -1,4 +1,6 @@
 // What `desk` does by topic: the aliases of a stream are learnt, and `--topic FILTER` shows the Publish frames that match it alone.
+#![tactic(auto)]
+
 ghost use Rattle.std.specs.Prelude.{◌≡◌};
 ghost use Rattle.records.specs.AsNumbers.{told_span};
 ghost use Rattle.alias.specs.Alias.{in_force};

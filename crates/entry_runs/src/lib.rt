@@ -1,5 +1,7 @@
 // The n-th reason of a SubAck or UnsubAck, and the n-th topic of an Unsubscribe, after suback.rs, unsuback.rs and unsubscribe.rs: as the
 // n-th filter of a run is found.
+#![tactic(auto)]
+
 ghost use Rattle.std.specs.Prelude.{◌≡◌, length, drop};
 ghost use Rattle.grammar.specs.Tables.{reasons_of};
 ghost use Rattle.reading.specs.Read.{reason_of, text_of};

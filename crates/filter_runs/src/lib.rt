@@ -1,4 +1,6 @@
 // Filters, after `Subscribe::read` of subscribe.rs: a run of them to the end of the slice, and the n-th of a run.
+#![tactic(auto)]
+
 ghost use Rattle.std.specs.Prelude.{◌≡◌, length, drop};
 ghost use Rattle.records.specs.Answered.{told_filter_item};
 ghost use Rattle.reading.specs.Read.{filter_of};
@@ -15,7 +17,7 @@ use records::subscribe_record::Filter;
 use wire::string;
 
 // Where a run of filters stands.
-#[derive(Drop)]
+#[derive(Clone, Copy)]
 pub enum GotFilters {
     Place(Span),
     Refused(Error),

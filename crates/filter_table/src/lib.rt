@@ -1,5 +1,7 @@
 // A Subscribe's filters in a table that the caller lends. The borrow checker covers no function over a slice of structs, so `put_entries`
 // and `fill_filters` are proved by hand; `entry_at` and `plan_of` do the work.
+#![tactic(auto)]
+
 ghost use Rattle.std.specs.Prelude.{◌≡◌, ◌≤◌, length};
 ghost use Rattle.records.specs.AsNumbers.{told_span};
 ghost use Rattle.records.specs.Said.{told_filter};
@@ -16,7 +18,7 @@ use records::subscribe_record::Filter;
 use wire::string;
 
 // A filter: where its text stands, and its options with bits 6 and 7 clear.
-#[derive(Drop)]
+#[derive(Clone, Copy)]
 pub struct FilterEntry {
     pub start: usize,
     pub len: usize,
@@ -24,7 +26,7 @@ pub struct FilterEntry {
 }
 
 // How many entries were filled, or why none was.
-#[derive(Drop)]
+#[derive(Clone, Copy)]
 pub enum FilterTable {
     Filled(usize),
     // 37: how many places are needed
@@ -36,14 +38,14 @@ pub enum FilterTable {
 }
 
 // An entry, and the index after it.
-#[derive(Drop)]
+#[derive(Clone, Copy)]
 pub struct NextEntry {
     pub entry: FilterEntry,
     pub next: usize,
 }
 
 // The answer, and where the entries are read that are filled in.
-#[derive(Drop)]
+#[derive(Clone, Copy)]
 pub struct Plan {
     pub answer: FilterTable,
     pub at: usize,

@@ -1,4 +1,6 @@
 // One filter, after `Filter::read` of subscribe.rs. The end of the slice is the end of its room.
+#![tactic(auto)]
+
 ghost use Rattle.std.specs.Prelude.{◌≡◌, length, ◌&&◌};
 ghost use Rattle.reading.specs.Read.{filter_of};
 ghost use Rattle.reading.specs.Place.{as_places};
@@ -19,7 +21,7 @@ use wire::got::GotSpan;
 use wire::string;
 
 // A filter and the index after it.
-#[derive(Drop)]
+#[derive(Clone, Copy)]
 pub enum GotFilter {
     Value(Filter, usize),
     Refused(Error),

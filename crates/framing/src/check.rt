@@ -11,7 +11,7 @@ use records::error::Error;
 use var_length;
 use var_length::GotLength;
 
-#[derive(Drop)]
+#[derive(Clone, Copy)]
 pub enum Checked {
     Header(FixedHeader),
     Refused(Error),

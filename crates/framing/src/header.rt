@@ -5,7 +5,7 @@ ghost use Rattle.kinds.specs.Kinds.{told_kind, kind_row};
 
 use kinds::{Kind, kind_of};
 
-#[derive(Drop)]
+#[derive(Clone, Copy)]
 pub struct FixedHeader {
     // kind in the high four bits, flags in the low
     pub byte1: u8,

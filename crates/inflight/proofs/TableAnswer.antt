@@ -5,7 +5,7 @@ use mathlib.Core.Bool.{cond}
 use mathlib.Core.List.{List, [], ◌∷◌, map}
 use Prim.Native.Nat.{ℕ, zero, suc}
 use lib.Dec.{eqb}
-use Rattle.reading.specs.Refusal.{Refusal, nr}
+use Rattle.reading.specs.Refusal.{nr}
 use Rattle.records.proofs.Laws.{injective_by}
 use Rattle.inflight.specs.Rules.{Says, granted, freed, moved, refused, Left}
 use Rattle.inflight.specs.TableAnswer.{code_of, place_code, waits_of, claim_of, answer_of, after_claim, after_answer}

@@ -12,7 +12,7 @@ use borrow.Author.Tests.{eq-eqb, ne_eqb, eqb-true, eqb-false, ltb-true, ltb-fals
 use lib.Dec.{eqb, ltb}
 use lib.ListN.{length, get_or, set, replicate, length-set, get_or-eq_default}
 use lib.Seq.{get_or-set_same, get_or-set_other, set_comm, ext_get_or}
-use Rattle.reading.specs.Refusal.{Refusal, nr}
+use Rattle.reading.specs.Refusal.{Refusal}
 use Rattle.inflight.proofs.Laws.{pubrec_on, pubrec_off}
 use Rattle.inflight.specs.Rules.{limit, free, puback, pubrec, pubcomp, Says, granted, in_flight_full, no_claim, freed, moved, refused, not_waiting, Left, left, first_free, claim_for, claimed, wait_of, put, became_of, settled, after_pub_rec, one_if_waits, waiting, Call, claim, pub_ack, pub_rec, pub_comp, other, call, run, one_if_granted, one_if_freed, tally, IsAnswer, acked, received, completed, unasked, Smallest, NoneFree, Due, Became, said, Answers, identifier_of, only}
 

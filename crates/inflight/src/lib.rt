@@ -1,5 +1,7 @@
 // The client's record of outgoing messages that await an answer (P4 of 02). A call takes the table and hands back the one that it
 // leaves behind, with its answer. Refusals are 29 to 31.
+#![tactic(auto)]
+
 ghost use Rattle.std.specs.Prelude.{◌≡◌, min, replicate};
 ghost use Rattle.inflight.specs.Rules.{limit, free, first_free, claim_for, claimed, wait_of, put, settled, became_of, one_if_waits, waiting, call, pub_ack, pub_rec, pub_comp, answer_by};
 ghost use Rattle.inflight.specs.TableAnswer.{code_of, waits_of, answer_of, after_claim, after_answer};
@@ -12,7 +14,7 @@ use records::qos::QoS;
 pub const LIMIT: usize = 1024;
 
 // What the place of an identifier waits for.
-#[derive(Drop)]
+#[derive(Clone, Copy)]
 pub enum Wait {
     Free,
     PubAck,
@@ -20,18 +22,18 @@ pub enum Wait {
     PubComp,
 }
 
-#[derive(Drop)]
+#[derive(Clone, Copy)]
 pub struct Place {
     pub wait: Wait,
 }
 
 // The place of identifier n is at n - 1.
-#[derive(Drop)]
+#[derive(Clone, Copy)]
 pub struct InFlight {
     pub places: [Place; LIMIT],
 }
 
-#[derive(Drop)]
+#[derive(Clone, Copy)]
 pub enum Claim {
     // the identifier that was free and now waits
     Granted(u16),
@@ -41,13 +43,13 @@ pub enum Claim {
     NoClaim,
 }
 
-#[derive(Drop)]
+#[derive(Clone, Copy)]
 pub struct Claimed {
     pub table: InFlight,
     pub claim: Claim,
 }
 
-#[derive(Drop)]
+#[derive(Clone, Copy)]
 pub enum Answer {
     // the identifier is free again
     Freed,
@@ -57,7 +59,7 @@ pub enum Answer {
     NotWaiting,
 }
 
-#[derive(Drop)]
+#[derive(Clone, Copy)]
 pub struct Answered {
     pub table: InFlight,
     pub answer: Answer,

@@ -1,5 +1,7 @@
 // The n-th user property and the n-th subscription identifier of a block: what stands in place of the lists of publish.rs, subscribe.rs and
 // puback.rs. The whole block is read, so that a fault behind the item is seen.
+#![tactic(auto)]
+
 ghost use Rattle.std.specs.Prelude.{◌≡◌, not};
 ghost use Rattle.grammar.specs.Tables.{is_list};
 ghost use Rattle.records.specs.AsNumbers.{told_span};
@@ -13,7 +15,7 @@ use tables::property::PropertyRow;
 use wire::string;
 
 // The search for a value: how many are to be passed before it, or the value.
-#[derive(Drop)]
+#[derive(Clone, Copy)]
 enum Seek {
     Left(usize),
     At(Value),

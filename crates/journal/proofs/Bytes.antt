@@ -1,14 +1,12 @@
 -- Numbers in bytes, and back.
 -- Assumes nothing.
-use mathlib.Core.Path.{◌≡◌, refl, sym, ap, ap₂, ◌∙◌, subst}
-use mathlib.Core.Bool.{Bool, true, false, not, ◌&&◌}
-use mathlib.Core.List.{List, [], ◌∷◌, ◌++◌}
-use Prim.Native.Nat.{ℕ, zero, suc, ◌+◌, ◌*◌, ◌-◌, ◌/◌, ◌%◌, ◌^◌, ◌<◌, ◌≤◌}
+use mathlib.Core.Path.{◌≡◌, refl, sym, ap, ap₂, ◌∙◌}
+use Prim.Native.Nat.{ℕ, zero, suc, ◌+◌, ◌*◌, ◌-◌, ◌/◌, ◌%◌, ◌^◌, ◌<◌}
 use native.Mathlib.Nat.{not-suc-le-zero, mod-lt, zero-lt-suc, mod-eq_of_lt, pow-suc, add-mul, mul_assoc, mul_comm, add_assoc, mod-one}
 use native.Mathlib.Omega.{arith}
 use lib.Arith.{mod-mul}
-use lib.ListN.{length, get_or, take, drop, replicate}
-use Rattle.journal.specs.Block.{each, bytes_of, big_endian_from, big_endian, all_zero}
+use lib.ListN.{length, get_or}
+use Rattle.journal.specs.Block.{each, bytes_of, big_endian_from, big_endian}
 
 pub pow_pos : (k : ℕ) → 0 < 256 ^ k
 pow_pos zero = omega arith

@@ -1,22 +1,22 @@
 -- The walk over the blocks from the last to the first, and what the three calls leave.
 -- Assumes nothing.
 use mathlib.Core.Path.{◌≡◌, refl, sym, ap, ap₂, ◌∙◌, subst}
-use mathlib.Core.Bool.{Bool, true, false, not, ◌&&◌, cond}
-use mathlib.Core.List.{List, [], ◌∷◌, ◌++◌, append_assoc}
+use mathlib.Core.Bool.{Bool, true, false, ◌&&◌, cond}
+use mathlib.Core.List.{List, ◌++◌, append_assoc}
 use mathlib.Core.Option.{Option, none, some}
-use Prim.Native.Nat.{ℕ, zero, suc, ◌+◌, ◌*◌, ◌-◌, ◌/◌, ◌%◌, ◌^◌, ◌<◌, ◌≤◌}
+use Prim.Native.Nat.{ℕ, suc, ◌+◌, ◌*◌, ◌-◌, ◌/◌, ◌%◌, ◌^◌, ◌<◌, ◌≤◌}
 use native.Mathlib.Omega.{arith}
 use native.Mathlib.Nat.{mod-lt}
-use borrow.Author.Tests.{eq-eqb, ne_eqb, le-leb, lt-leb, le-ltb, lt-ltb, eqb-true, leb-true}
+use borrow.Author.Tests.{ne_eqb, le-leb, lt-leb, le-ltb, lt-ltb, eqb-true, leb-true}
 use lib.Dec.{eqb, leb}
-use lib.ListN.{length, get_or, take, drop, replicate}
+use lib.ListN.{length, take, drop, replicate}
 use lib.Seq.{sets, sets-eq, drop-drop}
 use Rattle.inflight.specs.Rules.{limit, free}
 use Rattle.inflight.specs.TableAnswer.{waits_of}
 use Rattle.inflight.specs.declared.InFlight.{InFlight}
 use Rattle.journal.specs.declared.Found.{Found}
 use Rattle.journal.specs.Block.{good, number_of, table_in, block_of}
-use Rattle.journal.specs.Area.{whole, blocks, count_of, newer, latest, latest_in, highest, stored, Says, journal_empty, journal_ended, bad_area, recovered, started, saved, recover, recovered_from, save, save_after, start, left, look, look_at}
+use Rattle.journal.specs.Area.{whole, blocks, count_of, newer, latest, latest_in, highest, stored, journal_empty, journal_ended, bad_area, recovered, started, saved, recover, recovered_from, save, save_after, start, left, look, look_at}
 use Rattle.journal.specs.JournalAnswer.{Finds, BlockAt, Recovers, Looks}
 use Rattle.journal.proofs.Good.{length_block}
 use Rattle.journal.proofs.Limits.{number_not_zero}

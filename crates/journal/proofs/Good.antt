@@ -1,19 +1,16 @@
 -- The block that a save stores is good, and says the number and the table that were stored.
 -- Assumes nothing.
 use mathlib.Core.Path.{◌≡◌, refl, sym, ap, ap₂, ◌∙◌, subst}
-use mathlib.Core.Bool.{Bool, true, false, not, ◌&&◌}
+use mathlib.Core.Bool.{true}
 use mathlib.Core.List.{List, [], ◌∷◌, ◌++◌, append_assoc, append-nil}
 use Prim.Native.Nat.{ℕ, zero, suc, ◌+◌, ◌*◌, ◌-◌, ◌/◌, ◌%◌, ◌^◌, ◌<◌, ◌≤◌}
-use native.Mathlib.Nat.{not-suc-le-zero, mod-lt, zero-lt-suc}
 use native.Mathlib.Omega.{arith}
 use borrow.Author.Tests.{eq-eqb, ne_eqb}
-use lib.Dec.{eqb, leb, leb→le}
 use lib.ListN.{length, get_or, take, drop, replicate, length-append, length-replicate, replicate-append-replicate, drop_of_length-le, get_or-append, get_or-eq_default}
 use lib.Seq.{sets, sets-eq, take_at, drop_at, drop-append-add, get_or-append-add, ext_get_or}
 use Rattle.crc32.specs.Crc.{crc_of}
 use Rattle.crc32.proofs.Laws.{crc_lt}
-use Rattle.journal.specs.Block.{each, bytes_of, big_endian_from, big_endian, all_zero, packed_at, body_of, block_of, number_of, wait_in, table_in, good}
-use Rattle.journal.specs.History.{Table}
+use Rattle.journal.specs.Block.{each, bytes_of, all_zero, packed_at, body_of, block_of, number_of, wait_in, table_in, good}
 use Rattle.journal.proofs.Bytes.{length_bytes_of, bytes_of_small, big_endian_bytes_of, length_each, get_d_each}
 use Rattle.journal.proofs.Limits.{each_add}
 

@@ -2,16 +2,15 @@
 -- Assumes nothing.
 use mathlib.Core.Path.{◌≡◌, refl, sym, ap, ap₂, ◌∙◌}
 use mathlib.Core.Bool.{cond}
-use mathlib.Core.List.{List, []}
+use mathlib.Core.List.{List}
 use Prim.Native.Nat.{ℕ}
-use native.Mathlib.Omega.{arith}
 use lib.Dec.{eqb}
-use Rattle.reading.specs.Refusal.{Refusal, nr}
+use Rattle.reading.specs.Refusal.{nr}
 use Rattle.records.proofs.Laws.{injective_by}
 use Rattle.inflight.specs.TableAnswer.{waits_of}
 use Rattle.inflight.specs.declared.InFlight.{InFlight}
 use Rattle.inflight.proofs.TableAnswer.{table_same}
-use Rattle.journal.specs.Area.{Says, started, saved, recovered, refused, recover, look}
+use Rattle.journal.specs.Area.{Says, started, saved, recovered, refused}
 use Rattle.journal.specs.JournalAnswer.{start_of, save_of, found_of, FreshUnless, Recovers, Looks}
 use Rattle.journal.specs.declared.Started.{Started}
 use Rattle.journal.specs.declared.Saved.{Saved}

@@ -1,20 +1,19 @@
 -- What holds of an area that was started and that only saves wrote to: each good block stands where its number goes.
 -- Assumes nothing.
-use mathlib.Core.Path.{◌≡◌, refl, sym, ap, ap₂, ◌∙◌, subst}
-use mathlib.Core.Logic.{◌⊎◌, inl, inr}
+use mathlib.Core.Path.{◌≡◌, refl, sym, ap, ◌∙◌, subst}
 use mathlib.Core.Bool.{Bool, true, false}
-use mathlib.Core.List.{List, [], ◌∷◌, ◌++◌}
+use mathlib.Core.List.{List, [], ◌++◌}
 use mathlib.Core.Option.{Option, none, some}
-use Prim.Native.Nat.{ℕ, zero, suc, ◌+◌, ◌*◌, ◌-◌, ◌/◌, ◌%◌, ◌^◌, ◌<◌, ◌≤◌}
+use Prim.Native.Nat.{ℕ, zero, suc, ◌+◌, ◌*◌, ◌-◌, ◌%◌, ◌^◌, ◌<◌, ◌≤◌}
 use native.Mathlib.Nat.{not-suc-le-zero, mod-lt}
 use native.Mathlib.Omega.{arith}
 use borrow.Author.Tests.{eqb-true, eqb-false}
 use lib.Arith.{lt_of_le-ne}
 use lib.Dec.{eqb}
-use lib.ListN.{length, get_or, take, drop, set, replicate, length-set, length-replicate, replicate-append-replicate}
+use lib.ListN.{length, get_or, take, drop, set, replicate, length-replicate, replicate-append-replicate}
 use lib.Seq.{sets, get_or-set_other, take_at, drop_at}
-use Rattle.journal.specs.Block.{good, number_of, big_endian_from, block_of}
-use Rattle.journal.specs.Area.{blocks, count_of, latest, latest_in, highest, place_of, stored}
+use Rattle.journal.specs.Block.{good, number_of, big_endian_from}
+use Rattle.journal.specs.Area.{blocks, latest, latest_in, highest, place_of, stored}
 use Rattle.journal.specs.History.{next}
 use Rattle.journal.proofs.Latest.{Found, found, nothing, none_good, lead}
 use Rattle.journal.proofs.Limits.{number_not_zero, zero_not_good}

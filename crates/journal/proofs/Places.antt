@@ -1,13 +1,13 @@
 -- The blocks of an area in which one block is stored, and where the next number goes.
 -- Assumes nothing.
-use mathlib.Core.Path.{◌≡◌, refl, sym, ap, ap₂, ◌∙◌, subst}
+use mathlib.Core.Path.{◌≡◌, refl, ap, ap₂, ◌∙◌}
 use mathlib.Core.List.{List, [], ◌∷◌, ◌++◌}
 use Prim.Native.Nat.{ℕ, zero, suc, ◌+◌, ◌*◌, ◌-◌, ◌/◌, ◌%◌, ◌<◌, ◌≤◌}
 use mathlib.Core.Logic.{◌⊎◌, inl, inr}
 use native.Mathlib.Nat.{not-suc-le-zero, mod-lt, div-add-mod', add-mul, eq-or-lt_of_le}
 use native.Mathlib.Omega.{arith}
 use lib.Arith.{digits_mod}
-use lib.ListN.{length, get_or, take, drop, set, replicate, length-drop, length-replicate}
+use lib.ListN.{length, get_or, take, drop, set, length-drop}
 use lib.Seq.{sets, sets-eq, length-sets, take-set-le, drop-set-add, take_at, drop_at}
 use Rattle.journal.specs.Area.{blocks, count_of}
 

@@ -6,12 +6,12 @@ use mathlib.Core.List.{List, [], ◌∷◌, ◌++◌, map}
 use mathlib.Core.Option.{Option}
 use Prim.Native.Nat.{ℕ, zero, suc, ◌+◌, ◌*◌, ◌-◌, ◌^◌, ◌<◌, ◌≤◌}
 use native.Mathlib.Omega.{arith}
-use lib.ListN.{length, get_or, replicate, length-append, length-replicate}
+use lib.ListN.{get_or, replicate, length-append, length-replicate}
 use Rattle.inflight.specs.Rules.{limit, waiting, one_if_waits}
 use Rattle.inflight.proofs.Theorems.{none_waiting}
 use Rattle.crc32.specs.Crc.{crc_of}
 use Rattle.journal.specs.Block.{each, bytes_of, packed_at, body_of, block_of}
-use Rattle.journal.specs.Area.{latest_in, highest, stored, Says, recovered, recover}
+use Rattle.journal.specs.Area.{highest, stored, Says, recovered, recover}
 use Rattle.journal.specs.History.{Table, widened, next, Cut, Lived, Allows, as_it_was, as_it_should_be, not_good, Life}
 use Rattle.journal.proofs.Theorems.{latest_both, cut_recovers, allows_lived, raised_recovers, old_area_recovers}
 
@@ -65,9 +65,12 @@ module _ (l r k : ℕ) (two : 2 ≤ k) (low : l ≤ r) (high : r ≤ 1024) where
   same_stored a t e = ap (λ (n : ℕ). stored a n (block_of n (wide t))) e ∙ ap (stored a (next l a)) (wide_block (next l a) t (r - l))
 
   pub cut_raised : {a b : List ℕ} (t : List ℕ) → next r a ≡ next l a → Cut l r k a t b → Cut r r k a (wide t) b
-  cut_raised t e as_it_was = as_it_was
-  cut_raised {a} t e as_it_should_be = subst (λ (x : List ℕ). Cut r r k a (wide t) x) (same_stored a t e) as_it_should_be
-  cut_raised {a} t e (not_good c q g) = subst (λ (n : ℕ). Cut r r k a (wide t) (stored a n c)) e (not_good c q g)
+  cut_raised {a} t e cut = go t e cut
+    where
+      go : {a : List ℕ} (t : List ℕ) → next r a ≡ next l a → {b : List ℕ} → Cut l r k a t b → Cut r r k a (wide t) b
+      go t e as_it_was = as_it_was
+      go {a} t e as_it_should_be = subst (λ (x : List ℕ). Cut r r k a (wide t) x) (same_stored a t e) as_it_should_be
+      go {a} t e (not_good c q g) = subst (λ (n : ℕ). Cut r r k a (wide t) (stored a n c)) e (not_good c q g)
 
   below : (a : List ℕ) → next r a ≡ next l a → next l a < 2 ^ 64 → next r a < 2 ^ 64
   below a e h = rw e h

@@ -2,29 +2,29 @@
 -- Assumes nothing.
 use mathlib.Core.Path.{◌≡◌, refl, sym, ap, ap₂, ◌∙◌, subst}
 use mathlib.Core.Logic.{◌⊎◌, inl, inr}
-use mathlib.Core.Bool.{Bool, true, false, cond, ◌&&◌}
-use mathlib.Core.List.{List, [], ◌∷◌, ◌++◌, map}
+use mathlib.Core.Bool.{Bool, true, false, cond}
+use mathlib.Core.List.{List, [], ◌∷◌, map}
 use mathlib.Core.Option.{Option, none, some}
 use Prim.Native.Nat.{ℕ, zero, suc, ◌+◌, ◌*◌, ◌-◌, ◌/◌, ◌%◌, ◌^◌, ◌<◌, ◌≤◌}
 use native.Mathlib.Omega.{arith}
-use borrow.Author.Tests.{eq-eqb, ne_eqb, le-leb, eqb-true, eqb-false}
+use borrow.Author.Tests.{eq-eqb, le-leb, eqb-false}
 use lib.Arith.{lt_of_le-ne}
-use lib.Dec.{eqb, leb}
+use lib.Dec.{eqb}
 use lib.ListN.{length, get_or, replicate}
-use Rattle.inflight.specs.Rules.{limit, free, Call, call, waiting, one_if_freed, one_if_granted}
+use Rattle.inflight.specs.Rules.{limit, free, call, waiting, one_if_freed, one_if_granted}
 use Rattle.inflight.specs.TableAnswer.{waits_of, place_code}
 use Rattle.inflight.specs.declared.InFlight.{InFlight}
 use Rattle.inflight.specs.declared.Place.{Place}
 use Rattle.inflight.proofs.Laws.{waits_length}
 use Rattle.inflight.proofs.Theorems.{call_balanced, none_waiting}
 use Rattle.journal.specs.Block.{good, number_of, table_in, block_of}
-use Rattle.journal.specs.Area.{whole, blocks, count_of, newer, latest, latest_in, highest, stored, Says, journal_empty, journal_ended, refused, recovered, started, saved, recover, recovered_from, save, save_after, start, Left, left}
+use Rattle.journal.specs.Area.{whole, blocks, count_of, newer, latest, latest_in, highest, stored, Says, journal_empty, journal_ended, recovered, started, saved, recover, recovered_from, save, save_after, start, left}
 use Rattle.journal.specs.History.{Table, widened, next, Cut, Lived, Allows, In, here, later, as_it_was, as_it_should_be, not_good, Life}
 use Rattle.journal.proofs.Good.{length_block, number_is_lem, block_good, table_is}
-use Rattle.journal.proofs.Kept.{Kept, kept_start, kept_stored, latest_new, latest_old, latest_is, none_at_start, bounded}
+use Rattle.journal.proofs.Kept.{Kept, kept_start, kept_stored, latest_new, latest_old, latest_is, none_at_start}
 use Rattle.journal.proofs.Latest.{found, none_good}
 use Rattle.journal.proofs.Limits.{good_raised, table_raised}
-use Rattle.journal.proofs.Places.{length_blocks, count_is}
+use Rattle.journal.proofs.Places.{length_blocks}
 use Rattle.journal.proofs.Turns.{code_small}
 
 false_true : {A : Type 0} {b : Bool} → b ≡ false → b ≡ true → A
@@ -68,15 +68,15 @@ module _ (l r k : ℕ) (two : 2 ≤ k) (low : l ≤ r) (high : r ≤ 1024) where
   kept_bad a b kept e g =
       kept_stored l r k a b two kept e (λ f. false_true (sym (bad_both b g) ∙ g) f) (bad_both b g)
 
-  kept_cut : (a b t : List ℕ) → Kept l r k a → Table l t → next l a < 2 ^ 64 → Cut l r k a t b → Kept l r k b
-  kept_cut a b t kept f h as_it_was = kept
-  kept_cut a b t kept f h as_it_should_be = kept_new a t kept f h
-  kept_cut a b t kept f h (not_good c e g) = kept_bad a c kept e g
+  kept_cut : (a t b : List ℕ) → Kept l r k a → Table l t → next l a < 2 ^ 64 → Cut l r k a t b → Kept l r k b
+  kept_cut a t b kept f h as_it_was = kept
+  kept_cut a t b kept f h as_it_should_be = kept_new a t kept f h
+  kept_cut a t b kept f h (not_good c e g) = kept_bad a c kept e g
 
   pub lived_kept : {a : List ℕ} → Lived l r k a → Kept l r k a
   lived_kept Lived.started = kept_start l r k
   lived_kept (Lived.saved {a} t v f h) = kept_new a t (lived_kept v) f h
-  lived_kept (Lived.cut {a} {b} t v f h c) = kept_cut a b t (lived_kept v) f h c
+  lived_kept (Lived.cut {a} {b} t v f h c) = kept_cut a t b (lived_kept v) f h c
 
   -- ---- recovery
 
@@ -124,9 +124,13 @@ module _ (l r k : ℕ) (two : 2 ≤ k) (low : l ≤ r) (high : r ≤ 1024) where
   -- "Then recovery gives the table before that save or after it, or JournalEmpty if there was none before."
   pub cut_recovers : {a b : List ℕ} (t : List ℕ) → Lived l r k a → Table l t → next l a < 2 ^ 64 → Cut l r k a t b
       → (recover l b ≡ recover l a) ⊎ (recover l b ≡ recovered (next l a) t)
-  cut_recovers {a} {b} t v f h as_it_was = inl refl
-  cut_recovers {a} {b} t v f h as_it_should_be = inr (recover_new a t (lived_kept v) f h)
-  cut_recovers {a} {b} t v f h (not_good c e g) = inl (recover_old a c (lived_kept v) e g)
+  cut_recovers {a} t v f h cut = go t v f h cut
+    where
+      go : {a : List ℕ} (t : List ℕ) → Lived l r k a → Table l t → next l a < 2 ^ 64 → {b : List ℕ} → Cut l r k a t b
+          → (recover l b ≡ recover l a) ⊎ (recover l b ≡ recovered (next l a) t)
+      go t v f h as_it_was = inl refl
+      go {a} t v f h as_it_should_be = inr (recover_new a t (lived_kept v) f h)
+      go {a} t v f h (not_good c e g) = inl (recover_old a c (lived_kept v) e g)
 
   -- ---- the calls keep the premise
 

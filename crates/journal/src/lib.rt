@@ -1,5 +1,7 @@
 // The table of inflight kept through a power cut, in a lent area of blocks (P11 of 02). Number N goes to block (N - 1) mod the count of
 // blocks, so never onto the latest good block, and a save that was cut uses its number and its block again. Refusals are 32 to 34.
+#![tactic(auto)]
+
 ghost use Rattle.std.specs.Prelude.{◌≡◌, ◌+◌, ◌*◌, ◌-◌, ◌/◌, ◌%◌, ◌^◌, ◌≤◌, ◌<◌, eqb, length, get_or, take, drop, replicate};
 ghost use Rattle.std.proofs.lemmas.List.Edits.{sets};
 ghost use Rattle.crc32.specs.Crc.{crc_of};
@@ -13,7 +15,7 @@ use crc32::crc32 as crc_of;
 use inflight::{InFlight, LIMIT, Place, code, wait_of};
 
 // What starting answers.
-#[derive(Drop)]
+#[derive(Clone, Copy)]
 pub enum Started {
     Zeroed,
     // 32: not two or more whole blocks
@@ -21,7 +23,7 @@ pub enum Started {
 }
 
 // What a save answers: the number, and the block of 512 bytes that changed.
-#[derive(Drop)]
+#[derive(Clone, Copy)]
 pub enum Saved {
     Stored { number: u64, block: usize },
     // 32: not two or more whole blocks
@@ -31,7 +33,7 @@ pub enum Saved {
 }
 
 // The number of the block whose table was taken, or a refusal.
-#[derive(Drop)]
+#[derive(Clone, Copy)]
 pub enum Found {
     Number(u64),
     // 32: not two or more whole blocks
@@ -41,7 +43,7 @@ pub enum Found {
 }
 
 // What recovery answers; a fresh table unless one was found.
-#[derive(Drop)]
+#[derive(Clone, Copy)]
 pub struct Recovered {
     pub found: Found,
     pub table: InFlight,
@@ -312,7 +314,7 @@ fn put_block(out: &mut [u8], number: u64, table: InFlight)
 // ---- the calls
 
 // The highest number of good blocks so far, 0 if there was none, and where that block stands.
-#[derive(Drop)]
+#[derive(Clone, Copy)]
 struct Best {
     number: u64,
     at: usize,

@@ -1,5 +1,7 @@
 // The lines of `desk --json` that are names and numbers alone, put into a lent output from an index on: what every object begins with, the line
 // of a refusal, and that of a frame which is passed over. docs/DESK.md has the fields. What would lie past the end is not stored.
+#![tactic(auto)]
+
 ghost use Rattle.std.specs.Prelude.{◌++◌, ◌∷◌, []};
 ghost use Rattle.records.specs.AsNumbers.{told_values};
 ghost use Rattle.refusal_names.specs.Names.{name_of};

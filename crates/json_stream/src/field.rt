@@ -1,42 +1,44 @@
 // One field of an object: a comma, its name, a colon and its value. The name is lent with what stands around it, the first quote included.
 use crate::output;
 use records::span::{MaybeSpan, MaybeU8, MaybeU16, MaybeU32, Span};
+use std::io::Stdout;
 use wire::string;
 
-pub fn number(out: &mut [u8], at: usize, name: &[u8], n: u64) -> usize {
-    output::number(&mut *out, at, name, n)
+pub fn number(to: Stdout, out: &mut [u8], at: usize, name: &[u8], n: u64) -> usize {
+    output::number(to, &mut *out, at, name, n)
 }
 
-pub fn id(out: &mut [u8], at: usize, pkid: u16) -> usize {
-    number(&mut *out, at, b",\"id\":", pkid as u64)
+pub fn id(to: Stdout, out: &mut [u8], at: usize, pkid: u16) -> usize {
+    number(to, &mut *out, at, b",\"id\":", pkid as u64)
 }
 
-pub fn flag(out: &mut [u8], at: usize, name: &[u8], on: bool) -> usize {
-    let value = output::word(&mut *out, at, name);
+pub fn flag(to: Stdout, out: &mut [u8], at: usize, name: &[u8], on: bool) -> usize {
+    let value = output::word(to, &mut *out, at, name);
     if on {
-        return output::word(&mut *out, value, b"true");
+        return output::word(to, &mut *out, value, b"true");
     }
-    output::word(&mut *out, value, b"false")
+    output::word(to, &mut *out, value, b"false")
 }
 
 // Bytes, as a text or in hexadecimal, and the quote behind them.
-fn bytes(out: &mut [u8], at: usize, name: &[u8], s: &[u8], is_text: bool) -> usize {
-    let value = output::word(&mut *out, at, name);
-    let end = output::quoted(&mut *out, value, s, is_text);
-    output::word(&mut *out, end, b"\"")
+fn bytes(to: Stdout, out: &mut [u8], at: usize, name: &[u8], s: &[u8], is_text: bool) -> usize {
+    let value = output::word(to, &mut *out, at, name);
+    let end = output::quoted(to, &mut *out, value, s, is_text);
+    output::word(to, &mut *out, end, b"\"")
 }
 
 // The text of s at a place.
-pub fn text(out: &mut [u8], at: usize, name: &[u8], s: &[u8], place: Span) -> usize {
-    bytes(&mut *out, at, name, string::part(s, place), true)
+pub fn text(to: Stdout, out: &mut [u8], at: usize, name: &[u8], s: &[u8], place: Span) -> usize {
+    bytes(to, &mut *out, at, name, string::part(s, place), true)
 }
 
-fn hex(out: &mut [u8], at: usize, name: &[u8], s: &[u8], place: Span) -> usize {
-    bytes(&mut *out, at, name, string::part(s, place), false)
+fn hex(to: Stdout, out: &mut [u8], at: usize, name: &[u8], s: &[u8], place: Span) -> usize {
+    bytes(to, &mut *out, at, name, string::part(s, place), false)
 }
 
 // Bytes that may be a text: as one if they are, else in hexadecimal, under another name.
 pub fn text_or_hex(
+    to: Stdout,
     out: &mut [u8],
     at: usize,
     name: &[u8],
@@ -45,43 +47,57 @@ pub fn text_or_hex(
     place: Span,
 ) -> usize {
     if utf8::is_utf8(string::part(s, place)) {
-        return text(&mut *out, at, name, s, place);
+        return text(to, &mut *out, at, name, s, place);
     }
-    hex(&mut *out, at, hex_name, s, place)
+    hex(to, &mut *out, at, hex_name, s, place)
 }
 
 // The fields that may be absent, and are then no field.
-pub fn u8_if(out: &mut [u8], at: usize, name: &[u8], n: MaybeU8) -> usize {
+pub fn u8_if(to: Stdout, out: &mut [u8], at: usize, name: &[u8], n: MaybeU8) -> usize {
     match n {
         MaybeU8::Absent => at,
-        MaybeU8::Present(x) => number(&mut *out, at, name, x as u64),
+        MaybeU8::Present(x) => number(to, &mut *out, at, name, x as u64),
     }
 }
 
-pub fn u16_if(out: &mut [u8], at: usize, name: &[u8], n: MaybeU16) -> usize {
+pub fn u16_if(to: Stdout, out: &mut [u8], at: usize, name: &[u8], n: MaybeU16) -> usize {
     match n {
         MaybeU16::Absent => at,
-        MaybeU16::Present(x) => number(&mut *out, at, name, x as u64),
+        MaybeU16::Present(x) => number(to, &mut *out, at, name, x as u64),
     }
 }
 
-pub fn u32_if(out: &mut [u8], at: usize, name: &[u8], n: MaybeU32) -> usize {
+pub fn u32_if(to: Stdout, out: &mut [u8], at: usize, name: &[u8], n: MaybeU32) -> usize {
     match n {
         MaybeU32::Absent => at,
-        MaybeU32::Present(x) => number(&mut *out, at, name, x as u64),
+        MaybeU32::Present(x) => number(to, &mut *out, at, name, x as u64),
     }
 }
 
-pub fn text_if(out: &mut [u8], at: usize, name: &[u8], s: &[u8], place: MaybeSpan) -> usize {
+pub fn text_if(
+    to: Stdout,
+    out: &mut [u8],
+    at: usize,
+    name: &[u8],
+    s: &[u8],
+    place: MaybeSpan,
+) -> usize {
     match place {
         MaybeSpan::Absent => at,
-        MaybeSpan::Present(p) => text(&mut *out, at, name, s, p),
+        MaybeSpan::Present(p) => text(to, &mut *out, at, name, s, p),
     }
 }
 
-pub fn hex_if(out: &mut [u8], at: usize, name: &[u8], s: &[u8], place: MaybeSpan) -> usize {
+pub fn hex_if(
+    to: Stdout,
+    out: &mut [u8],
+    at: usize,
+    name: &[u8],
+    s: &[u8],
+    place: MaybeSpan,
+) -> usize {
     match place {
         MaybeSpan::Absent => at,
-        MaybeSpan::Present(p) => hex(&mut *out, at, name, s, p),
+        MaybeSpan::Present(p) => hex(to, &mut *out, at, name, s, p),
     }
 }

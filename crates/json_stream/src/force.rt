@@ -3,10 +3,11 @@ use crate::{field, output};
 use alias::{AliasError, Placed};
 use records::publish_record::Publish;
 use records::span::Span;
+use std::io::Stdout;
 use wire::string;
 
 // The number and the name, as an object.
-fn refused(out: &mut [u8], at: usize, e: AliasError) -> usize {
+fn refused(to: Stdout, out: &mut [u8], at: usize, e: AliasError) -> usize {
     let number = alias::number(e);
     let name = refusal_names::name_at(number as u32);
     let bytes = name.bytes;
@@ -15,20 +16,22 @@ fn refused(out: &mut [u8], at: usize, e: AliasError) -> usize {
         len: name.len,
     };
     let a = field::number(
+        to,
         &mut *out,
         at,
         b",\"alias_refused\":{\"number\":",
         number as u64,
     );
-    let b = output::word(&mut *out, a, b",\"name\":\"");
-    let c = output::word(&mut *out, b, string::part(&bytes, text));
-    output::word(&mut *out, c, b"\"}")
+    let b = output::word(to, &mut *out, a, b",\"name\":\"");
+    let c = output::word(to, &mut *out, b, string::part(&bytes, text));
+    output::word(to, &mut *out, c, b"\"}")
 }
 
-pub fn topic(out: &mut [u8], at: usize, s: &[u8], table: &[u8], m: Publish) -> usize {
+pub fn topic(to: Stdout, out: &mut [u8], at: usize, s: &[u8], table: &[u8], m: Publish) -> usize {
     match alias::place_in_force(s, table, m) {
         Placed::InPacket(_) => at,
         Placed::InTable(p) => field::text_or_hex(
+            to,
             &mut *out,
             at,
             b",\"topic_in_force\":\"",
@@ -36,6 +39,6 @@ pub fn topic(out: &mut [u8], at: usize, s: &[u8], table: &[u8], m: Publish) -> u
             table,
             p,
         ),
-        Placed::Refused(e) => refused(&mut *out, at, e),
+        Placed::Refused(e) => refused(to, &mut *out, at, e),
     }
 }

@@ -10,6 +10,7 @@ use records::reply_record::Reply;
 use records::span::Span;
 use records::subscribe_record::Subscribe;
 use records::unsubscribe_record::Unsubscribe;
+use std::io::Stdout;
 use tables::property::PropertyRow;
 use wire::string;
 
@@ -17,25 +18,33 @@ use wire::string;
 const NONE: Span = Span { start: 0, len: 0 };
 
 // The identifier, which a Publish has at QoS 1 and 2.
-fn identifier(out: &mut [u8], at: usize, q: u8, pkid: u16) -> usize {
+fn identifier(to: Stdout, out: &mut [u8], at: usize, q: u8, pkid: u16) -> usize {
     if q == 0 {
         return at;
     }
-    field::id(&mut *out, at, pkid)
+    field::id(to, &mut *out, at, pkid)
 }
 
-fn flags(out: &mut [u8], at: usize, dup: bool, q: u8, retain: bool) -> usize {
-    let a = field::flag(&mut *out, at, b",\"dup\":", dup);
-    let b = field::number(&mut *out, a, b",\"qos\":", q as u64);
-    field::flag(&mut *out, b, b",\"retain\":", retain)
+fn flags(to: Stdout, out: &mut [u8], at: usize, dup: bool, q: u8, retain: bool) -> usize {
+    let a = field::flag(to, &mut *out, at, b",\"dup\":", dup);
+    let b = field::number(to, &mut *out, a, b",\"qos\":", q as u64);
+    field::flag(to, &mut *out, b, b",\"retain\":", retain)
 }
 
-fn publish_head(out: &mut [u8], at: usize, s: &[u8], table: &[u8], m: Publish) -> usize {
+fn publish_head(
+    to: Stdout,
+    out: &mut [u8],
+    at: usize,
+    s: &[u8],
+    table: &[u8],
+    m: Publish,
+) -> usize {
     let qos = m.qos;
     let q = qos_numbers::qos_number(qos);
-    let a = flags(&mut *out, at, m.dup, q, m.retain);
+    let a = flags(to, &mut *out, at, m.dup, q, m.retain);
     // 01 has a Publish's topic as any bytes
     let b = field::text_or_hex(
+        to,
         &mut *out,
         a,
         b",\"topic\":\"",
@@ -43,21 +52,22 @@ fn publish_head(out: &mut [u8], at: usize, s: &[u8], table: &[u8], m: Publish) -
         s,
         m.topic,
     );
-    let c = force::topic(&mut *out, b, s, table, m);
-    identifier(&mut *out, c, q, m.pkid)
+    let c = force::topic(to, &mut *out, b, s, table, m);
+    identifier(to, &mut *out, c, q, m.pkid)
 }
 
-fn publish_singles(out: &mut [u8], at: usize, s: &[u8], p: PublishProperties) -> usize {
+fn publish_singles(to: Stdout, out: &mut [u8], at: usize, s: &[u8], p: PublishProperties) -> usize {
     let format = p.payload_format_indicator;
     let expiry = p.message_expiry_interval;
     let alias = p.topic_alias;
     let response = p.response_topic;
     let correlation = p.correlation_data;
-    let a = field::u8_if(&mut *out, at, b",\"payload_format\":", format);
-    let b = field::u32_if(&mut *out, a, b",\"message_expiry\":", expiry);
-    let c = field::u16_if(&mut *out, b, b",\"topic_alias\":", alias);
-    let d = field::text_if(&mut *out, c, b",\"response_topic\":\"", s, response);
+    let a = field::u8_if(to, &mut *out, at, b",\"payload_format\":", format);
+    let b = field::u32_if(to, &mut *out, a, b",\"message_expiry\":", expiry);
+    let c = field::u16_if(to, &mut *out, b, b",\"topic_alias\":", alias);
+    let d = field::text_if(to, &mut *out, c, b",\"response_topic\":\"", s, response);
     field::hex_if(
+        to,
         &mut *out,
         d,
         b",\"correlation_data_hex\":\"",
@@ -67,31 +77,44 @@ fn publish_singles(out: &mut [u8], at: usize, s: &[u8], p: PublishProperties) ->
 }
 
 // The two lists of a Publish.
-fn publish_lists(out: &mut [u8], at: usize, s: &[u8], block: Span) -> usize {
-    let a = list::users(&mut *out, at, PropertyRow::Publish, s, block);
-    list::identifiers(&mut *out, a, s, block)
+fn publish_lists(to: Stdout, out: &mut [u8], at: usize, s: &[u8], block: Span) -> usize {
+    let a = list::users(to, &mut *out, at, PropertyRow::Publish, s, block);
+    list::identifiers(to, &mut *out, a, s, block)
 }
 
-fn publish_properties(out: &mut [u8], at: usize, s: &[u8], p: PublishProperties) -> usize {
+fn publish_properties(
+    to: Stdout,
+    out: &mut [u8],
+    at: usize,
+    s: &[u8],
+    p: PublishProperties,
+) -> usize {
     let block = p.block;
     let content = p.content_type;
-    let a = publish_singles(&mut *out, at, s, p);
-    let b = publish_lists(&mut *out, a, s, block);
-    field::text_if(&mut *out, b, b",\"content_type\":\"", s, content)
+    let a = publish_singles(to, &mut *out, at, s, p);
+    let b = publish_lists(to, &mut *out, a, s, block);
+    field::text_if(to, &mut *out, b, b",\"content_type\":\"", s, content)
 }
 
-fn publish_block(out: &mut [u8], at: usize, s: &[u8], properties: MaybePublishProperties) -> usize {
+fn publish_block(
+    to: Stdout,
+    out: &mut [u8],
+    at: usize,
+    s: &[u8],
+    properties: MaybePublishProperties,
+) -> usize {
     match properties {
-        MaybePublishProperties::Absent => publish_lists(&mut *out, at, s, NONE),
-        MaybePublishProperties::Present(p) => publish_properties(&mut *out, at, s, p),
+        MaybePublishProperties::Absent => publish_lists(to, &mut *out, at, s, NONE),
+        MaybePublishProperties::Present(p) => publish_properties(to, &mut *out, at, s, p),
     }
 }
 
-fn publish_of(out: &mut [u8], at: usize, s: &[u8], table: &[u8], m: Publish) -> usize {
+fn publish_of(to: Stdout, out: &mut [u8], at: usize, s: &[u8], table: &[u8], m: Publish) -> usize {
     let properties = m.properties;
-    let a = publish_head(&mut *out, at, s, table, m);
-    let b = publish_block(&mut *out, a, s, properties);
+    let a = publish_head(to, &mut *out, at, s, table, m);
+    let b = publish_block(to, &mut *out, a, s, properties);
     field::text_or_hex(
+        to,
         &mut *out,
         b,
         b",\"payload\":\"",
@@ -102,15 +125,23 @@ fn publish_of(out: &mut [u8], at: usize, s: &[u8], table: &[u8], m: Publish) -> 
 }
 
 // The block of any other kind; what its place does not have is absent.
-fn properties_of(out: &mut [u8], at: usize, place: PropertyRow, s: &[u8], p: Properties) -> usize {
+fn properties_of(
+    to: Stdout,
+    out: &mut [u8],
+    at: usize,
+    place: PropertyRow,
+    s: &[u8],
+    p: Properties,
+) -> usize {
     let text = p.reason_string;
     let id = p.id;
-    let a = field::text_if(&mut *out, at, b",\"reason_string\":\"", s, text);
-    let b = field::u32_if(&mut *out, a, b",\"subscription_id\":", id);
-    list::users(&mut *out, b, place, s, p.block)
+    let a = field::text_if(to, &mut *out, at, b",\"reason_string\":\"", s, text);
+    let b = field::u32_if(to, &mut *out, a, b",\"subscription_id\":", id);
+    list::users(to, &mut *out, b, place, s, p.block)
 }
 
 fn block(
+    to: Stdout,
     out: &mut [u8],
     at: usize,
     place: PropertyRow,
@@ -118,59 +149,67 @@ fn block(
     properties: MaybeProperties,
 ) -> usize {
     match properties {
-        MaybeProperties::Absent => list::users(&mut *out, at, place, s, NONE),
-        MaybeProperties::Present(p) => properties_of(&mut *out, at, place, s, p),
+        MaybeProperties::Absent => list::users(to, &mut *out, at, place, s, NONE),
+        MaybeProperties::Present(p) => properties_of(to, &mut *out, at, place, s, p),
     }
 }
 
 // PubAck, PubRec, PubRel, PubComp.
-fn ack_of(out: &mut [u8], at: usize, s: &[u8], m: Ack) -> usize {
+fn ack_of(to: Stdout, out: &mut [u8], at: usize, s: &[u8], m: Ack) -> usize {
     let properties = m.properties;
-    let a = field::id(&mut *out, at, m.pkid);
-    let b = field::number(&mut *out, a, b",\"reason\":", m.reason as u64);
-    block(&mut *out, b, PropertyRow::Ack, s, properties)
+    let a = field::id(to, &mut *out, at, m.pkid);
+    let b = field::number(to, &mut *out, a, b",\"reason\":", m.reason as u64);
+    block(to, &mut *out, b, PropertyRow::Ack, s, properties)
 }
 
-fn subscribe_of(out: &mut [u8], at: usize, s: &[u8], m: Subscribe) -> usize {
+fn subscribe_of(to: Stdout, out: &mut [u8], at: usize, s: &[u8], m: Subscribe) -> usize {
     let properties = m.properties;
     let filters = m.filters;
-    let a = field::id(&mut *out, at, m.pkid);
-    let b = block(&mut *out, a, PropertyRow::Subscribe, s, properties);
-    list::filters(&mut *out, b, s, filters)
+    let a = field::id(to, &mut *out, at, m.pkid);
+    let b = block(to, &mut *out, a, PropertyRow::Subscribe, s, properties);
+    list::filters(to, &mut *out, b, s, filters)
 }
 
 // SubAck, UnsubAck.
-fn reply_of(out: &mut [u8], at: usize, s: &[u8], m: Reply) -> usize {
+fn reply_of(to: Stdout, out: &mut [u8], at: usize, s: &[u8], m: Reply) -> usize {
     let properties = m.properties;
     let reasons = m.reasons;
-    let a = field::id(&mut *out, at, m.pkid);
-    let b = block(&mut *out, a, PropertyRow::Ack, s, properties);
-    list::reasons(&mut *out, b, s, reasons)
+    let a = field::id(to, &mut *out, at, m.pkid);
+    let b = block(to, &mut *out, a, PropertyRow::Ack, s, properties);
+    list::reasons(to, &mut *out, b, s, reasons)
 }
 
-fn unsubscribe_of(out: &mut [u8], at: usize, s: &[u8], m: Unsubscribe) -> usize {
+fn unsubscribe_of(to: Stdout, out: &mut [u8], at: usize, s: &[u8], m: Unsubscribe) -> usize {
     let properties = m.properties;
     let topics = m.topics;
-    let a = field::id(&mut *out, at, m.pkid);
-    let b = block(&mut *out, a, PropertyRow::Unsubscribe, s, properties);
-    list::topics(&mut *out, b, s, topics)
+    let a = field::id(to, &mut *out, at, m.pkid);
+    let b = block(to, &mut *out, a, PropertyRow::Unsubscribe, s, properties);
+    list::topics(to, &mut *out, b, s, topics)
 }
 
 // The fields of the kind; a ping has none.
-fn fields(out: &mut [u8], at: usize, s: &[u8], table: &[u8], p: Packet) -> usize {
+fn fields(to: Stdout, out: &mut [u8], at: usize, s: &[u8], table: &[u8], p: Packet) -> usize {
     match p {
-        Packet::Publish(m) => publish_of(&mut *out, at, s, table, m),
-        Packet::Ack(_, m) => ack_of(&mut *out, at, s, m),
-        Packet::Subscribe(m) => subscribe_of(&mut *out, at, s, m),
-        Packet::Reply(_, m) => reply_of(&mut *out, at, s, m),
-        Packet::Unsubscribe(m) => unsubscribe_of(&mut *out, at, s, m),
+        Packet::Publish(m) => publish_of(to, &mut *out, at, s, table, m),
+        Packet::Ack(_, m) => ack_of(to, &mut *out, at, s, m),
+        Packet::Subscribe(m) => subscribe_of(to, &mut *out, at, s, m),
+        Packet::Reply(_, m) => reply_of(to, &mut *out, at, s, m),
+        Packet::Unsubscribe(m) => unsubscribe_of(to, &mut *out, at, s, m),
         Packet::PingReq => at,
         Packet::PingResp => at,
     }
 }
 
 // What every object begins with, with the word for a number's kind.
-fn head(out: &mut [u8], at: usize, index: u64, offset: u64, num: u8, taken: usize) -> usize {
+fn head(
+    to: Stdout,
+    out: &mut [u8],
+    at: usize,
+    index: u64,
+    offset: u64,
+    num: u8,
+    taken: usize,
+) -> usize {
     let shown = kinds::word_of(num);
     let bytes = shown.bytes;
     let text = Span {
@@ -178,6 +217,7 @@ fn head(out: &mut [u8], at: usize, index: u64, offset: u64, num: u8, taken: usiz
         len: shown.len,
     };
     output::head(
+        to,
         &mut *out,
         at,
         index,
@@ -189,6 +229,7 @@ fn head(out: &mut [u8], at: usize, index: u64, offset: u64, num: u8, taken: usiz
 
 // Of the packet p that was read from s; the table has the topics by alias.
 pub fn packet(
+    to: Stdout,
     out: &mut [u8],
     at: usize,
     index: u64,
@@ -199,6 +240,7 @@ pub fn packet(
     taken: usize,
 ) -> usize {
     let a = head(
+        to,
         &mut *out,
         at,
         index,
@@ -206,6 +248,6 @@ pub fn packet(
         desk_summary::number_in(p),
         taken,
     );
-    let b = fields(&mut *out, a, s, table, p);
-    output::word(&mut *out, b, b"}\n")
+    let b = fields(to, &mut *out, a, s, table, p);
+    output::word(to, &mut *out, b, b"}\n")
 }

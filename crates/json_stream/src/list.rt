@@ -8,41 +8,50 @@ use qos_numbers::rule_number;
 use records::answer::UserItem;
 use records::span::Span;
 use records::subscribe_record::Filter;
+use std::io::Stdout;
 use tables::property::PropertyRow;
 use walker::step_at;
 use wire::got::GotSpan;
 use wire::string;
 
 // Where the output goes on, and how many items were put.
-#[derive(Drop)]
+#[derive(Clone, Copy)]
 struct Listed {
     put: usize,
     n: usize,
 }
 
 // The comma before every item but the first.
-fn comma(out: &mut [u8], at: usize, before: usize) -> usize {
+fn comma(to: Stdout, out: &mut [u8], at: usize, before: usize) -> usize {
     if before == 0 {
         return at;
     }
-    output::word(&mut *out, at, b",")
+    output::word(to, &mut *out, at, b",")
 }
 
 // A list's last bracket.
-fn end(out: &mut [u8], at: usize) -> usize {
-    output::word(&mut *out, at, b"]")
+fn end(to: Stdout, out: &mut [u8], at: usize) -> usize {
+    output::word(to, &mut *out, at, b"]")
 }
 
 // Key and value of a user property, an array of two.
-fn user(out: &mut [u8], at: usize, before: usize, s: &[u8], key: Span, value: Span) -> usize {
-    let a = comma(&mut *out, at, before);
-    let b = field::text(&mut *out, a, b"[\"", s, key);
-    let c = field::text(&mut *out, b, b",\"", s, value);
-    end(&mut *out, c)
+fn user(
+    to: Stdout,
+    out: &mut [u8],
+    at: usize,
+    before: usize,
+    s: &[u8],
+    key: Span,
+    value: Span,
+) -> usize {
+    let a = comma(to, &mut *out, at, before);
+    let b = field::text(to, &mut *out, a, b"[\"", s, key);
+    let c = field::text(to, &mut *out, b, b",\"", s, value);
+    end(to, &mut *out, c)
 }
 
 // The user properties in the block s, step by step of a walk.
-fn users_in(out: &mut [u8], at: usize, place: PropertyRow, s: &[u8]) -> usize {
+fn users_in(to: Stdout, out: &mut [u8], at: usize, place: PropertyRow, s: &[u8]) -> usize {
     let mut next = at;
     let mut i: usize = 0;
     while i < s.len() {
@@ -51,7 +60,7 @@ fn users_in(out: &mut [u8], at: usize, place: PropertyRow, s: &[u8]) -> usize {
         match item {
             UserItem::NoItem => return next,
             UserItem::Pair(key, value) => {
-                next = user(&mut *out, next, i, s, key, value);
+                next = user(to, &mut *out, next, i, s, key, value);
                 i = step.at;
             }
         }
@@ -60,24 +69,24 @@ fn users_in(out: &mut [u8], at: usize, place: PropertyRow, s: &[u8]) -> usize {
 }
 
 // A value that is a variable length number: only subscription identifiers are.
-fn identifier_if(out: &mut [u8], l: Listed, v: Value) -> Listed {
+fn identifier_if(to: Stdout, out: &mut [u8], l: Listed, v: Value) -> Listed {
     if let Value::Number(id) = v {
-        let a = comma(&mut *out, l.put, l.n);
-        let put = output::number(&mut *out, a, b"", id as u64);
+        let a = comma(to, &mut *out, l.put, l.n);
+        let put = output::number(to, &mut *out, a, b"", id as u64);
         return Listed { put, n: 1 };
     }
     l
 }
 
 // The subscription identifiers in the block s of a Publish.
-fn identifiers_in(out: &mut [u8], at: usize, s: &[u8]) -> usize {
+fn identifiers_in(to: Stdout, out: &mut [u8], at: usize, s: &[u8]) -> usize {
     let mut l = Listed { put: at, n: 0 };
     let mut i: usize = 0;
     while i < s.len() {
         match property_value::read_property(PropertyRow::Publish, s, i) {
             GotProperty::Refused(_) => return l.put,
             GotProperty::Found(_, v, end) => {
-                l = identifier_if(&mut *out, l, v);
+                l = identifier_if(to, &mut *out, l, v);
                 i = end;
             }
         }
@@ -85,20 +94,29 @@ fn identifiers_in(out: &mut [u8], at: usize, s: &[u8]) -> usize {
     l.put
 }
 
-fn options(out: &mut [u8], at: usize, q: u8, no_local: bool, preserve: bool, rule: u8) -> usize {
-    let a = field::number(&mut *out, at, b",\"qos\":", q as u64);
-    let b = field::flag(&mut *out, a, b",\"no_local\":", no_local);
-    let c = field::flag(&mut *out, b, b",\"preserve_retain\":", preserve);
-    let d = field::number(&mut *out, c, b",\"forward\":", rule as u64);
-    output::word(&mut *out, d, b"}")
+fn options(
+    to: Stdout,
+    out: &mut [u8],
+    at: usize,
+    q: u8,
+    no_local: bool,
+    preserve: bool,
+    rule: u8,
+) -> usize {
+    let a = field::number(to, &mut *out, at, b",\"qos\":", q as u64);
+    let b = field::flag(to, &mut *out, a, b",\"no_local\":", no_local);
+    let c = field::flag(to, &mut *out, b, b",\"preserve_retain\":", preserve);
+    let d = field::number(to, &mut *out, c, b",\"forward\":", rule as u64);
+    output::word(to, &mut *out, d, b"}")
 }
 
-fn filter_of(out: &mut [u8], at: usize, before: usize, s: &[u8], f: Filter) -> usize {
+fn filter_of(to: Stdout, out: &mut [u8], at: usize, before: usize, s: &[u8], f: Filter) -> usize {
     let q = f.qos;
     let rule = f.retain_forward_rule;
-    let a = comma(&mut *out, at, before);
-    let b = field::text(&mut *out, a, b"{\"filter\":\"", s, f.path);
+    let a = comma(to, &mut *out, at, before);
+    let b = field::text(to, &mut *out, a, b"{\"filter\":\"", s, f.path);
     options(
+        to,
         &mut *out,
         b,
         qos_numbers::qos_number(q),
@@ -109,14 +127,14 @@ fn filter_of(out: &mut [u8], at: usize, before: usize, s: &[u8], f: Filter) -> u
 }
 
 // The filters that fill s.
-fn filters_in(out: &mut [u8], at: usize, s: &[u8]) -> usize {
+fn filters_in(to: Stdout, out: &mut [u8], at: usize, s: &[u8]) -> usize {
     let mut next = at;
     let mut i: usize = 0;
     while i < s.len() {
         match filters::read_filter(s, i) {
             GotFilter::Refused(_) => return next,
             GotFilter::Value(f, end) => {
-                next = filter_of(&mut *out, next, i, s, f);
+                next = filter_of(to, &mut *out, next, i, s, f);
                 i = end;
             }
         }
@@ -124,20 +142,20 @@ fn filters_in(out: &mut [u8], at: usize, s: &[u8]) -> usize {
     next
 }
 
-fn topic(out: &mut [u8], at: usize, before: usize, s: &[u8], place: Span) -> usize {
-    let a = comma(&mut *out, at, before);
-    field::text(&mut *out, a, b"\"", s, place)
+fn topic(to: Stdout, out: &mut [u8], at: usize, before: usize, s: &[u8], place: Span) -> usize {
+    let a = comma(to, &mut *out, at, before);
+    field::text(to, &mut *out, a, b"\"", s, place)
 }
 
 // The topics that fill s.
-fn topics_in(out: &mut [u8], at: usize, s: &[u8]) -> usize {
+fn topics_in(to: Stdout, out: &mut [u8], at: usize, s: &[u8]) -> usize {
     let mut next = at;
     let mut i: usize = 0;
     while i < s.len() {
         match string::read_mqtt_string(s, i) {
             GotSpan::Refused(_) => return next,
             GotSpan::Value(place, end) => {
-                next = topic(&mut *out, next, i, s, place);
+                next = topic(to, &mut *out, next, i, s, place);
                 i = end;
             }
         }
@@ -145,53 +163,60 @@ fn topics_in(out: &mut [u8], at: usize, s: &[u8]) -> usize {
     next
 }
 
-fn reason(out: &mut [u8], at: usize, before: usize, b: u8) -> usize {
-    let a = comma(&mut *out, at, before);
-    output::number(&mut *out, a, b"", b as u64)
+fn reason(to: Stdout, out: &mut [u8], at: usize, before: usize, b: u8) -> usize {
+    let a = comma(to, &mut *out, at, before);
+    output::number(to, &mut *out, a, b"", b as u64)
 }
 
 // The reasons that are the bytes of s.
-fn reasons_in(out: &mut [u8], at: usize, s: &[u8]) -> usize {
+fn reasons_in(to: Stdout, out: &mut [u8], at: usize, s: &[u8]) -> usize {
     let mut next = at;
     let mut i: usize = 0;
     while i < s.len() {
-        next = reason(&mut *out, next, i, s[i]);
+        next = reason(to, &mut *out, next, i, s[i]);
         i = i + 1;
     }
     next
 }
 
 // The user properties of the block at a place of s.
-pub fn users(out: &mut [u8], at: usize, place: PropertyRow, s: &[u8], block: Span) -> usize {
-    let a = output::word(&mut *out, at, b",\"user\":[");
-    let b = users_in(&mut *out, a, place, string::part(s, block));
-    end(&mut *out, b)
+pub fn users(
+    to: Stdout,
+    out: &mut [u8],
+    at: usize,
+    place: PropertyRow,
+    s: &[u8],
+    block: Span,
+) -> usize {
+    let a = output::word(to, &mut *out, at, b",\"user\":[");
+    let b = users_in(to, &mut *out, a, place, string::part(s, block));
+    end(to, &mut *out, b)
 }
 
 // The subscription identifiers of a Publish.
-pub fn identifiers(out: &mut [u8], at: usize, s: &[u8], block: Span) -> usize {
-    let a = output::word(&mut *out, at, b",\"subscription_ids\":[");
-    let b = identifiers_in(&mut *out, a, string::part(s, block));
-    end(&mut *out, b)
+pub fn identifiers(to: Stdout, out: &mut [u8], at: usize, s: &[u8], block: Span) -> usize {
+    let a = output::word(to, &mut *out, at, b",\"subscription_ids\":[");
+    let b = identifiers_in(to, &mut *out, a, string::part(s, block));
+    end(to, &mut *out, b)
 }
 
 // The filters of the run at a place of s.
-pub fn filters(out: &mut [u8], at: usize, s: &[u8], run: Span) -> usize {
-    let a = output::word(&mut *out, at, b",\"filters\":[");
-    let b = filters_in(&mut *out, a, string::part(s, run));
-    end(&mut *out, b)
+pub fn filters(to: Stdout, out: &mut [u8], at: usize, s: &[u8], run: Span) -> usize {
+    let a = output::word(to, &mut *out, at, b",\"filters\":[");
+    let b = filters_in(to, &mut *out, a, string::part(s, run));
+    end(to, &mut *out, b)
 }
 
 // The topics of the run at a place of s.
-pub fn topics(out: &mut [u8], at: usize, s: &[u8], run: Span) -> usize {
-    let a = output::word(&mut *out, at, b",\"filters\":[");
-    let b = topics_in(&mut *out, a, string::part(s, run));
-    end(&mut *out, b)
+pub fn topics(to: Stdout, out: &mut [u8], at: usize, s: &[u8], run: Span) -> usize {
+    let a = output::word(to, &mut *out, at, b",\"filters\":[");
+    let b = topics_in(to, &mut *out, a, string::part(s, run));
+    end(to, &mut *out, b)
 }
 
 // The reasons of the run at a place of s.
-pub fn reasons(out: &mut [u8], at: usize, s: &[u8], run: Span) -> usize {
-    let a = output::word(&mut *out, at, b",\"reasons\":[");
-    let b = reasons_in(&mut *out, a, string::part(s, run));
-    end(&mut *out, b)
+pub fn reasons(to: Stdout, out: &mut [u8], at: usize, s: &[u8], run: Span) -> usize {
+    let a = output::word(to, &mut *out, at, b",\"reasons\":[");
+    let b = reasons_in(to, &mut *out, a, string::part(s, run));
+    end(to, &mut *out, b)
 }

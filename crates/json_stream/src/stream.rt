@@ -1,10 +1,12 @@
 // The stream, frame by frame: what is held of it in the buffer is read, an object is put for each frame, and more is read where a frame is
 // unfinished. An unfinished frame moves to the front of the buffer, once at most. A frame that the buffer does not hold is passed over.
 use crate::{line, output};
+use outside::Source;
 use records::answer::{Limit, Read};
 use records::error::Error;
 use records::packet_record::Packet;
 use records::span::Span;
+use std::io::{Stderr, Stdout};
 use wire::string;
 use write_bytes::put_bytes;
 
@@ -19,7 +21,7 @@ const STOPPED: u8 = 3;
 // The input could not be read.
 const UNREADABLE: u8 = 4;
 
-#[derive(Drop)]
+#[derive(Clone, Copy)]
 struct Desk {
     // what is held of the stream, in the buffer
     start: usize,
@@ -38,6 +40,8 @@ struct Desk {
     state: u8,
     // no filter is given: refusals have their lines too
     all: bool,
+    // the system's number of why the input could not be read
+    failed: i32,
 }
 
 // 1 MiB
@@ -81,15 +85,15 @@ fn passed(mut d: Desk, put: usize, taken: usize) -> Desk {
 }
 
 // Where the output goes on after the line of a refusal, which is put if no filter is given.
-fn refused_line(out: &mut [u8], d: Desk, e: Error, taken: usize) -> usize {
+fn refused_line(to: Stdout, out: &mut [u8], d: Desk, e: Error, taken: usize) -> usize {
     if d.all {
-        return output::refused(&mut *out, d.put, d.index, d.offset, e, taken);
+        return output::refused(to, &mut *out, d.put, d.index, d.offset, e, taken);
     }
     d.put
 }
 
-fn refused(out: &mut [u8], tally: &mut [u64], d: Desk, e: Error, taken: usize) -> Desk {
-    let put = refused_line(&mut *out, d, e, taken);
+fn refused(to: Stdout, out: &mut [u8], tally: &mut [u64], d: Desk, e: Error, taken: usize) -> Desk {
+    let put = refused_line(to, &mut *out, d, e, taken);
     desk_summary::add_refused(&mut *tally, e);
     passed(d, put, taken)
 }
@@ -106,7 +110,14 @@ fn lacking(state: u8, e: Error) -> usize {
 }
 
 // A refusal, for which more is to be read first if it lacks bytes; that of no byte at all is the end of the stream.
-fn unread(out: &mut [u8], tally: &mut [u64], mut d: Desk, e: Error, taken: usize) -> Desk {
+fn unread(
+    to: Stdout,
+    out: &mut [u8],
+    tally: &mut [u64],
+    mut d: Desk,
+    e: Error,
+    taken: usize,
+) -> Desk {
     d.wants = lacking(d.state, e);
     if 0 < d.wants {
         return d;
@@ -115,7 +126,7 @@ fn unread(out: &mut [u8], tally: &mut [u64], mut d: Desk, e: Error, taken: usize
         d.state = DONE;
         return d;
     }
-    refused(&mut *out, &mut *tally, d, e, taken)
+    refused(to, &mut *out, &mut *tally, d, e, taken)
 }
 
 // Where the output goes on after the line of a packet, which is put if the filter lets it pass.
@@ -123,13 +134,14 @@ fn packet_line(
     s: &[u8],
     filter: &[u8],
     table: &[u8],
+    to: Stdout,
     out: &mut [u8],
     d: Desk,
     p: Packet,
     taken: usize,
 ) -> usize {
     if desk_topic::is_shown(filter, s, table, p) {
-        return line::packet(&mut *out, d.put, d.index, d.offset, s, table, p, taken);
+        return line::packet(to, &mut *out, d.put, d.index, d.offset, s, table, p, taken);
     }
     d.put
 }
@@ -138,6 +150,7 @@ fn accepted(
     s: &[u8],
     filter: &[u8],
     table: &mut [u8],
+    to: Stdout,
     out: &mut [u8],
     tally: &mut [u64],
     d: Desk,
@@ -145,7 +158,7 @@ fn accepted(
     taken: usize,
 ) -> Desk {
     desk_topic::learn(&mut *table, s, p);
-    let put = packet_line(s, filter, &*table, &mut *out, d, p, taken);
+    let put = packet_line(s, filter, &*table, to, &mut *out, d, p, taken);
     desk_summary::add_packet(&mut *tally, p);
     passed(d, put, taken)
 }
@@ -155,6 +168,7 @@ fn frame(
     filter: &[u8],
     buf: &[u8],
     table: &mut [u8],
+    to: Stdout,
     out: &mut [u8],
     tally: &mut [u64],
     d: Desk,
@@ -169,38 +183,48 @@ fn frame(
             s,
             filter,
             &mut *table,
+            to,
             &mut *out,
             &mut *tally,
             d,
             p,
             taken,
         ),
-        Read::Refused(e, taken) => unread(&mut *out, &mut *tally, d, e, taken),
+        Read::Refused(e, taken) => unread(to, &mut *out, &mut *tally, d, e, taken),
     }
 }
 
 // ---- a frame that is passed over
 
 // Where the output goes on after its line, which is put if no filter is given.
-fn skipped_line(out: &mut [u8], d: Desk) -> usize {
+fn skipped_line(to: Stdout, out: &mut [u8], d: Desk) -> usize {
     if d.all {
-        return output::skipped(&mut *out, d.put, d.index, d.offset, d.size, d.first / 16);
+        return output::skipped(
+            to,
+            &mut *out,
+            d.put,
+            d.index,
+            d.offset,
+            d.size,
+            d.first / 16,
+        );
     }
     d.put
 }
 
 // All of it is behind.
-fn skipped(out: &mut [u8], mut d: Desk) -> Desk {
-    let put = skipped_line(&mut *out, d);
+fn skipped(to: Stdout, out: &mut [u8], mut d: Desk) -> Desk {
+    let put = skipped_line(to, &mut *out, d);
     d.put = put;
     d.skip = 0;
     counted(d, d.size)
 }
 
 // The input has ended within it.
-fn cut(out: &mut [u8], tally: &mut [u64], d: Desk) -> Desk {
+fn cut(to: Stdout, out: &mut [u8], tally: &mut [u64], d: Desk) -> Desk {
     let lacks = d.skip as usize;
     refused(
+        to,
         &mut *out,
         &mut *tally,
         d,
@@ -210,14 +234,14 @@ fn cut(out: &mut [u8], tally: &mut [u64], d: Desk) -> Desk {
 }
 
 // None of what is held is behind it.
-fn within(out: &mut [u8], tally: &mut [u64], mut d: Desk) -> Desk {
+fn within(to: Stdout, out: &mut [u8], tally: &mut [u64], mut d: Desk) -> Desk {
     d.skip = std::num::wrapping_sub_u64(d.skip, d.len as u64);
     d.len = 0;
     if d.state == GOING {
         d.wants = 1;
         return d;
     }
-    cut(&mut *out, &mut *tally, d)
+    cut(to, &mut *out, &mut *tally, d)
 }
 
 // A Publish that is passed over may set an alias: no topic is known any more.
@@ -227,11 +251,11 @@ fn forget(table: &mut [u8], first: u8) {
     }
 }
 
-fn passing(out: &mut [u8], tally: &mut [u64], d: Desk) -> Desk {
+fn passing(to: Stdout, out: &mut [u8], tally: &mut [u64], d: Desk) -> Desk {
     if (d.len as u64) < d.skip {
-        return within(&mut *out, &mut *tally, d);
+        return within(to, &mut *out, &mut *tally, d);
     }
-    skipped(&mut *out, dropped(d, d.skip as usize))
+    skipped(to, &mut *out, dropped(d, d.skip as usize))
 }
 
 // ---- input
@@ -268,36 +292,45 @@ fn too_long(buf: &[u8], mut d: Desk) -> Desk {
     d
 }
 
-// A read gave n bytes more.
-fn filled(mut d: Desk, got: isize, n: usize) -> Desk {
+// A read gave n bytes more; none where the input has ended.
+fn filled(mut d: Desk, n: usize) -> Desk {
     d.len = std::num::wrapping_add_usize(d.len, n);
-    if got == 0 {
+    if n == 0 {
         d.state = ENDED;
-    }
-    if got < 0 {
-        d.state = UNREADABLE;
     }
     d
 }
 
+// The input could not be read.
+fn unreadable(mut d: Desk, number: i32) -> Desk {
+    d.state = UNREADABLE;
+    d.failed = number;
+    d
+}
+
 // Reads once behind what is held, which stands at the front.
-fn fill(fd: i32, buf: &mut [u8], d: Desk) -> Desk {
+fn fill(source: &mut Source, buf: &mut [u8], d: Desk) -> Desk {
     let from = d.len;
     if buf.len() <= from {
         return too_long(&*buf, d);
     }
-    let got = libc::read(fd, &mut buf[from..]);
-    filled(d, got, io::count(got, &*buf))
+    match outside::read(&mut *source, &mut buf[from..]) {
+        Ok(n) => filled(d, n),
+        Err(e) => unreadable(d, outside::number_of(e)),
+    }
 }
 
 // More of the stream, if more is wanted. What was put is written first: a line does not wait for input.
-fn more(fd: i32, buf: &mut [u8], out: &mut [u8], mut d: Desk) -> Desk {
+fn more(source: &mut Source, buf: &mut [u8], to: Stdout, out: &mut [u8], mut d: Desk) -> Desk {
     if d.wants == 0 {
         return d;
     }
-    d.put = output::flush(&*out, d.put);
+    d.put = output::flush(to, &*out, d.put);
+    if output::is_lost(&*out, d.put) {
+        return d;
+    }
     let front = to_front(&mut *buf, &mut *out, d);
-    fill(fd, &mut *buf, front)
+    fill(&mut *source, &mut *buf, front)
 }
 
 // ---- the stream
@@ -307,6 +340,7 @@ fn step(
     filter: &[u8],
     buf: &[u8],
     table: &mut [u8],
+    to: Stdout,
     out: &mut [u8],
     tally: &mut [u64],
     mut d: Desk,
@@ -314,24 +348,43 @@ fn step(
     d.wants = 0;
     if 0 < d.skip {
         forget(&mut *table, d.first);
-        return passing(&mut *out, &mut *tally, d);
+        return passing(to, &mut *out, &mut *tally, d);
     }
-    frame(limit, filter, buf, &mut *table, &mut *out, &mut *tally, d)
+    frame(
+        limit,
+        filter,
+        buf,
+        &mut *table,
+        to,
+        &mut *out,
+        &mut *tally,
+        d,
+    )
 }
 
 // One frame, or one read.
 fn turn(
-    fd: i32,
+    source: &mut Source,
     limit: Limit,
     filter: &[u8],
     buf: &mut [u8],
     table: &mut [u8],
+    to: Stdout,
     out: &mut [u8],
     tally: &mut [u64],
     d: Desk,
 ) -> Desk {
-    let next = step(limit, filter, &*buf, &mut *table, &mut *out, &mut *tally, d);
-    more(fd, &mut *buf, &mut *out, next)
+    let next = step(
+        limit,
+        filter,
+        &*buf,
+        &mut *table,
+        to,
+        &mut *out,
+        &mut *tally,
+        d,
+    );
+    more(&mut *source, &mut *buf, to, &mut *out, next)
 }
 
 fn is_going(out: &[u8], d: Desk) -> bool {
@@ -343,11 +396,12 @@ fn is_going(out: &[u8], d: Desk) -> bool {
 
 // A proved loop has to end, and nothing says that a stream does. So the loop counts its turns down, from a number that no run uses up.
 fn read_all(
-    fd: i32,
+    source: &mut Source,
     limit: Limit,
     filter: &[u8],
     buf: &mut [u8],
     table: &mut [u8],
+    to: Stdout,
     out: &mut [u8],
     tally: &mut [u64],
 ) -> Desk {
@@ -363,15 +417,17 @@ fn read_all(
         index: 0,
         state: GOING,
         all: filter.len() == 0,
+        failed: 0,
     };
     let mut turns: u64 = 18446744073709551615;
     while 0 < turns {
         d = turn(
-            fd,
+            &mut *source,
             limit,
             filter,
             &mut *buf,
             &mut *table,
+            to,
             &mut *out,
             &mut *tally,
             d,
@@ -384,14 +440,27 @@ fn read_all(
     d
 }
 
+// What the system ends a program with that writes where nobody takes it any more; `std` has it go on, so that the program ends itself.
+pub const UNTAKEN: u8 = 141;
+
+// What was put could not be written; gives the exit status.
+fn lost(to: Stderr, number: i32) -> u8 {
+    if number == output::BROKEN_PIPE {
+        return UNTAKEN;
+    }
+    output::fail(to, b"standard output", number);
+    1
+}
+
 // Writes what is left of the output, then what was read, on standard error; gives the exit status.
-fn finish(out: &mut [u8], tally: &[u64], d: Desk) -> u8 {
-    if output::is_lost(&*out, output::flush(&*out, d.put)) {
-        output::fail(b"standard output");
-        return 1;
+fn finish(rt: HostRuntime, out: &mut [u8], tally: &[u64], d: Desk) -> u8 {
+    let to = rt.stderr();
+    let end = output::flush(rt.stdout(), &*out, d.put);
+    if output::is_lost(&*out, end) {
+        return lost(to, output::number_of_lost(end));
     }
     let len = desk_summary::put_summary(&mut *out, tally, d.offset);
-    output::tell(&*out, len);
+    output::tell(to, &*out, len);
     if d.state == DONE {
         return 0;
     }
@@ -399,16 +468,23 @@ fn finish(out: &mut [u8], tally: &[u64], d: Desk) -> u8 {
 }
 
 // Reads the stream to its end, or to where it stops; gives the exit status.
-pub fn read(fd: i32, name: &[u8], limit: Limit, filter: &[u8]) -> u8 {
+pub fn read(rt: HostRuntime, mut source: Source, name: &[u8], limit: Limit, filter: &[u8]) -> u8 {
     let mut buf = buffer();
     let mut table = fresh();
     let mut out = buffer();
     let mut tally = desk_summary::none();
     let d = read_all(
-        fd, limit, filter, &mut buf, &mut table, &mut out, &mut tally,
+        &mut source,
+        limit,
+        filter,
+        &mut buf,
+        &mut table,
+        rt.stdout(),
+        &mut out,
+        &mut tally,
     );
     if d.state == UNREADABLE {
-        output::fail(name);
+        output::fail(rt.stderr(), name, d.failed);
     }
-    finish(&mut out, &tally, d)
+    finish(rt, &mut out, &tally, d)
 }

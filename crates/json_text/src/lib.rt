@@ -1,5 +1,7 @@
 // What a line of JSON is made of, put into a lent output from an index on: words as they stand, numbers, texts between double quotes (RFC 8259)
 // and bytes in hexadecimal. What would lie past the end of the output is not stored, and then the index behind it is one that no output has.
+#![tactic(auto)]
+
 ghost use Rattle.std.specs.Prelude.{◌≡◌, ◌++◌, ◌∷◌, [], ◌+◌, length};
 ghost use Rattle.std.proofs.lemmas.List.Edits.{sets};
 ghost use Rattle.desk_render.specs.Shown.{decimal_of, hex_of};

@@ -1,5 +1,7 @@
 // The table of kinds, after `PacketType` and `packet_type` of v5/mod.rs: for each number its layout, the row of its block, its first byte and
 // its word.
+#![tactic(auto)]
+
 ghost use Rattle.std.specs.Prelude.{◌≡◌};
 ghost use Rattle.grammar.specs.Tables.{row_of_kind, first_of};
 ghost use Rattle.records.specs.AsNumbers.{told_ack_kind, told_reply_kind};
@@ -10,7 +12,7 @@ use records::reply_record::ReplyKind;
 use tables::property::PropertyRow;
 
 // The layouts, and which of the kinds that share one.
-#[derive(Drop)]
+#[derive(Clone, Copy)]
 pub enum Kind {
     Publish,
     Ack(AckKind),
@@ -26,7 +28,7 @@ pub enum Kind {
 }
 
 // The place of a kind's block.
-#[derive(Drop)]
+#[derive(Clone, Copy)]
 pub enum KindRow {
     Of(PropertyRow),
     NoBlock,

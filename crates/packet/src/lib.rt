@@ -1,4 +1,6 @@
 // The next packet of a stream, after `Packet::read` of v5/mod.rs: the frame, then 4, 5 and 6 in order, then the fields of its kind.
+#![tactic(auto)]
+
 ghost use Rattle.std.specs.Prelude.{◌≡◌, [], ℕ, ◌≤◌, length, drop};
 ghost use Rattle.grammar.specs.Tables.{a_publish, a_subscribe, an_ack, a_reply, an_unsubscribe, reasons_of};
 ghost use Rattle.grammar.specs.Record.{ping, kind_of};

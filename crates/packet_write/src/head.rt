@@ -5,7 +5,7 @@ use reply_write::ReplyHead;
 use subscribe_write::SubscribeHead;
 use unsubscribe_write::UnsubscribeHead;
 
-#[derive(Drop)]
+#[derive(Clone, Copy)]
 pub enum PacketHead {
     Publish(PublishHead),
     Ack(AckHead),

@@ -1,4 +1,6 @@
 // A packet of any kind, written, after `write` and `size` of `Packet` in v5/mod.rs: 20 for what does not belong to the record, then its kind.
+#![tactic(auto)]
+
 pub mod head;
 mod parts;
 

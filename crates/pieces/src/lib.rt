@@ -1,5 +1,7 @@
 // A stream that arrives in pieces (02, P10): an unfinished frame is kept at the front of a lent buffer of 5 to 65,536 bytes.
 // A frame that lies in one piece stays there, and no byte of it is copied.
+#![tactic(auto)]
+
 ghost use Rattle.std.specs.Prelude.{◌≡◌, true, ◌++◌, ◌+◌, ◌-◌, ◌≤◌, ◌<◌, min, length, take};
 ghost use Rattle.reading.specs.Refusal.{within};
 ghost use Rattle.records.specs.AsNumbers.{row_of, values_of, told_values, limit_of};
@@ -17,7 +19,7 @@ use refusal_numbers;
 use write_bytes;
 
 // Why a call gives no frame, and takes nothing.
-#[derive(Drop)]
+#[derive(Clone, Copy)]
 pub enum Stop {
     // 2 or 3 of a header, which ends the stream
     Header(Error),
@@ -28,20 +30,20 @@ pub enum Stop {
 }
 
 // Whether the stream goes on, or what ended it.
-#[derive(Drop)]
+#[derive(Clone, Copy)]
 pub enum End {
     Open,
     Ended(Stop),
 }
 
 // How many bytes the front of the buffer keeps of an unfinished frame, and whether the stream has ended.
-#[derive(Drop)]
+#[derive(Clone, Copy)]
 pub struct State {
     pub held: usize,
     pub end: End,
 }
 
-#[derive(Drop)]
+#[derive(Clone, Copy)]
 pub enum Given {
     // the piece is taken in, and lacks bytes of a frame
     More,
@@ -54,7 +56,7 @@ pub enum Given {
 }
 
 // Where the next frame lies, how many bytes of the piece were used up, and the state for the next call.
-#[derive(Drop)]
+#[derive(Clone, Copy)]
 pub struct Step {
     pub given: Given,
     pub used: usize,
@@ -62,7 +64,7 @@ pub struct Step {
 }
 
 // What a header says: how long its frame is, or why the stream ends there.
-#[derive(Drop)]
+#[derive(Clone, Copy)]
 enum Judged {
     Unknown,
     Length(usize),

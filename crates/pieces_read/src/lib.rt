@@ -1,4 +1,6 @@
 // The next record or refusal of a stream that arrives in pieces (02, P10).
+#![tactic(auto)]
+
 ghost use Rattle.std.specs.Prelude.{◌≡◌, take};
 ghost use Rattle.records.specs.AsNumbers.{limit_of};
 ghost use Rattle.pieces_rules.specs.Step.{read_in, step_of};
@@ -10,7 +12,7 @@ use pieces;
 use pieces::{Given, State, Stop};
 use records::answer::{Limit, Read};
 
-#[derive(Drop)]
+#[derive(Clone, Copy)]
 pub enum Answer {
     // the piece is taken in, and lacks bytes of a frame
     More,
@@ -23,7 +25,7 @@ pub enum Answer {
 }
 
 // The answer, how many bytes of the piece it used up, and the state for the next call.
-#[derive(Drop)]
+#[derive(Clone, Copy)]
 pub struct Reply {
     pub answer: Answer,
     pub used: usize,

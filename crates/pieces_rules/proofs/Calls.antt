@@ -2,15 +2,14 @@
 use mathlib.Core.Path.{◌≡◌, refl, sym, ap, ◌∙◌}
 use mathlib.Core.Bool.{Bool, true, false, ◌&&◌, false≢true}
 use mathlib.Core.Option.{Option, none, some}
-use mathlib.Core.List.{List, [], ◌∷◌, ◌++◌, append-nil}
-use Prim.Native.Nat.{ℕ, zero, suc, ◌+◌, ◌-◌, ◌≤◌, ◌<◌, min}
+use mathlib.Core.List.{List, [], ◌++◌, append-nil}
+use Prim.Native.Nat.{ℕ, zero, suc, ◌+◌, ◌-◌, ◌≤◌, ◌<◌}
 use native.Mathlib.Omega.{arith}
 use lib.Dec.{leb}
-use lib.ListN.{length, take, drop, set, length-set, length-append, length-take, take-append-drop}
-use lib.Seq.{sets, sets-eq, length-sets, set_out, length-take-le, take_at, take-take, take-append-le, take-append-add}
+use lib.ListN.{length, take, length-append}
+use lib.Seq.{sets, length-take-le, take-take, take-append-le, take-append-add}
 use borrow.Author.Tests.{leb-true, leb-false}
 use Rattle.reading.specs.Refusal.{Refusal, Answer}
-use Rattle.reading.specs.Read.{Shape, read_as}
 use Rattle.reading.specs.Place.{as_places, Placed, read_placed_of}
 use Rattle.pieces_rules.specs.Whole.{answer_as, Turn, lacks, ends, frame, turn_of}
 use Rattle.pieces_rules.specs.Step.{State, waiting, fresh, inPiece, inBuffer, Step, serves, step_from, step_by, length_in, called, step_of, found_of, read_step}

@@ -1,13 +1,13 @@
 -- 02, P10: however the stream is cut, the list is that of the whole stream. Assumes nothing.
 use mathlib.Core.Path.{◌≡◌, refl, sym, ap, ◌∙◌}
 use mathlib.Core.Bool.{Bool, true, false}
-use mathlib.Core.Option.{Option, none, some}
+use mathlib.Core.Option.{Option, some}
 use mathlib.Core.List.{List, [], ◌∷◌, ◌++◌, map, flatten, append_assoc, append-nil}
 use Prim.Native.Nat.{ℕ, zero, suc, ◌+◌, ◌-◌, ◌≤◌, ◌<◌}
 use native.Mathlib.Omega.{arith}
 use lib.Dec.{leb}
 use lib.ListN.{length, take, drop, length-append, length-drop, take-append-drop}
-use lib.Seq.{sets, length-sets, sets-eq, length-take-le, take_all, take-append-le, take-append-add, drop-append-add, take_at}
+use lib.Seq.{sets, length-sets, sets-eq, length-take-le, take-append-le, take-append-add, drop-append-add, take_at}
 use borrow.Author.Tests.{le-leb, leb-true, leb-false}
 use Rattle.grammar.specs.Sentence.{Packet}
 use Rattle.reading.specs.Refusal.{Refusal, Answer, refused_as}
@@ -15,11 +15,11 @@ use Rattle.reading.specs.Reader.{Fit, got}
 use Rattle.grammar.specs.Record.{PacketOf}
 use Rattle.reading.specs.Read.{Shape, as_bytes}
 use Rattle.reading.specs.Place.{as_places, say_answer}
-use Rattle.pieces_rules.specs.Whole.{Turn, lacks, ends, frame, list_of, answer_as, turn_of}
-use Rattle.pieces_rules.specs.Step.{State, waiting, fresh, Step, serves, step_from, step_by, step_of}
+use Rattle.pieces_rules.specs.Whole.{lacks, ends, frame, list_of, answer_as, turn_of}
+use Rattle.pieces_rules.specs.Step.{State, waiting, fresh, serves, step_from, step_by, step_of}
 use Rattle.pieces_rules.specs.Feed.{Fed, feed_from, feed, feed_all}
 use Rattle.pieces_rules.proofs.Seen.{Seen, short, ended, framed, seen}
-use Rattle.pieces_rules.proofs.Run.{Left, waits, over, Runs, stop, end, next, turn_at, nil_lacks, frame_stays, no_frame_lem, run_waits, run_on, run_over, run_list}
+use Rattle.pieces_rules.proofs.Run.{Left, waits, over, Runs, stop, end, next, turn_at, nil_lacks, no_frame_lem, run_waits, run_on, run_over, run_list}
 
 -- 02, P10: "a lent buffer of 5 to 65,536 bytes"
 abbrev pub Serves : List ℕ → Type 0

@@ -2,15 +2,15 @@
 use mathlib.Core.Path.{◌≡◌, refl, sym, ap, ◌∙◌}
 use mathlib.Core.Option.{Option}
 use mathlib.Core.List.{List, [], ◌∷◌, ◌++◌, append_assoc, append-nil}
-use Prim.Native.Nat.{ℕ, zero, suc, ◌≤◌, ◌<◌}
+use Prim.Native.Nat.{ℕ, ◌≤◌, ◌<◌}
 use native.Mathlib.Omega.{arith}
 use lib.ListN.{length, take, drop, length-drop, take-append-drop}
-use lib.Seq.{drop-append-le, drop-nil}
+use lib.Seq.{drop-append-le}
 use Rattle.grammar.specs.Sentence.{Packet}
-use Rattle.reading.specs.Refusal.{Refusal, nr, Answer, refused_as}
-use Rattle.reading.specs.Reader.{Fit, got, bad, then_of}
-use Rattle.reading.specs.Read.{byte_of, Shape, as_bytes}
-use Rattle.pieces_rules.specs.Whole.{header_under, answer_as, Turn, lacks, ends, frame, turn_of, listed, list_from, list_of}
+use Rattle.reading.specs.Refusal.{Refusal, Answer, refused_as}
+use Rattle.reading.specs.Reader.{then_of}
+use Rattle.reading.specs.Read.{byte_of, as_bytes}
+use Rattle.pieces_rules.specs.Whole.{header_under, answer_as, Turn, lacks, ends, frame, turn_of, list_from, list_of}
 use Rattle.pieces_rules.proofs.Says.{answer_refused, turn_lacks}
 use Rattle.pieces_rules.proofs.Seen.{Seen, short, ended, framed, seen}
 

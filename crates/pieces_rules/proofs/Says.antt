@@ -1,22 +1,21 @@
 -- A header decides what a stream begins with, and its first five bytes decide the header; whatever strings are handed back as. Assumes nothing.
 use mathlib.Core.Path.{◌≡◌, refl, sym, ap, ◌∙◌}
 use mathlib.Core.Bool.{Bool, true, false, cond}
-use mathlib.Core.Option.{Option, none, some}
+use mathlib.Core.Option.{Option}
 use mathlib.Core.Logic.{◌⊎◌, inl, inr}
-use mathlib.Core.List.{List, [], ◌∷◌, ◌++◌, append_assoc, append-nil}
-use Prim.Native.Nat.{ℕ, zero, suc, ◌+◌, ◌-◌, ◌≤◌, ◌<◌, min}
+use mathlib.Core.List.{List, [], ◌∷◌, ◌++◌, append_assoc}
+use Prim.Native.Nat.{ℕ, zero, suc, ◌+◌, ◌-◌, ◌≤◌, ◌<◌}
 use native.Mathlib.Omega.{arith}
-use lib.Dec.{eqb, leb, ltb}
-use lib.ListN.{length, take, drop, length-append, length-drop, length-take, take-append-drop}
+use lib.Dec.{eqb, ltb}
+use lib.ListN.{length, take, drop, length-append, length-take, take-append-drop}
 use lib.Seq.{length-take-le, take_all, take_at, drop_at, take-append-add}
-use borrow.Author.Tests.{lt-ltb, le-ltb, ltb-true, ltb-false, le-leb, lt-leb, leb-true, leb-false, eq-eqb}
+use borrow.Author.Tests.{lt-ltb, le-ltb, ltb-true, ltb-false, le-leb, lt-leb, eq-eqb}
 use Rattle.grammar.specs.Record.{PacketOf}
 use Rattle.reading.specs.Refusal.{Refusal, nr, Answer, refused, refused_as}
 use Rattle.reading.specs.Reader.{Fit, got, bad}
 use Rattle.reading.specs.Read.{Shape, body_fit, body_answer, whole_answer, frame_answer, read_as}
-use Rattle.reading.proofs.Reading.{Reads}
-use Rattle.pieces_rules.specs.Whole.{frame_too_long, header_under, frame_bytes, longer, answer_as, Turn, lacks, ends, frame, at_once, turn_of}
-use Rattle.pieces_rules.specs.Judge.{Judge, unknown, forbids, spans, judged, judge_of}
+use Rattle.pieces_rules.specs.Whole.{frame_too_long, header_under, frame_bytes, longer, answer_as, lacks, ends, frame, at_once, turn_of}
+use Rattle.pieces_rules.specs.Judge.{Judge, unknown, forbids, spans, judge_of}
 use Rattle.pieces_rules.proofs.Head.{Header, reads_header, header_some, frame_header, header_refused}
 
 -- ---- turns

@@ -1,13 +1,13 @@
 -- What a stream begins with, and what a longer one does to it: it lacks bytes, fewer than the buffer has; it has ended; or it begins with a
 -- frame. Whatever strings are handed back as. Assumes nothing.
-use mathlib.Core.Path.{◌≡◌, refl, sym, ap, ◌∙◌}
+use mathlib.Core.Path.{◌≡◌, refl, sym, ◌∙◌}
 use mathlib.Core.Bool.{Bool, true, false}
 use mathlib.Core.Option.{Option}
 use mathlib.Core.List.{List, [], ◌++◌, append-nil}
-use Prim.Native.Nat.{ℕ, ◌+◌, ◌-◌, ◌≤◌, ◌<◌}
+use Prim.Native.Nat.{ℕ, ◌≤◌, ◌<◌}
 use native.Mathlib.Omega.{arith}
 use lib.Dec.{leb}
-use lib.ListN.{length, take, drop, length-append, take-append-drop}
+use lib.ListN.{length, take, length-append}
 use lib.Seq.{length-take-le, take_at}
 use borrow.Author.Tests.{leb-true, leb-false}
 use Rattle.grammar.specs.Record.{PacketOf}

@@ -2,14 +2,12 @@
 use mathlib.Core.Path.{◌≡◌, refl}
 use mathlib.Core.Option.{Option, none, some}
 use mathlib.Core.List.{List, [], ◌∷◌, map, flatten}
-use Prim.Native.Nat.{ℕ, zero, suc, ◌+◌, ◌-◌, ◌*◌}
-use lib.Dec.{leb, ltb, eqb}
-use lib.ListN.{length, take, drop, set}
+use Prim.Native.Nat.{ℕ, zero, suc}
 use Rattle.grammar.specs.Tables.{kinds}
 use Rattle.grammar.specs.Sentence.{Packet}
 use Rattle.reading.specs.Refusal.{Answer, accepted, refused, within, over}
-use Rattle.reading.specs.Reader.{Fit, got, bad, none_of, never_of, map_of, only_of, only_by_of, head_of, then_of, sized_of, is_fit, map_fit, hand_fit, only_fit, then_fit, exact_fit, run_fit, chain_fit}
-use Rattle.reading.specs.Read.{big_of, byte_of, group_of, groups_of, num_of, ident_of, frame_of, body_answer, string_fit, bytes_of, value_of, value_at, property_of, once_of, properties_fit, block_of, message_fit, fields_fit, layout_fit, body_fit, whole_answer, frame_answer, read_as}
+use Rattle.reading.specs.Reader.{Fit, got, bad, none_of, map_of, only_of, only_by_of, head_of, then_of, sized_of, is_fit, map_fit, hand_fit, then_fit, run_fit, chain_fit}
+use Rattle.reading.specs.Read.{big_of, byte_of, group_of, groups_of, num_of, ident_of, frame_of, body_answer, string_fit, bytes_of, once_of, properties_fit, block_of, message_fit, fields_fit, layout_fit, body_fit, whole_answer, frame_answer, read_as}
 use Rattle.reading.specs.Place.{held_of}
 use Rattle.pieces_rules.specs.Whole.{header_under, longer, answer_as, at_once, turn_of, list_from, list_of}
 use Rattle.pieces_rules.specs.Step.{fresh, serves, step_by}

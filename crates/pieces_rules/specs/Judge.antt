@@ -1,5 +1,5 @@
 -- What a header says of its frame. Assumes nothing.
-use Rattle.std.specs.Prelude.{Bool, cond, List, [], ◌∷◌, ℕ, eqb, ltb}
+use Rattle.std.specs.Prelude.{cond, List, ℕ, eqb, ltb}
 use Rattle.std.proofs.Math.Option.{Option}
 use Rattle.reading.specs.Refusal.{Refusal, nr}
 use Rattle.reading.specs.Reader.{Fit, got, bad}

@@ -1,4 +1,6 @@
 // PingReq and PingResp, written, after `write` and `size` of ping.rs: two bytes each.
+#![tactic(auto)]
+
 ghost use Rattle.std.specs.Prelude.{◌≡◌, ℕ};
 ghost use Rattle.writing.specs.Handed.{ping};
 ghost use Rattle.grammar.specs.Tables.{first_of};

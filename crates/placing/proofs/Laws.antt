@@ -1,7 +1,7 @@
 -- What a reader of places reads stands where it says: one law for each way to build a reader. The bytes s end at index `end` of the stream, so
 -- that end less their length is how many come before them. Assumes nothing.
-use mathlib.Core.Path.{◌≡◌, refl, sym, ap, ◌∙◌, subst}
-use mathlib.Core.Bool.{Bool, true, false}
+use mathlib.Core.Path.{◌≡◌, sym, ap, ◌∙◌, subst}
+use mathlib.Core.Bool.{Bool, true}
 use mathlib.Core.List.{List, [], ◌∷◌, ◌++◌, append_assoc, append-nil}
 use Prim.Native.Nat.{ℕ, ◌+◌, ◌-◌, ◌≤◌}
 use native.Mathlib.Omega.{arith}
@@ -10,14 +10,14 @@ use lib.Seq.{length-take-le}
 use lib.Dec.{leb, leb→le}
 use mathlib.Core.Logic.{◌↔◌}
 use Rattle.grammar.specs.Choice.{is_empty}
-use Rattle.grammar.specs.Gram.{Gram, Map, mapped, Only, only, Is, is, forget}
+use Rattle.grammar.specs.Gram.{Gram, Map, mapped, is, forget}
 use Rattle.reading.specs.Refusal.{Refusal}
-use Rattle.reading.specs.Reader.{Fit, got, bad, Reader, Filler, ◌>>=◌, ◌>>◌, guard, map_of, then_of, sized_of, is_fit, map_fit, hand_fit, only_fit, then_fit, exact_fit, run_fit, chain_fit, many_fit}
+use Rattle.reading.specs.Reader.{got, Reader, Filler, ◌>>=◌, ◌>>◌, guard, map_of, then_of, sized_of, is_fit, map_fit, hand_fit, only_fit, then_fit, exact_fit, run_fit, chain_fit, many_fit}
 use Rattle.reading.specs.Read.{string_fit}
 use Rattle.reading.specs.Place.{Span, span_of, as_places}
 use Rattle.reading.proofs.Lists.{T_of, nil_of}
 use Rattle.reading.proofs.Reading.{bad_got, from_got, from_bind, from_guard, Cut, Reads, Fills}
-use Rattle.placing.specs.Placing.{GramAt, place_of, ThenAt, both, SizedAt, sized, ManyAt, done, more, HandedAt, handed, StringAt}
+use Rattle.placing.specs.Placing.{GramAt, ThenAt, both, SizedAt, sized, ManyAt, done, more, HandedAt, handed, StringAt}
 
 -- what is read of s stands behind what comes before s
 pub record SplitsAt {A : Type 0} (p : ℕ → Reader A) (G : GramAt A) : Type 0 where

@@ -1,23 +1,23 @@
 -- Every string, block and run of a record that is read stands in its sentence where the grammar has it. Assumes nothing.
 use mathlib.Core.Path.{◌≡◌, refl, sym, ap, ◌∙◌, subst}
-use mathlib.Core.Bool.{Bool, true, false, not, ◌||◌}
+use mathlib.Core.Bool.{not, ◌||◌}
 use mathlib.Core.Option.{Option, none, some}
 use mathlib.Core.List.{List, [], ◌∷◌, ◌++◌}
-use Prim.Native.Nat.{ℕ, zero, suc, ◌+◌, ◌-◌, ◌≤◌}
+use Prim.Native.Nat.{ℕ, ◌+◌, ◌-◌, ◌≤◌}
 use native.Mathlib.Omega.{arith}
 use lib.ListN.{length, length-append}
 use Rattle.grammar.specs.Choice.{is_in, lookup, is_empty}
 use Rattle.grammar.specs.Number.{Byte, byte, Spells}
 use Rattle.grammar.specs.Text.{Utf8}
-use Rattle.grammar.specs.Gram.{Gram, Map, mapped, Only, OnlyBy, only_by, Then, both, Sized, sized, Is, is}
+use Rattle.grammar.specs.Gram.{Only, OnlyBy, only_by, both, sized, is}
 use Rattle.grammar.specs.Tables.{Form, u8, u16, u32, number, text, bytes, pair, Row, publish_row, subscribe_row, ack_row, unsubscribe_row, Layout, a_publish, an_ack, a_subscribe, a_reply, an_unsubscribe, a_ping, kinds, reserved, is_ping, form_at}
-use Rattle.grammar.specs.Record.{Val, num, str, PropOf, Props, Filter, kind_of, flag_qos, mk_publish, mk_ack, mk_filter, mk_subscribe, mk_reply, mk_unsubscribe, mk_ping}
+use Rattle.grammar.specs.Record.{num, str, PropOf, Props, kind_of, flag_qos, mk_publish, mk_ack, mk_filter, mk_subscribe, mk_reply, mk_unsubscribe, mk_ping}
 use Rattle.grammar.specs.Sentence.{Any, duo_of, not_zero, not_three, qos_fine, rule_fine, some_of, Frame}
-use Rattle.reading.specs.Refusal.{Refusal, nr, accepted, cut, crossed, passes}
-use Rattle.reading.specs.Reader.{Fit, got, bad, Filler, ◌>>=◌, ◌>>◌, guard}
-use Rattle.reading.specs.Read.{big_of, byte_of, num_of, is_text, any_bytes, some_fit, reason_of, reasons_fit, length_of, frame_of, body_answer, bytes_of, text_of, value_of, value_at, property_of, properties_fit, block_of, publish_as, props_as, ack_block_fit, ack_rest_fit, filter_of, filters_fit, topics_fit, message_fit, fields_fit, layout_fit, body_fit, whole_answer, frame_answer, read_as}
-use Rattle.reading.specs.Place.{Span, Placed, span_of, as_places, read_placed_of}
-use Rattle.reading.proofs.Reading.{bad_got, got_inj, from_got, from_bind, from_guard, Cut, Reads, count_front, reads_only, fills_is}
+use Rattle.reading.specs.Refusal.{nr, accepted, cut, crossed, passes}
+use Rattle.reading.specs.Reader.{Fit, got, bad, ◌>>=◌}
+use Rattle.reading.specs.Read.{is_text, any_bytes, reasons_fit, frame_of, body_answer, bytes_of, text_of, value_of, value_at, property_of, properties_fit, block_of, publish_as, props_as, ack_block_fit, ack_rest_fit, filter_of, filters_fit, topics_fit, message_fit, fields_fit, layout_fit, body_fit, whole_answer, frame_answer, read_as}
+use Rattle.reading.specs.Place.{Span, Placed, as_places, read_placed_of}
+use Rattle.reading.proofs.Reading.{bad_got, from_got, from_bind, from_guard, Cut, count_front, reads_only, fills_is}
 use Rattle.reading.proofs.Fields.{reads_byte, reads_big, reads_num, text_fine, any_fine}
 use Rattle.reading.proofs.Packets.{reads_ident}
 use Rattle.reading.proofs.Demand.{no_accept, reads_length, reads_frame}

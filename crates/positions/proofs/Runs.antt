@@ -7,8 +7,7 @@ use native.Mathlib.Omega.{arith}
 use lib.ListN.{length, drop, length-drop, drop_of_length-le}
 use Rattle.grammar.specs.Sentence.{some_of}
 use Rattle.reading.specs.Refusal.{Refusal, nr}
-use Rattle.reading.specs.Reader.{Fit, got, bad, Reader, only_fit, run_fit, chain_fit, many_fit}
-use Rattle.reading.specs.Place.{Span}
+use Rattle.reading.specs.Reader.{got, bad, Reader, only_fit, run_fit, chain_fit, many_fit}
 use Rattle.positions.specs.Position.{from_at, placed_run}
 use Rattle.positions.proofs.Walk.{Less}
 use Rattle.positions.proofs.Trails.{Trails}

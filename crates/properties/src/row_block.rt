@@ -22,7 +22,7 @@ use tables::property::OtherRow;
 use wire::got::GotSpan;
 
 // The properties, if there are any, and the index after the block; or the refusal.
-#[derive(Drop)]
+#[derive(Clone, Copy)]
 pub enum GotBlock {
     Value(MaybeProperties, usize),
     Refused(Error),

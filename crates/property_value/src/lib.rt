@@ -1,5 +1,7 @@
 // One property at an index of a slice, an identifier byte and a value: the body of the loops in publish.rs, subscribe.rs and puback.rs,
 // once for all kinds of packet. The end of the slice is the end of its room.
+#![tactic(auto)]
+
 ghost use Rattle.std.specs.Prelude.{◌≡◌};
 ghost use Rattle.std.proofs.Math.Option.{some};
 ghost use Rattle.grammar.specs.Tables.{number, pair};
@@ -19,7 +21,7 @@ use wire::got::GotSpan;
 use wire::string;
 
 // A value, by its form.
-#[derive(Drop)]
+#[derive(Clone, Copy)]
 pub enum Value {
     U8(u8),
     U16(u16),
@@ -31,7 +33,7 @@ pub enum Value {
 }
 
 // The identifier, the value, and the index after it; or the refusal.
-#[derive(Drop)]
+#[derive(Clone, Copy)]
 pub enum GotProperty {
     Found(u8, Value, usize),
     Refused(Error),

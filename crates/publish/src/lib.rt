@@ -1,4 +1,6 @@
 // A Publish, after publish.rs: the read of its properties, and of its fields.
+#![tactic(auto)]
+
 ghost use Rattle.std.specs.Prelude.{◌≡◌, [], ◌≤◌, length, drop};
 ghost use Rattle.std.proofs.Math.Option.{some};
 ghost use Rattle.grammar.specs.Tables.{a_publish, publish_row, form_at};
@@ -33,7 +35,7 @@ use wire::string;
 // record keeps where it stands
 
 // The properties, if there are any, and the index after the block; or the refusal.
-#[derive(Drop)]
+#[derive(Clone, Copy)]
 pub enum GotPublishBlock {
     Value(MaybePublishProperties, usize),
     Refused(Error),
@@ -41,7 +43,7 @@ pub enum GotPublishBlock {
 
 // The single values so far. The flags stand apart from the values: an enum that holds a span has gaps, and a loop that carries such
 // enums copies the gaps at each turn, which took three times as long.
-#[derive(Drop)]
+#[derive(Clone, Copy)]
 struct Singles {
     response: Span,
     correlation: Span,
@@ -259,7 +261,7 @@ fn read_publish_block(s: &[u8], at: usize) -> GotPublishBlock
 
 // ---- the fields
 
-#[derive(Drop)]
+#[derive(Clone, Copy)]
 pub enum GotPublish {
     Value(Publish),
     Refused(Error),

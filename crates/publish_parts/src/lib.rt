@@ -1,4 +1,6 @@
 // The strings of a Publish, as parts of the stream that it was read from.
+#![tactic(auto)]
+
 ghost use Rattle.std.specs.Prelude.{◌≡◌};
 ghost use Rattle.records.specs.AsNumbers.{told_span};
 ghost use Rattle.wire.specs.Part.{PartAt, place_if};

@@ -2,7 +2,7 @@
 use records::qos::QoS;
 use records::span::{MaybeU8, MaybeU16, MaybeU32};
 
-#[derive(Drop)]
+#[derive(Clone, Copy)]
 pub struct PublishHead {
     pub dup: bool,
     pub qos: QoS,

@@ -70,7 +70,7 @@ fn rest_size(head: PublishHead, topic: &[u8], properties: usize, payload: &[u8])
 }
 
 // R and L, both cut off above the largest R.
-#[derive(Drop)]
+#[derive(Clone, Copy)]
 pub struct Lengths {
     pub rest: usize,
     pub properties: usize,

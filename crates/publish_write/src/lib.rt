@@ -1,4 +1,6 @@
 // A Publish, written, after `write` and `size` of publish.rs: first every refusal and the size, touching nothing, then the bytes.
+#![tactic(auto)]
+
 mod copy;
 mod frame;
 

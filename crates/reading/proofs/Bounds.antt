@@ -1,6 +1,6 @@
 -- The two numbers of 02's P7 are told by the record that is read and by the bytes it takes: a block that is read says where it stands. Assumes nothing.
 use mathlib.Core.Path.{◌≡◌, refl, sym, ap, ◌∙◌}
-use mathlib.Core.Bool.{Bool, true, false, not, ◌||◌}
+use mathlib.Core.Bool.{not, ◌||◌}
 use mathlib.Core.Option.{Option, none, some}
 use mathlib.Core.List.{List, [], ◌∷◌}
 use Prim.Native.Nat.{ℕ, ◌-◌, ◌≤◌}
@@ -9,12 +9,12 @@ use lib.Dec.{leb, leb→le}
 use lib.ListN.{length, take, drop, length-drop}
 use lib.Seq.{length-take-le}
 use Rattle.grammar.specs.Choice.{lookup, is_in, is_empty}
-use Rattle.grammar.specs.Record.{PropOf, PublishProps, publish_props, Props, props_of, Filter, PacketOf, publish, ack, subscribe, reply, unsubscribe, ping, unless_empty, mk_publish, mk_ack, mk_subscribe, mk_reply, mk_unsubscribe, mk_ping, flag_qos, kind_of}
+use Rattle.grammar.specs.Record.{PropOf, publish_props, Props, props_of, unless_empty, mk_publish, mk_ack, mk_subscribe, mk_reply, mk_unsubscribe, mk_ping, flag_qos, kind_of}
 use Rattle.grammar.specs.Tables.{Row, Layout, a_publish, an_ack, a_subscribe, a_reply, an_unsubscribe, a_ping, kinds, publish_row, subscribe_row, ack_row, unsubscribe_row, reserved, is_ping}
 use Rattle.grammar.specs.Sentence.{met, not_three}
-use Rattle.reading.specs.Refusal.{Refusal, cut, crossed, nr, Answer, accepted, refused, refused_as}
-use Rattle.reading.specs.Reader.{Fit, got, bad, Filler, Reader, ◌>>=◌, ◌>>◌, guard, run_fit, chain_fit, hand_fit, sized_of, then_fit, map_fit, exact_fit, is_fit}
-use Rattle.reading.specs.Read.{big_of, num_of, ident_of, bytes_of, block_of, once_of, properties_fit, publish_as, props_as, string_fit, any_bytes, message_fit, fields_fit, layout_fit, body_fit, body_answer, whole_answer, frame_answer, frame_of, read_as, ack_block_fit, ack_rest_fit, filters_fit, reasons_fit, topics_fit}
+use Rattle.reading.specs.Refusal.{cut, nr, Answer, accepted, refused}
+use Rattle.reading.specs.Reader.{Fit, got, bad, Filler, Reader, ◌>>=◌, run_fit, chain_fit, hand_fit, sized_of, then_fit, map_fit, exact_fit, is_fit}
+use Rattle.reading.specs.Read.{big_of, num_of, ident_of, bytes_of, block_of, once_of, properties_fit, props_as, string_fit, any_bytes, message_fit, fields_fit, layout_fit, body_fit, body_answer, whole_answer, frame_answer, frame_of, read_as, ack_block_fit, ack_rest_fit, filters_fit, reasons_fit, topics_fit}
 use Rattle.reading.specs.Place.{Span, span_of, as_places, Placed, read_placed_of}
 use Rattle.reading.specs.Bounds.{after_length, ack_bounds, after_identifier, field_bounds, kind_bounds, frame_bounds, if_accepted, bounds_of, ending_at, bounds_in, bounds_by}
 use Rattle.reading.proofs.Lists.{T_of, nil_of}

@@ -21,7 +21,7 @@ use Rattle.reading.specs.Reader.{Fit, got, bad, Reader, is_fit, only_fit, exact_
 use Rattle.reading.specs.Read.{num_of, ident_of, is_text, any_bytes, as_bytes, some_fit, reasons_fit, frame_of, body_answer, string_fit, bytes_of, text_of, value_of, value_at, property_of, once_of, properties_fit, block_of, publish_as, props_as, ack_block_fit, ack_rest_fit, filter_of, filters_fit, topics_fit, message_fit, fields_fit, layout_fit, body_fit, whole_answer, frame_answer, read_as, read_of}
 use Rattle.reading.proofs.Lists.{none_left}
 use Rattle.reading.proofs.Reading.{Reads, reads_only, fills_many}
-use Rattle.reading.proofs.Fields.{reads_byte, reads_big, reads_groups, reads_num, text_fine, reads_bytes, reads_text, reads_property, reads_once, once_solid}
+use Rattle.reading.proofs.Fields.{reads_byte, reads_big, reads_groups, reads_num, text_fine, reads_bytes, reads_text, reads_once, once_solid}
 use Rattle.reading.proofs.Packets.{reads_props, reads_ident, reads_filter, filter_solid, reads_publish_block, reason_solid, text_solid, kind_fine, fills_body}
 use Rattle.reading.proofs.Demand.{reads_length, reads_frame, whole_answer_lem}
 use Rattle.reading.proofs.Refusing.{got_bad, of_bind, of_guard, RefusesBy, refuses_byte, refuses_big, refuses_groups, refuses_none, refuses_map, refuses_fit, refuses_hand, refuses_then, refuses_end, refuses_only, refuses_by, refuses_exact, refuses_chain, refuses_many, refuses_head, refuses_sized, refuses_is}

@@ -11,11 +11,11 @@ use lib.Dec.{eqb, leb, leb→le}
 use lib.ListN.{length, length-append}
 use borrow.Author.Tests.{le-leb}
 use Rattle.grammar.specs.Choice.{is_in, lookup, is_empty}
-use Rattle.grammar.specs.Gram.{Gram, Only, both, sized, Many, is}
+use Rattle.grammar.specs.Gram.{Gram, both, sized, is}
 use Rattle.grammar.specs.Number.{byte}
 use Rattle.grammar.specs.Tables.{Form, u8, u16, u32, number, text, bytes, pair, Row, publish_row, subscribe_row, ack_row, unsubscribe_row, Layout, a_publish, an_ack, a_subscribe, a_reply, an_unsubscribe, a_ping, kinds, reserved, is_ping, listed, reasons_of, form_at}
 use Rattle.grammar.specs.Record.{Val, num, str, PropOf, last_from, last_of, all_of, unless_empty, publish_props, props_of, Props, kind_of, flag_qos, mk_publish, mk_ack, mk_filter, mk_subscribe, mk_reply, mk_unsubscribe, mk_ping}
-use Rattle.grammar.specs.Sentence.{Value, Prop, duo_of, not_zero, met, Properties, not_three, FilterOf, some_of, Packet, Frame}
+use Rattle.grammar.specs.Sentence.{Value, Prop, duo_of, not_zero, met, Properties, not_three, some_of, Packet, Frame}
 use Rattle.reading.specs.Refusal.{Refusal, nr, Answer, accepted, refused, cut, crossed}
 use Rattle.reading.specs.Reader.{Fit, got, bad, Filler, ◌>>◌, guard, only_of, is_fit}
 use Rattle.reading.specs.Read.{big_of, byte_of, num_of, ident_of, is_text, any_bytes, as_bytes, reasons_fit, frame_of, body_answer, string_fit, bytes_of, text_of, value_of, value_at, property_of, once_of, properties_fit, block_of, publish_as, props_as, ack_block_fit, ack_rest_fit, filter_of, filters_fit, topics_fit, message_fit, fields_fit, layout_fit, body_fit, whole_answer, frame_answer, read_as, read_of}

@@ -2,7 +2,7 @@
 use mathlib.Core.Path.{◌≡◌, refl, sym, ap, ◌∙◌}
 use mathlib.Core.Bool.{Bool, true, false, ◌||◌, false≢true}
 use mathlib.Core.Option.{Option}
-use mathlib.Core.List.{List, [], ◌∷◌, ◌++◌}
+use mathlib.Core.List.{List, [], ◌∷◌}
 use Prim.Native.Nat.{ℕ}
 use lib.Dec.{eqb}
 use lib.ListN.{length}
@@ -10,7 +10,7 @@ use borrow.Author.Tests.{eqb-true}
 use Rattle.grammar.specs.Choice.{is_in}
 use Rattle.grammar.specs.Sentence.{Packet}
 use Rattle.grammar.proofs.Tables.{count, chosen}
-use Rattle.reading.specs.Refusal.{Refusal, nr, Answer, accepted, refused, refused_as}
+use Rattle.reading.specs.Refusal.{nr, Answer, accepted, refused}
 use Rattle.reading.specs.Reader.{Fit, got, bad}
 use Rattle.reading.specs.Read.{as_bytes, body_fit, body_answer, whole_answer, read_of}
 use Rattle.reading.specs.Rows.{Overlong, Holds, holds}

@@ -1,7 +1,7 @@
 // The four publish acknowledgements as read, after puback.rs, pubrec.rs, pubrel.rs and pubcomp.rs, which share one layout.
 use crate::properties_record::MaybeProperties;
 
-#[derive(Drop)]
+#[derive(Clone, Copy)]
 pub enum AckKind {
     PubAck,
     PubRec,
@@ -9,7 +9,7 @@ pub enum AckKind {
     PubComp,
 }
 
-#[derive(Drop)]
+#[derive(Clone, Copy)]
 pub struct Ack {
     pub pkid: u16,
     // one of the reasons of its kind

@@ -1,5 +1,5 @@
 // The refusals of 01, in its order; `Error` of mqttbytes/mod.rs where the crate has the case.
-#[derive(Drop)]
+#[derive(Clone, Copy)]
 pub enum Error {
     // 1: how many bytes are lacking at least
     InsufficientBytes(usize),

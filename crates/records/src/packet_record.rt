@@ -5,7 +5,7 @@ use crate::reply_record::{Reply, ReplyKind};
 use crate::subscribe_record::Subscribe;
 use crate::unsubscribe_record::Unsubscribe;
 
-#[derive(Drop)]
+#[derive(Clone, Copy)]
 pub enum Packet {
     Publish(Publish),
     Ack(AckKind, Ack),

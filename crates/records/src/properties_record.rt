@@ -2,7 +2,7 @@
 // places. What the row of a place does not have is absent there.
 use crate::span::{MaybeSpan, MaybeU32, Span};
 
-#[derive(Drop)]
+#[derive(Clone, Copy)]
 pub struct Properties {
     pub reason_string: MaybeSpan,
     pub id: MaybeU32,
@@ -10,7 +10,7 @@ pub struct Properties {
     pub block: Span,
 }
 
-#[derive(Drop)]
+#[derive(Clone, Copy)]
 pub enum MaybeProperties {
     Absent,
     Present(Properties),

@@ -2,7 +2,7 @@
 use crate::qos::QoS;
 use crate::span::{MaybeSpan, MaybeU8, MaybeU16, MaybeU32, Span};
 
-#[derive(Drop)]
+#[derive(Clone, Copy)]
 pub struct Publish {
     pub dup: bool,
     pub qos: QoS,
@@ -14,13 +14,13 @@ pub struct Publish {
     pub properties: MaybePublishProperties,
 }
 
-#[derive(Drop)]
+#[derive(Clone, Copy)]
 pub enum MaybePublishProperties {
     Absent,
     Present(PublishProperties),
 }
 
-#[derive(Drop)]
+#[derive(Clone, Copy)]
 pub struct PublishProperties {
     pub payload_format_indicator: MaybeU8,
     pub message_expiry_interval: MaybeU32,

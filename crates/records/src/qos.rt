@@ -1,5 +1,5 @@
 // Quality of service, as in mqttbytes/mod.rs.
-#[derive(Drop)]
+#[derive(Clone, Copy)]
 pub enum QoS {
     AtMostOnce,
     AtLeastOnce,

@@ -2,13 +2,13 @@
 use crate::properties_record::MaybeProperties;
 use crate::span::Span;
 
-#[derive(Drop)]
+#[derive(Clone, Copy)]
 pub enum ReplyKind {
     SubAck,
     UnsubAck,
 }
 
-#[derive(Drop)]
+#[derive(Clone, Copy)]
 pub struct Reply {
     pub pkid: u16,
     // where the reasons stand, a byte each

@@ -4,7 +4,7 @@ use crate::properties_record::MaybeProperties;
 use crate::qos::QoS;
 use crate::span::Span;
 
-#[derive(Drop)]
+#[derive(Clone, Copy)]
 pub struct Subscribe {
     pub pkid: u16,
     // where the filters stand
@@ -12,14 +12,14 @@ pub struct Subscribe {
     pub properties: MaybeProperties,
 }
 
-#[derive(Drop)]
+#[derive(Clone, Copy)]
 pub enum RetainForwardRule {
     OnEverySubscribe,
     OnNewSubscribe,
     Never,
 }
 
-#[derive(Drop)]
+#[derive(Clone, Copy)]
 pub struct Filter {
     pub path: Span,
     pub qos: QoS,
@@ -29,7 +29,7 @@ pub struct Filter {
 }
 
 // The forward rule of a number.
-#[derive(Drop)]
+#[derive(Clone, Copy)]
 pub enum GotRule {
     Value(RetainForwardRule),
     Refused(Error),

@@ -2,7 +2,7 @@
 use crate::properties_record::MaybeProperties;
 use crate::span::Span;
 
-#[derive(Drop)]
+#[derive(Clone, Copy)]
 pub struct Unsubscribe {
     pub pkid: u16,
     // where the topics stand

@@ -1,6 +1,6 @@
 // What a program prints of a refusal beside its number and its name: the values.
 
-#[derive(Drop)]
+#[derive(Clone, Copy)]
 pub enum Values {
     None,
     One(usize),

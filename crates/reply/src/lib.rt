@@ -1,4 +1,6 @@
 // SubAck and UnsubAck, after suback.rs and unsuback.rs: the fields of a frame from an index to the end of the slice, one read for both.
+#![tactic(auto)]
+
 ghost use Rattle.std.specs.Prelude.{◌≡◌, ℕ, length, drop};
 ghost use Rattle.grammar.specs.Tables.{a_reply, reasons_of};
 ghost use Rattle.grammar.specs.Record as record_of;
@@ -20,13 +22,13 @@ use tables::property::OtherRow;
 use tables::reason::is_reply_reason;
 
 // Where the reasons stand.
-#[derive(Drop)]
+#[derive(Clone, Copy)]
 pub enum GotReasons {
     Place(Span),
     Refused(Error),
 }
 
-#[derive(Drop)]
+#[derive(Clone, Copy)]
 pub enum GotReply {
     Value(Reply),
     Refused(Error),

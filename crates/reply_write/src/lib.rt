@@ -1,5 +1,7 @@
 // A SubAck or UnsubAck, written, after `write` and `size` of suback.rs and unsuback.rs: first every refusal and the size, touching nothing,
 // then the bytes. An empty reason list is refused, and a reason that its kind does not list.
+#![tactic(auto)]
+
 ghost use Rattle.std.specs.Prelude.{◌≡◌, not, [], map};
 ghost use Rattle.grammar.specs.Choice.{is_empty};
 ghost use Rattle.grammar.specs.Tables.{reasons_of, first_of};
@@ -28,7 +30,7 @@ use write_runs::run;
 use write_tests::Tested;
 
 // What is handed over by value; the reason string, the user properties and the reasons are lent beside it.
-#[derive(Drop)]
+#[derive(Clone, Copy)]
 pub struct ReplyHead {
     pub kind: ReplyKind,
     pub pkid: u16,

@@ -1,4 +1,6 @@
 // Leaves (`numbers`, `utf8`) for the benchmark in oracle/, as functions that Rust calls: one text or one number a call, or a whole run of numbers.
+#![tactic(auto)]
+
 ghost use Rattle.std.specs.Prelude.{◌≡◌};
 ghost use Rattle.reading.specs.Refusal.{cut};
 ghost use Rattle.reading.specs.Read.{is_text, num_of};

@@ -1,4 +1,6 @@
 // Reading frame after frame, for the benchmark in oracle/, as a function that Rust calls.
+#![tactic(auto)]
+
 ghost use Rattle.std.specs.Prelude.{◌≡◌};
 ghost use Rattle.records.specs.Said.{told_packet};
 ghost use Rattle.speed_reading.specs.Sum.{weight_of, frames_sum};

@@ -1,4 +1,6 @@
 // Writing a Publish, for the benchmark in oracle/, as a function that Rust calls.
+#![tactic(auto)]
+
 ghost use Rattle.std.specs.Prelude.{◌≡◌, []};
 ghost use Rattle.packet_write.specs.Parts.{parts};
 ghost use Rattle.speed_writing.specs.Count.{qos_for, bench_head, Counted};

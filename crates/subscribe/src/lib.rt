@@ -1,4 +1,6 @@
 // Subscribe, after `Subscribe::read` of subscribe.rs: the fields of a frame from an index to the end of the slice.
+#![tactic(auto)]
+
 ghost use Rattle.std.specs.Prelude.{◌≡◌, ℕ, length, drop};
 ghost use Rattle.grammar.specs.Tables.{a_subscribe};
 ghost use Rattle.reading.specs.Read.{fields_fit};
@@ -14,7 +16,7 @@ use records::error::Error;
 use records::subscribe_record::Subscribe;
 use tables::property::OtherRow;
 
-#[derive(Drop)]
+#[derive(Clone, Copy)]
 pub enum GotSubscribe {
     Value(Subscribe),
     Refused(Error),

@@ -1,5 +1,7 @@
 // A Subscribe, written, after `write` and `size` of subscribe.rs: first every refusal and the size, touching nothing, then the bytes. An
 // empty filter list is refused (D6).
+#![tactic(auto)]
+
 mod filter;
 
 ghost use Rattle.std.specs.Prelude.{◌≡◌, List, ◌++◌, ℕ, ◌≤◌};
@@ -29,7 +31,7 @@ use write_runs::run;
 use write_tests::Tested;
 
 // What is handed over by value; the user properties and the filters are lent beside it.
-#[derive(Drop)]
+#[derive(Clone, Copy)]
 pub struct SubscribeHead {
     pub pkid: u16,
     // whether there are properties

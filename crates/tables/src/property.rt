@@ -5,7 +5,7 @@ ghost use Rattle.grammar.specs.Tables.{publish_row, subscribe_row, ack_row, unsu
 ghost use Rattle.tables.specs.Property.{told_form, table_row, other_of};
 
 // Which row of 01's table.
-#[derive(Drop)]
+#[derive(Clone, Copy)]
 pub enum PropertyRow {
     Publish,
     Subscribe,
@@ -14,7 +14,7 @@ pub enum PropertyRow {
 }
 
 // A row that is not Publish's.
-#[derive(Drop)]
+#[derive(Clone, Copy)]
 pub enum OtherRow {
     Subscribe,
     Ack,
@@ -22,7 +22,7 @@ pub enum OtherRow {
 }
 
 // The form of a property's value, or that the row has no such property.
-#[derive(Drop)]
+#[derive(Clone, Copy)]
 pub enum PropertyForm {
     U8,
     U16,

@@ -5,7 +5,7 @@ ghost use Rattle.tables.specs.Qos.{told_got_qos, qos_of};
 use records::error::Error;
 use records::qos::QoS;
 
-#[derive(Drop)]
+#[derive(Clone, Copy)]
 pub enum GotQos {
     Value(QoS),
     Refused(Error),

@@ -1,4 +1,6 @@
 // Text, character by character, after the Unicode table of well-formed sequences; and what the quicker tests above ask of single bytes.
+#![tactic(auto)]
+
 ghost use Rattle.std.specs.Prelude.{◌≡◌, ◌<◌, ◌≤◌, length, drop};
 ghost use Rattle.reading.specs.Read.{is_text};
 ghost use Rattle.text_chars.specs.Text.{continues, low_of, high_of, flaw_of, Followed, Passed};

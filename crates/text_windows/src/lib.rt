@@ -1,4 +1,6 @@
 // Text by windows: each byte is held against the three before it, sixteen at a time and with no branch.
+#![tactic(auto)]
+
 ghost use Rattle.std.specs.Prelude.{◌≡◌, ◌+◌, ◌-◌, ◌<◌, ◌≤◌, true, not, ltb, length, take, drop, if◌then◌else◌, ◌==◌, nat_lt};
 ghost use Rattle.reading.specs.Read.{is_text};
 ghost use Rattle.text_chars.specs.Text.{continues, all_ascii};

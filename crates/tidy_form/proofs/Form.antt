@@ -2,30 +2,30 @@
 -- a string or a property is left. Assumes nothing.
 use mathlib.Core.Path.{◌≡◌, refl, sym, ap, ◌∙◌, subst}
 use mathlib.Core.Bool.{Bool, true, false, not, false≢true}
-use mathlib.Core.Option.{Option, some}
+use mathlib.Core.Option.{some}
 use mathlib.Core.Logic.{◌↔◌}
-use mathlib.Core.List.{List, [], ◌∷◌, ◌++◌}
+use mathlib.Core.List.{List, ◌∷◌, ◌++◌}
 use Prim.Native.Nat.{ℕ, zero, suc, ◌+◌, ◌*◌, ◌/◌, ◌≤◌}
 use native.Mathlib.Omega.{arith}
 use lib.Dec.{eqb, eqb-suc-zero}
 use lib.ListN.{length}
 use borrow.Author.Tests.{eqb-true}
 use Rattle.grammar.specs.Choice.{lookup}
-use Rattle.grammar.specs.Gram.{mapped, only, both, sized, done, more, Many, Is, is}
+use Rattle.grammar.specs.Gram.{mapped, only, both, sized, done, more, Many, is}
 use Rattle.grammar.specs.Number.{byte, Spells}
 use Rattle.grammar.specs.Octets.{Octets}
-use Rattle.grammar.specs.Tables.{u16, bytes, Row, publish_row, reasons, release_reasons, Layout, a_publish, an_ack, a_subscribe, a_reply, an_unsubscribe, a_ping, kinds}
+use Rattle.grammar.specs.Tables.{u16, bytes, Row, publish_row, Layout, a_publish, an_ack, a_subscribe, a_reply, an_unsubscribe, a_ping, kinds}
 use Rattle.grammar.specs.Record.{num, str, Publish, kind_of, flag_dup, flag_qos, flag_retain}
 use Rattle.grammar.specs.Record as g
 use Rattle.grammar.specs.Gram.{nothing}
-use Rattle.grammar.specs.Sentence.{Prop, Property, none_twice, Block, publish_of, not_zero, Ident, Packet, Fields, body, framed, Sentence}
+use Rattle.grammar.specs.Sentence.{Prop, Property, none_twice, Block, publish_of, Ident, Packet, Fields, body, framed, Sentence}
 use Rattle.grammar.proofs.Numbers.{spells_small}
 use Rattle.reading.proofs.Lists.{lookup_each}
 use Rattle.writing.specs.Lists.{flat}
-use Rattle.writing.specs.Spell.{short, wide, string, numeral, value, counted}
+use Rattle.writing.specs.Spell.{short, string, numeral, value, counted}
 use Rattle.writing.specs.Write.{first_byte, ident_bytes}
 use Rattle.writing.proofs.Each.{each_tail, each_left, each_right}
-use Rattle.writing.proofs.Tests.{eq_not, all_when}
+use Rattle.writing.proofs.Tests.{all_when}
 use Rattle.writing.proofs.Says.{says_short}
 use Rattle.writing.proofs.Shortest.{one_spelling}
 use Rattle.writing.proofs.Once.{value_once, property_once}

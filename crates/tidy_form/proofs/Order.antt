@@ -14,7 +14,7 @@ use Rattle.grammar.specs.Gram.{done, more, Many}
 use Rattle.grammar.specs.Octets.{Each, nil, ◌&◌, Octets}
 use Rattle.grammar.specs.Tables.{Form, Forms, Row, is_list, form_at}
 use Rattle.grammar.specs.Record.{last_from, last_of, all_of}
-use Rattle.grammar.specs.Sentence.{Value, Prop, Property, property, none_twice}
+use Rattle.grammar.specs.Sentence.{Value, Prop, Property, none_twice}
 use Rattle.grammar.proofs.Once.{none_twice_lem}
 use Rattle.writing.specs.Lists.{flat}
 use Rattle.writing.specs.Handed.{Givens, items, tag}

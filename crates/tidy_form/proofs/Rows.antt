@@ -10,7 +10,7 @@ use lib.Dec.{eqb}
 use lib.ListN.{length, length-append}
 use lib.Seq.{take-append_seam, drop-append_seam}
 use borrow.Author.Tests.{eqb-true}
-use Rattle.grammar.specs.Tables.{Form, number, bytes, pair, Row, form_at}
+use Rattle.grammar.specs.Tables.{Form, number, pair, Row, form_at}
 use Rattle.grammar.specs.Record.{num, str, duo, last_from, last_of, all_of}
 use Rattle.grammar.specs.Sentence.{Value, Prop}
 use Rattle.grammar.specs.Octets.{Each, nil, ◌&◌, Octets}

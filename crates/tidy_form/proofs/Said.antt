@@ -2,7 +2,7 @@
 use mathlib.Core.Path.{◌≡◌, refl, sym, ap, ◌∙◌}
 use mathlib.Core.Bool.{Bool, true, false, not, ◌||◌, cond, false≢true}
 use mathlib.Core.Option.{Option, none, some}
-use mathlib.Core.List.{List, [], ◌∷◌, ◌++◌}
+use mathlib.Core.List.{List, [], ◌++◌}
 use Prim.Native.Nat.{ℕ, zero, suc, ◌+◌, ◌≤◌, ◌<◌}
 use native.Mathlib.Omega.{arith}
 use lib.Dec.{eqb}
@@ -15,7 +15,7 @@ use Rattle.grammar.specs.Tables.{publish_row, subscribe_row, ack_row, unsubscrib
 use Rattle.grammar.specs.Record.{Props, Publish, Filter, Subscribe, Ack, Reply, Unsubscribe, kind_of, flag_qos, mk_filter}
 use Rattle.grammar.specs.Sentence.{Any, publish_of, props_if, not_three, not_zero, Ident, qos_fine, rule_fine, FilterOf, some_of, AckRest, plain, coded, full, ReasonOf, Text, Packet, Fields, body, framed, Sentence}
 use Rattle.grammar.specs.Record as g
-use Rattle.grammar.specs.Octets.{Each, nil, ◌&◌, Octet, Octets}
+use Rattle.grammar.specs.Octets.{Each, nil, Octet, Octets}
 use Rattle.reading.proofs.Lists.{lookup_each}
 use Rattle.writing.specs.Lists.{total}
 use Rattle.writing.specs.Size.{most, ident_size}

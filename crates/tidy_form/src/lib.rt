@@ -1,1 +1,2 @@
 // The tidy form of a frame, as definitions and laws.
+#![tactic(auto)]

@@ -1,5 +1,7 @@
 // The tidy form of a frame, 02's P14: what would be written of the record that was read. After P8 and P9 it is the frame's own bytes, with the
 // properties in the order of the table; so they are copied, and no lengths are lent.
+#![tactic(auto)]
+
 ghost use Rattle.std.specs.Prelude.{◌≡◌, cond, [], ◌∷◌, ◌-◌, ◌≤◌, ◌<◌, eqb, length, take, drop, get_or};
 ghost use Rattle.std.proofs.lemmas.List.Edits.{sets};
 ghost use Rattle.grammar.specs.Choice.{lookup};
@@ -22,7 +24,7 @@ use write_bytes::put_bytes;
 use write_runs::run;
 
 // The size of the tidy form that was put, and how many bytes of the stream are taken; or the refusal, and how many.
-#[derive(Drop)]
+#[derive(Clone, Copy)]
 pub enum Tidied {
     Put(usize, usize),
     Refused(Error, usize),
@@ -262,7 +264,7 @@ fn tidy_ping(first: u8, n: usize, out: &mut [u8]) -> Tidied
 }
 
 // How the tidy form of a frame is put, with its first byte.
-#[derive(Drop)]
+#[derive(Clone, Copy)]
 enum Way {
     // it has the frame's length: a block of this row
     Block(PropertyRow, u8),
@@ -316,7 +318,7 @@ fn tidy_frame(s: &[u8], start: usize, end: usize, out: &mut [u8]) -> Tidied
 }
 
 // The frame at the start of a stream: where its properties start and end, and how many bytes it takes; or the refusal, and how many.
-#[derive(Drop)]
+#[derive(Clone, Copy)]
 enum Found {
     Frame(usize, usize, usize),
     Refused(Error, usize),

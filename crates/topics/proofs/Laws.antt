@@ -1,18 +1,18 @@
 -- Bytes from one index to another, levels and wildcards, and what the first levels decide. Assumes nothing.
 use mathlib.Core.Path.{◌≡◌, refl, sym, ap, ◌∙◌}
 use mathlib.Core.Bool.{Bool, true, false, not, ◌&&◌, ◌||◌, cond, false≢true, or-true, and-false}
-use mathlib.Core.List.{List, [], ◌∷◌, ◌++◌}
+use mathlib.Core.List.{List, [], ◌∷◌}
 use Prim.Native.Nat.{ℕ, zero, suc, ◌+◌, ◌-◌, ◌≤◌, ◌<◌}
 use native.Mathlib.Omega.{arith}
 use native.Mathlib.Numerals.{add-one}
 use lib.Bits.{bit_or, or_lt, or_add_and, and_le_l, and_le_r}
 use lib.Dec.{eqb, leb, ltb}
-use lib.ListN.{length, take, drop, get_or, length-drop, drop_of_length-le}
+use lib.ListN.{length, take, drop, get_or, length-drop}
 use lib.Seq.{drop-drop, take_all, take-length, get_or-take, length-take-le}
 use borrow.Author.Tests.{eq-eqb, ne_eqb, eqb-true, eqb-false, le-leb, lt-leb, leb-true, leb-false, not-true, not-false}
 use Rattle.topics.specs.Levels.{Level, slash, hash, plus, on_first, levels, is_wild, has_wild, lone, level_fine, levels_fine, valid_filter}
 use Rattle.topics.specs.Match.{same, meets, rest_matches, begins}
-use Rattle.topics.specs.Step.{Clear, Hit, Asked, First, wild_at, slash_at, differ_at, level_len, Ends, ends_at, HaveMet, Decides, Halves}
+use Rattle.topics.specs.Step.{Clear, Asked, First, wild_at, slash_at, differ_at, level_len, Ends, ends_at, HaveMet, Decides, Halves}
 use Rattle.topics.specs.declared.Met.{Met}
 use Rattle.topics.specs.declared.Met.TheVariants.{Decided, Rest}
 
@@ -50,7 +50,7 @@ module _ (p : ℕ → Bool) (a : ℕ) where
   pub first_within : (m e r : ℕ) → m ≤ e → r < m → First p a m r → First p a e r
   first_within m e r l h f = record { low = f.low; high = omega arith; clear = f.clear; found = λ _. f.found h }
 
--- ---- marks, gathered by ``|``
+-- ---- marks, gathered by `|`
 
 pub both : (a b : Bool) → (a && b) ≡ true → (a ≡ true) × (b ≡ true)
 both true b e = (refl, e)

@@ -23,7 +23,7 @@ abbrev pub on_first : ℕ → List Level → List Level
 on_first c [] = []
 on_first c (l ∷ ls) = (c ∷ l) ∷ ls
 
--- MQTT 4.7.1.1: the levels, cut at each separator; the crate's `split('/')```: a text without separator, the empty one too, is one level
+-- MQTT 4.7.1.1: the levels, cut at each separator; the crate's `split('/')`: a text without separator, the empty one too, is one level
 unfoldable pub levels : List ℕ → List Level
 levels [] = [] ∷ []
 levels (c ∷ s) = cond (eqb c slash) ([] ∷ levels s) (on_first c (levels s))

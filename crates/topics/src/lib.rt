@@ -1,5 +1,7 @@
 // Topics and filters over bytes, after mqttbytes/mod.rs: `has_wildcards`, `valid_topic`, `valid_filter`, `matches`. Short levels go byte by byte,
 // longer ones by sixteens, which the compiler tests at once.
+#![tactic(auto)]
+
 ghost use Rattle.std.specs.Prelude.{◌≡◌, not, true, ◌+◌, ◌-◌, ◌≤◌, ◌<◌, ltb, length, take};
 ghost use Rattle.topics.specs.Levels.{levels, is_wild, has_wild, lone, hash, plus, level_fine, levels_fine, valid_topic, valid_filter};
 ghost use Rattle.topics.specs.Match.{same, rest_matches, matches_of, barred};
@@ -7,7 +9,7 @@ ghost use Rattle.topics.specs.Step.{Clear, Asked, First, wild_at, slash_at, diff
 
 // ---- bytes
 
-// A mark that ``|`` gathers: its top bit is set just where hit is true.
+// A mark that `|` gathers: its top bit is set just where hit is true.
 fn mark(hit: bool) -> u8
     ensures { ltb result 128 ≡ not hit }
 {
@@ -314,7 +316,7 @@ pub fn valid_filter(filter: &[u8]) -> bool
 // ---- matching
 
 // What the first levels of topic and filter say: the answer, or where the rest of each begins.
-#[derive(Drop)]
+#[derive(Clone, Copy)]
 enum Met {
     Decided(bool),
     Rest(usize, usize),

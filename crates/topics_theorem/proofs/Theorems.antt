@@ -1,17 +1,17 @@
 -- The theorems of P5. `levels_iff`: `levels` is the one way to cut a text at its separators. `wildcards_iff`, `wild_iff`, `filter_iff`: which
 -- texts have wildcards, which topics and filters are valid. `matches_iff`: which filter matches which topic, for all bytes. `standard_iff`: for
 -- valid ones it is MQTT 4.7. Assumes nothing.
-use mathlib.Core.Path.{◌≡◌, refl, sym, ap, subst, ◌∙◌}
+use mathlib.Core.Path.{◌≡◌, refl, sym, ap, ◌∙◌}
 use mathlib.Core.Logic.{◌↔◌}
 use mathlib.Core.Bool.{Bool, true, false, not, ◌&&◌, ◌||◌, cond, false≢true, or-true}
 use mathlib.Core.List.{List, [], ◌∷◌, ◌++◌}
-use Prim.Native.Nat.{ℕ, suc, ◌+◌, ◌≤◌, ◌<◌}
+use Prim.Native.Nat.{ℕ, ◌+◌}
 use native.Mathlib.Omega.{arith}
 use lib.Dec.{eqb}
-use lib.ListN.{length, take}
+use lib.ListN.{take}
 use borrow.Author.Tests.{eq-eqb, ne_eqb, eqb-true, eqb-false, not-true}
 use Rattle.topics.specs.Levels.{Level, slash, hash, plus, on_first, levels, is_wild, has_wild, lone, valid_topic, level_fine, levels_fine, valid_filter}
-use Rattle.topics.specs.Match.{same, meets, rest_matches, begins, barred, matches_of}
+use Rattle.topics.specs.Match.{same, rest_matches, barred, matches_of}
 use Rattle.topics.specs.Step.{level_len}
 use Rattle.topics_theorem.specs.Standard.{joined, Without, Uncut, IsCut, Wild, has_plus, has_hash, further, of_hash, of_plus, Matches, ends, hashes, pluses, equals, Covers, done, below, one, itself, Plain, Proper, last_hash, last_plus, last_plain, then_plus, then_plain, Barred, by_plus, by_hash, IsMatch, IsCovered}
 use Rattle.topics.proofs.Laws.{both, same_is, same_refl, tail_levels, levels_head}

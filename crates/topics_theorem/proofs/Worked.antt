@@ -1,7 +1,7 @@
 -- MQTT's own examples (4.7.1.2, 4.7.1.3, 4.7.2) and P5's rules, by computation. Assumes nothing.
 use mathlib.Core.Path.{◌≡◌, refl}
-use mathlib.Core.Bool.{Bool, true, false, ◌&&◌, not}
-use mathlib.Core.List.{List, [], ◌∷◌, ◌++◌}
+use mathlib.Core.Bool.{Bool, true, ◌&&◌, not}
+use mathlib.Core.List.{List, [], ◌∷◌}
 use Prim.Native.Nat.{ℕ}
 use Rattle.topics.specs.Levels.{Level, levels, has_wild, lone, levels_fine, valid_filter}
 use Rattle.topics.specs.Match.{same, rest_matches, matches_of}

@@ -2,6 +2,8 @@
 // (oracle/alias --rows, --lines), which was written from 02's P6 and not from this code. A line is the row, the number of the refusal or 0, the
 // slice that the topic in force lies in (1 the packet, 2 the table), its start and its length there, its first letter, and a sum over the
 // table that is left behind.
+#![tactic(auto)]
+
 mod row;
 
 fn main() {

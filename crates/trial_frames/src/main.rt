@@ -1,5 +1,7 @@
 // Runs every row of 01's table "Frames on the bench", frames of 02's kinds and rules, a line for each frame, and counts them. The file stdout
 // was written from the table and the rules.
+#![tactic(auto)]
+
 mod show;
 
 ghost use Rattle.std.specs.Prelude.{◌≤◌};

@@ -3,6 +3,8 @@
 // the port. A row has twelve bytes: what comes, an identifier, a reason. `q` is a claim, with a QoS for the identifier; 4 to 7 is an answer
 // of that kind; `x` puts the reason into the lent byte of the identifier. A line is the row, then the number of the answer, what it gives, how
 // many wait and what the identifier waits for; and of the lent bytes the answer's number, what it gives, whether they are a table, and how many wait.
+#![tactic(auto)]
+
 ghost use Rattle.std.specs.Prelude.{◌≤◌};
 
 use c_inflight::{

@@ -1,5 +1,7 @@
 // Streams cut into pieces of 1 to 16 bytes, with a piece of no bytes behind each: the answer to every frame, and in which slice it lies. The file
 // stdout was written by the model of oracle/ (`pieces rows`).
+#![tactic(auto)]
+
 ghost use Rattle.std.specs.Prelude.{◌<◌, ◌≤◌};
 
 use pieces;

@@ -1,10 +1,12 @@
 // Replays rows of topic and filter through the functions that C calls, a line for each, and counts. The rows are the file stdin, a topic, a tab, a
 // filter and a newline each; the file stdout was made from 02 and MQTT 4.7 by oracle/topics-rows.
+#![tactic(auto)]
+
 ghost use Rattle.std.specs.Prelude.{◌≤◌, length};
 
 use std::num;
 
-#[derive(Drop)]
+#[derive(Clone, Copy)]
 struct Counts {
     rows: u64,
     wild: u64,

@@ -1,6 +1,8 @@
 // Runs 01's and 02's worked values of writing, a line for each, and counts them: the leaf writers, then records through `packet_write`, the size
 // asked alone before the write. Each line ends with the output, which held aa before, or its first 44 bytes. The file stdout was written
 // from 01 and 02. hand.rt has the fields of a row.
+#![tactic(auto)]
+
 mod hand;
 mod show;
 mod text;

@@ -1,4 +1,6 @@
 // Unsubscribe, after unsubscribe.rs: the fields of a frame from an index to the end of the slice.
+#![tactic(auto)]
+
 ghost use Rattle.std.specs.Prelude.{◌≡◌, ℕ, length, drop};
 ghost use Rattle.grammar.specs.Tables.{an_unsubscribe};
 ghost use Rattle.reading.specs.Read.{text_of, fields_fit};
@@ -18,13 +20,13 @@ use wire::got::GotSpan;
 use wire::string;
 
 // Where the topics stand.
-#[derive(Drop)]
+#[derive(Clone, Copy)]
 pub enum GotTopics {
     Place(Span),
     Refused(Error),
 }
 
-#[derive(Drop)]
+#[derive(Clone, Copy)]
 pub enum GotUnsubscribe {
     Value(Unsubscribe),
     Refused(Error),

@@ -1,5 +1,7 @@
 // An Unsubscribe, written, after `write` and `size` of unsubscribe.rs: first every refusal and the size, touching nothing, then the bytes.
 // An empty topic list is refused.
+#![tactic(auto)]
+
 mod topic;
 
 ghost use Rattle.std.specs.Prelude.{◌≡◌, ◌++◌, map, ◌≤◌};
@@ -29,7 +31,7 @@ use write_runs::run;
 use write_tests::Tested;
 
 // What is handed over by value; the user properties and the topics are lent beside it.
-#[derive(Drop)]
+#[derive(Clone, Copy)]
 pub struct UnsubscribeHead {
     pub pkid: u16,
     // whether there are properties

@@ -1,5 +1,7 @@
 // UTF-8: the validator in place of `String::from_utf8` of v5/mod.rs. Up to 256 bytes that are all ASCII are passed at once; any other text is
 // tested by windows (`text_windows`), or by characters if it is short (`text_chars`).
+#![tactic(auto)]
+
 ghost use Rattle.std.specs.Prelude.{◌≡◌, true, ◌+◌, ◌-◌, ◌≤◌, ◌<◌, length, take, drop};
 ghost use Rattle.reading.specs.Read.{is_text};
 ghost use Rattle.utf8.specs.Text.{all_ascii};

@@ -12,7 +12,7 @@ use numbers::got::GotU32;
 use records::error::Error;
 
 // The number that stands at an index, with no word yet on what a number cut off means: the header and a frame refuse it in different ways.
-#[derive(Drop)]
+#[derive(Clone, Copy)]
 pub enum GotLength {
     // the number, and how many bytes spell it
     Number(u32, usize),

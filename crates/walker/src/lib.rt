@@ -1,5 +1,7 @@
 // The user properties of a frame, one after another: a walker that holds the frame. The borrow checker covers no function over such a
 // struct, so `make` and `next` are thin, and proved by hand; `begin_at` and `step_at` do the work.
+#![tactic(auto)]
+
 ghost use Rattle.std.proofs.Math.Option.{none, some};
 ghost use Rattle.std.specs.Prelude.{◌≡◌};
 ghost use Rattle.grammar.specs.Tables.{publish_row};
@@ -22,14 +24,14 @@ use tables::property::PropertyRow;
 use wire::string;
 
 // The next user property, and where the walk stands after it.
-#[derive(Drop)]
+#[derive(Clone, Copy)]
 pub struct Step {
     pub item: UserItem,
     pub at: usize,
 }
 
 // Where a walk begins and ends, and which row says what may stand there.
-#[derive(Drop)]
+#[derive(Clone, Copy)]
 pub struct Block {
     pub at: usize,
     pub end: usize,

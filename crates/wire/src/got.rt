@@ -2,7 +2,7 @@
 use records::error::Error;
 use records::span::Span;
 
-#[derive(Drop)]
+#[derive(Clone, Copy)]
 pub enum GotSpan {
     Value(Span, usize),
     Refused(Error),

@@ -7,7 +7,7 @@ use Rattle.grammar.specs.Text.{rows}
 use Rattle.grammar.specs.Tables.{publish_row, subscribe_row, ack_row, unsubscribe_row, reasons, release_reasons, sub_ack_reasons, unsub_ack_reasons, kinds}
 use Rattle.grammar.specs.Record.{last_of, all_of, publish_props, props_of}
 use Rattle.reading.specs.Refusal.{nr, within, over}
-use Rattle.reading.specs.Reader.{Fit, got, bad, none_of, never_of, map_of, only_of, only_by_of, head_of, then_of, sized_of, is_fit, map_fit, hand_fit, only_fit, then_fit, exact_fit, run_fit, chain_fit}
+use Rattle.reading.specs.Reader.{got, bad, none_of, never_of, map_of, only_of, only_by_of, head_of, then_of, sized_of, is_fit, map_fit, hand_fit, only_fit, then_fit, exact_fit, run_fit, chain_fit}
 use Rattle.reading.specs.Read.{big_of, byte_of, group_of, groups_of, num_of, ident_of, follow_of, rest_of, char_of, is_text, frame_of, body_answer, string_fit, bytes_of, text_of, value_of, value_at, property_of, once_of, properties_fit, block_of, ack_block_fit, ack_rest_fit, reasons_fit, filter_of, filters_fit, topics_fit, message_fit, fields_fit, layout_fit, body_fit, whole_answer, frame_answer, read_as}
 use Rattle.reading.specs.Place.{again, values_at, user_at, subscription_at, filter_at, reason_at, topic_at}
 use Rattle.reading.specs.Bounds.{field_bounds, frame_bounds, bounds_of}

@@ -1,5 +1,7 @@
 // The properties of every acknowledgement as they are written, after `write` of the properties in puback.rs to unsuback.rs: a reason
 // string (31), then user properties (38), one put for six kinds.
+#![tactic(auto)]
+
 ghost use Rattle.std.specs.Prelude.{◌≡◌, ◌++◌};
 ghost use Rattle.grammar.specs.Tables.{ack_row};
 ghost use Rattle.writing.specs.Lists.{flat};

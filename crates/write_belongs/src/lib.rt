@@ -1,5 +1,7 @@
 // Whether what is handed over for a row belongs together (01, row 20): lengths that add up, pairs that are whole, and nothing for what is
 // absent. The crate has no such test: its lists carry their own lengths.
+#![tactic(auto)]
+
 ghost use Rattle.std.specs.Prelude.{◌≡◌, ◌&&◌};
 ghost use Rattle.writing.specs.Handed.{several, row_belongs};
 ghost use Rattle.write_runs.specs.Given.{given_u8, given_u16, given_u32, given_lent, given_pairs};

@@ -1,5 +1,7 @@
 // The variable length number as it is written, after `write_remaining_length` of v5/mod.rs: the shortest spelling, low group first.
 // The put has no refusal: what does not fit puts nothing. `write_remaining_length` refuses.
+#![tactic(auto)]
+
 ghost use Rattle.std.specs.Prelude.{◌≡◌, ◌≤◌, ◌<◌};
 ghost use Rattle.std.proofs.Math.ListN as list;
 ghost use Rattle.std.proofs.lemmas.List.Edits.{sets};

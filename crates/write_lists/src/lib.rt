@@ -1,5 +1,7 @@
 // The bytes of the rows that are lists, user properties and subscription identifiers, after `write` of the properties in publish.rs,
 // subscribe.rs and puback.rs: put at an index of an output, as `write_properties` puts the other rows.
+#![tactic(auto)]
+
 ghost use Rattle.std.specs.Prelude.{◌≡◌, false, ◌∷◌, ◌++◌, ◌+◌, ◌*◌, ◌^◌, ◌≤◌, ◌<◌, length, drop};
 ghost use Rattle.grammar.specs.Tables.{number, pair};
 ghost use Rattle.writing.specs.Handed.{several};

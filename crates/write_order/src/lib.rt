@@ -1,5 +1,7 @@
 // How every kind is written (01, writing order): the refusals in their order from what a kind has found, and its size. The crate's
 // `write` of each kind repeats these lines, and tests the limit first (D7).
+#![tactic(auto)]
+
 ghost use Rattle.std.specs.Prelude.{◌≡◌, ◌+◌, ◌≤◌};
 ghost use Rattle.writing.specs.Size.{most, with_length};
 ghost use Rattle.writing.specs.Order.{judge, limit_tests};

@@ -2,6 +2,8 @@
 // puts them at an index of an output and gives how many they are. What would lie past the end is not stored, and of a number or a string that
 // does not fit nothing is put. The rows that are lists are
 // put by `write_lists`.
+#![tactic(auto)]
+
 ghost use Rattle.std.specs.Prelude.{◌∷◌, [], ◌≤◌};
 ghost use Rattle.grammar.specs.Tables.{Form, u8, u16, u32, number};
 ghost use Rattle.writing.specs.Spell.{row_bytes};

@@ -1,6 +1,8 @@
 // How many bytes a length takes, after `len_len` of v5/mod.rs, and a row, after `len` of the properties in publish.rs, subscribe.rs and
 // puback.rs. A sum is cut off one above the
 // largest R, which is as much of it as refusal 17 needs: no sum can wrap.
+#![tactic(auto)]
+
 ghost use Rattle.std.specs.Prelude.{◌≡◌, ◌+◌, ◌≤◌};
 ghost use Rattle.grammar.specs.Tables.{Form, u8, u16, u32, number, pair};
 ghost use Rattle.writing.specs.Handed.{several};

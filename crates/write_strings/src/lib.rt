@@ -1,5 +1,7 @@
 // Strings as they are written, a u16 length and that many bytes: `write_mqtt_bytes` of v5/mod.rs. The put has no refusal: what does not
 // fit puts nothing. `write_mqtt_bytes` refuses.
+#![tactic(auto)]
+
 ghost use Rattle.std.specs.Prelude.{◌≡◌, ◌≤◌, length};
 ghost use Rattle.std.proofs.lemmas.List.Edits.{sets};
 ghost use Rattle.writing.specs.Spell.{string};

@@ -1,11 +1,11 @@
 -- Fields tested one by one: those that are fine are passed, the first that is not says the refusal. Assumes nothing.
-use mathlib.Core.Path.{◌≡◌, refl, sym, ap, ◌∙◌}
+use mathlib.Core.Path.{◌≡◌, sym, ap, ◌∙◌}
 use mathlib.Core.Bool.{true, false}
 use mathlib.Core.List.{List, [], ◌∷◌, append-nil}
 use Prim.Native.Nat.{ℕ, ◌≤◌, ◌<◌}
 use borrow.Author.Tests.{le-leb, lt-leb, ne_eqb}
 use Rattle.reading.specs.Refusal.{Refusal, nr}
-use Rattle.reading.specs.Reader.{Fit, got, bad, ◌>>◌}
+use Rattle.reading.specs.Reader.{got, bad, ◌>>◌}
 use Rattle.reading.specs.Read.{is_text}
 use Rattle.writing.specs.Lists.{flat}
 use Rattle.writing.specs.Size.{most}

@@ -1,5 +1,7 @@
 // The tests of fields as they are written (01, writing order): 18, and 9 for text; 17 for an identifier; then those of lists of them.
 // Those of filters are in `subscribe_write`. The crate makes none of them before it writes.
+#![tactic(auto)]
+
 ghost use Rattle.std.specs.Prelude.{◌≡◌, map};
 ghost use Rattle.grammar.specs.Tables.{text, bytes as bytesForm};
 ghost use Rattle.reading.specs.Reader.{◌>>◌ as first};
@@ -16,7 +18,7 @@ use utf8::{is_all_ascii, is_utf8};
 use write_runs::run;
 use write_sizes::MOST;
 
-#[derive(Drop)]
+#[derive(Clone, Copy)]
 pub enum Tested {
     Fine,
     Refused(Error),

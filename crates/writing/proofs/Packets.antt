@@ -7,14 +7,14 @@ use Prim.Native.Nat.{ℕ, zero, suc, ◌+◌, ◌*◌, ◌/◌, ◌%◌, ◌≤�
 use native.Mathlib.Omega.{arith}
 use lib.Dec.{eqb, ltb, ltb→lt, eqb-suc-zero}
 use lib.ListN.{length, length-append}
-use borrow.Author.Tests.{lt-ltb, eqb-true}
+use borrow.Author.Tests.{eqb-true}
 use Rattle.grammar.specs.Choice.{is_in, lookup, is_empty}
 use Rattle.grammar.specs.Gram.{Only, both, sized, is}
 use Rattle.grammar.specs.Number.{byte, Big}
 use Rattle.grammar.specs.Tables.{publish_row, subscribe_row, ack_row, unsubscribe_row, Layout, a_publish, an_ack, a_subscribe, a_reply, an_unsubscribe, a_ping, kinds, reasons_of, firsts, first_of}
 use Rattle.grammar.specs.Record.{kind_of, flag_qos, mk_publish, mk_ack, mk_filter, mk_subscribe, mk_reply, mk_unsubscribe, mk_ping}
 use Rattle.grammar.specs.Sentence.{Any, Block, publish_of, props_if, not_three, not_zero, Ident, publish_good, some_of, AckRest, plain, full, Packet, Fields, body, framed, Sentence}
-use Rattle.grammar.specs.Octets.{Each, nil, ◌&◌, Octet, Octets}
+use Rattle.grammar.specs.Octets.{Each, nil, ◌&◌, Octets}
 use Rattle.reading.proofs.Lists.{T_of, lookup_each}
 use Rattle.writing.specs.Lists.{flat, beside}
 use Rattle.writing.specs.Handed.{Lent, Run, PublishHanded, SubscribeHanded, AckHanded, ReplyHanded, UnsubscribeHanded, Handed, publish, ack, subscribe, reply, unsubscribe, ping, publish_given, subscribe_given, ack_given, unsubscribe_given, strings, prop_of, entries, filters}

@@ -1,6 +1,6 @@
 -- The bytes of a frame, the size, what a write gives, and the output afterwards. Assumes nothing.
 use Rattle.std.specs.Prelude.{cond, ◌≡◌, List, [], ◌∷◌, ◌++◌, ℕ, ◌+◌, ◌*◌, leb, length, drop}
-use Rattle.std.proofs.Math.Option.{Option, none, some}
+use Rattle.std.proofs.Math.Option.{Option}
 use Rattle.grammar.specs.Tables.{publish_row, subscribe_row, ack_row, unsubscribe_row, first_of}
 use Rattle.reading.specs.Refusal.{nr}
 use Rattle.reading.specs.Reader.{Fit, got, bad, ◌>>◌, ◌>>=◌, guard}

@@ -1,1 +1,2 @@
 // What is written, as definitions and laws.
+#![tactic(auto)]

@@ -10,7 +10,7 @@ use lib.Dec.{eqb}
 use lib.ListN.{length, drop, get_or, length-drop, drop_of_length-le}
 use lib.Seq.{drop-cons}
 use borrow.Author.Tests.{eqb-true, eqb-false, ne_eqb}
-use Rattle.grammar.specs.Choice.{is_in, lookup, is_some}
+use Rattle.grammar.specs.Choice.{is_in, lookup}
 use Rattle.grammar.specs.Octets.{Each, nil, ◌&◌}
 use Rattle.grammar.specs.Tables.{Form, u8, u16, u32, number, text, bytes, pair, Row, is_list, publish_row, subscribe_row, ack_row, unsubscribe_row, form_at}
 use Rattle.grammar.specs.Record.{Val, PropOf, last_of, unless_empty, publish_props, props_of}

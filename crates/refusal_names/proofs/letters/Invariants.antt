@@ -1,4 +1,4 @@
--- converted
+-- `refusal_names::letters` is right since each turn copies the next byte. Assumes nothing.
 use Prim.Native.Nat.{◌-◌}
 use Rattle.refusal_names.proofs.Laws.{Copied}
 use Rattle.refusal_names.proofs.letters.Given as goal

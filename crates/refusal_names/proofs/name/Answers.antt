@@ -1,4 +1,4 @@
--- converted
+-- `refusal_names::name` is right since a refusal has the name of its row. Assumes nothing.
 use Rattle.refusal_names.proofs.name.Goals as goal
 
 pub returns : goal.returns

@@ -1,4 +1,4 @@
--- converted
+-- `refusal_names::name_at` is right since every row of its table is the name of its number, which is computed. Assumes nothing.
 use mathlib.Core.Path.{refl, sym, ap}
 use borrow.Author.Rules.{rules}
 use Rattle.refusal_names.specs.Names.{names, name_at, padded}

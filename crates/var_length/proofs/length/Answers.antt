@@ -1,4 +1,4 @@
--- converted
+-- `var_length::length` is right since after each turn the bytes passed are worth `value`, and what stands at `next` decides. Assumes nothing.
 use mathlib.Core.Path.{sym, ◌∙◌}
 use Prim.Native.Nat.{◌-◌}
 use native.Mathlib.Omega.{arith}

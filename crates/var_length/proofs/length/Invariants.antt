@@ -1,4 +1,3 @@
--- converted
 use Prim.Native.Nat.{◌-◌}
 use lib.ListN as list
 use Rattle.var_length.proofs.Laws.{Passed}

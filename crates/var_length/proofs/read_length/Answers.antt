@@ -1,4 +1,4 @@
--- converted
+-- `var_length::read_length` is right since inside a frame a number cut off is a field that ends early. Assumes nothing.
 use native.Mathlib.Omega.{arith}
 use Rattle.reading.specs.Refusal.{cut}
 use Rattle.var_length.proofs.Laws.{number_within}

@@ -1,5 +1,5 @@
 -- `walker::make` meets its contract: a walk of its MIR, by hand. `begin_at` is called on the slice, and a `Walker` is made of the slice and what it gave.
--- A `&[u8]``` is Copy, so what it owns is had twice: once for the callee and the exit, and once inside the result.
+-- A `&[u8]` is Copy, so what it owns is had twice: once for the callee and the exit, and once inside the result.
 -- Assumes nothing.
 use mathlib.Core.Path.{◌≡◌, refl, ap}
 use Prim.Native.Nat.{ℕ, ◌<◌, ◌^◌}

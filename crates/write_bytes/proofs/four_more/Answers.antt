@@ -1,4 +1,4 @@
--- converted
+-- `write_bytes::four_more` is right since four bytes behind the first i are the first i + 4. Assumes nothing.
 use native.Mathlib.Omega.{arith}
 use Rattle.write_bytes.proofs.Laws.{further_more}
 use Rattle.write_bytes.proofs.four_more.Goals as goal

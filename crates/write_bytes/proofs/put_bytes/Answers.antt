@@ -1,4 +1,4 @@
--- converted
+-- `write_bytes::put_bytes` is right since as many bytes are put as there are, or as there is room for. Assumes nothing.
 use native.Mathlib.Omega.{arith}
 use Rattle.write_bytes.proofs.Laws.{put_all}
 use Rattle.write_bytes.proofs.put_bytes.Goals as goal

@@ -1,4 +1,4 @@
--- converted
+-- `write_bytes::put_fit` is right since less than eight, four and two bytes are left in turn, and then one or none. Assumes nothing.
 use mathlib.Core.Path.{◌≡◌}
 use Prim.Native.Nat.{◌+◌}
 use native.Mathlib.Omega.{arith}

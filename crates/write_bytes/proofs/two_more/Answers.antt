@@ -1,4 +1,4 @@
--- converted
+-- `write_bytes::two_more` is right since two bytes behind the first i are the first i + 2. Assumes nothing.
 use native.Mathlib.Omega.{arith}
 use Rattle.write_bytes.proofs.Laws.{further_more}
 use Rattle.write_bytes.proofs.two_more.Goals as goal

@@ -1,4 +1,4 @@
--- converted
+-- `numbers::fixed::read_u32` is right by the law of fixed widths, at width 4: the digits summed up are the number. Assumes nothing.
 use native.Mathlib.Omega.{arith}
 use Rattle.reading.specs.Refusal.{cut}
 use Rattle.numbers.proofs.Laws.{fixed_at, fixed_cut}

@@ -1,4 +1,4 @@
--- converted
+-- `numbers::fixed::read_u8` is right by the law of fixed widths, at width 1: the digits summed up are the number. Assumes nothing.
 use native.Mathlib.Omega.{arith}
 use mathlib.Core.Path.{◌∙◌}
 use Rattle.reading.specs.Refusal.{cut}

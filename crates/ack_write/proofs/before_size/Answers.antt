@@ -1,0 +1,10 @@
+-- `ack_write::before_size` is right since the fields are tested in the order in which they are written. Assumes nothing.
+use Rattle.records.specs.AsNumbers.{told_ack_kind}
+use Rattle.ack_write.specs.Handed.{handed}
+use Rattle.ack_write.proofs.Laws.{before_size_all}
+use Rattle.ack_write.proofs.before_size.Goals as goal
+
+pub returns : goal.returns
+returns c =
+    let a = c.args in
+    before_size_all (told_ack_kind a.m.kind) (handed a.m a.reason_string.now a.user.now a.user_lengths.now) c.belongs.ensures (c.if-not-belongs.false) c.test_reason.ensures c.test_rows.ensures c.then.ensures

@@ -1,0 +1,36 @@
+-- converted
+use mathlib.Core.Path.{sym, ◌∙◌}
+use Rattle.desk_arguments.specs.Words.{said_of}
+use Rattle.desk_arguments.proofs.said_by.Goals as goal
+
+pub returns-then-is_same : goal.returns-then-is_same
+unfolding said_of
+returns-then-is_same c = rw (sym c.is_same.ensures ∙ c.if-is_same.true)
+
+pub returns-then-is_same-2 : goal.returns-then-is_same-2
+unfolding said_of
+returns-then-is_same-2 c = rw (sym c.is_same.ensures ∙ c.if-is_same.false, sym c.is_same-2.ensures ∙ c.if-is_same-2.true)
+
+pub returns-then-is_same-3 : goal.returns-then-is_same-3
+unfolding said_of
+returns-then-is_same-3 c = rw (sym c.is_same.ensures ∙ c.if-is_same.false, sym c.is_same-2.ensures ∙ c.if-is_same-2.false, sym c.is_same-3.ensures ∙ c.if-is_same-3.true)
+
+pub returns-then-is_same-4 : goal.returns-then-is_same-4
+unfolding said_of
+returns-then-is_same-4 c = rw (sym c.is_same.ensures ∙ c.if-is_same.false, sym c.is_same-2.ensures ∙ c.if-is_same-2.false, sym c.is_same-3.ensures ∙ c.if-is_same-3.false, sym c.is_same-4.ensures ∙ c.if-is_same-4.true)
+
+pub returns-then-is_same-5 : goal.returns-then-is_same-5
+unfolding said_of
+returns-then-is_same-5 c = rw (sym c.is_same.ensures ∙ c.if-is_same.false, sym c.is_same-2.ensures ∙ c.if-is_same-2.false, sym c.is_same-3.ensures ∙ c.if-is_same-3.false, sym c.is_same-4.ensures ∙ c.if-is_same-4.false, sym c.is_same-5.ensures ∙ c.if-is_same-5.true)
+
+pub returns-then-is_same-6 : goal.returns-then-is_same-6
+unfolding said_of
+returns-then-is_same-6 c = rw (sym c.is_same.ensures ∙ c.if-is_same.false, sym c.is_same-2.ensures ∙ c.if-is_same-2.false, sym c.is_same-3.ensures ∙ c.if-is_same-3.false, sym c.is_same-4.ensures ∙ c.if-is_same-4.false, sym c.is_same-5.ensures ∙ c.if-is_same-5.false, sym c.is_same-6.ensures ∙ c.if-is_same-6.true)
+
+pub returns-then-is_option : goal.returns-then-is_option
+unfolding said_of
+returns-then-is_option c = rw (sym c.is_same.ensures ∙ c.if-is_same.false, sym c.is_same-2.ensures ∙ c.if-is_same-2.false, sym c.is_same-3.ensures ∙ c.if-is_same-3.false, sym c.is_same-4.ensures ∙ c.if-is_same-4.false, sym c.is_same-5.ensures ∙ c.if-is_same-5.false, sym c.is_same-6.ensures ∙ c.if-is_same-6.false, sym c.is_option.ensures ∙ c.if-is_option.true)
+
+pub returns : goal.returns
+unfolding said_of
+returns c = rw (sym c.is_same.ensures ∙ c.if-is_same.false, sym c.is_same-2.ensures ∙ c.if-is_same-2.false, sym c.is_same-3.ensures ∙ c.if-is_same-3.false, sym c.is_same-4.ensures ∙ c.if-is_same-4.false, sym c.is_same-5.ensures ∙ c.if-is_same-5.false, sym c.is_same-6.ensures ∙ c.if-is_same-6.false, sym c.is_option.ensures ∙ c.if-is_option.false)

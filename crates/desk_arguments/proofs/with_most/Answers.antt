@@ -1,0 +1,10 @@
+-- converted
+use mathlib.Core.Path.{ap, ◌∙◌}
+use Rattle.desk_arguments.specs.Words.{with_most}
+use Rattle.desk_arguments.proofs.with_most.Goals as goal
+
+pub returns-in-Value : goal.returns-in-Value
+returns-in-Value c = c.styled.ensures ∙ ap (with_most c.args.a) (rw c.in-Value.is at c.number.ensures)
+
+pub returns-in-Bad : goal.returns-in-Bad
+returns-in-Bad c = c.as_bad.ensures ∙ ap (with_most c.args.a) (rw c.in-Bad.is at c.number.ensures)

@@ -1,0 +1,7 @@
+-- `InFlight::pubcomp` is right since the identifier is settled as the definition says. Assumes nothing.
+use Rattle.inflight.specs.Rules.{call}
+use Rattle.inflight.proofs.InFlight.pubcomp.Goals as goal
+
+pub returns : goal.returns
+unfolding call
+returns c = c.settle.ensures

@@ -1,0 +1,11 @@
+-- converted
+use Rattle.subscribe_write.specs.Handed.{handed}
+use Rattle.subscribe_write.proofs.Laws.{belong_all}
+use Rattle.subscribe_write.proofs.belongs.Goals as goal
+
+pub returns : goal.returns
+returns c =
+    let a = c.args in
+    belong_all (handed a.m a.user.now a.user_lengths.now a.filters.now a.filter_lengths.now a.options.now)
+    c.u32_belongs.ensures c.pairs_belong.ensures c.filters_belong.ensures
+    c.both-block.ensures c.both.ensures

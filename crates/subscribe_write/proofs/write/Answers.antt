@@ -1,0 +1,20 @@
+-- converted
+use mathlib.Core.Path.{sym, ap, ◌∙◌}
+use Rattle.writing.specs.Handed.{subscribe}
+use Rattle.records.specs.AsNumbers.{limit_of}
+use Rattle.records.specs.Answered.{told_written}
+use Rattle.write_order.proofs.Laws.{settled_found, none_written, frame_written}
+use Rattle.subscribe_write.specs.Handed.{handed}
+use Rattle.subscribe_write.proofs.write.Goals as goal
+
+pub returns-in-Refused : goal.returns-in-Refused
+returns-in-Refused c =
+    let a = c.args in
+    none_written (limit_of a.limit) (subscribe (handed a.m a.user.now a.user_lengths.now a.filters.now a.filter_lengths.now a.options.now)) a.out.now _
+    (sym (ap told_written c.in-Refused.is) ∙ c.settle.ensures ∙ settled_found (limit_of a.limit) _ (subscribe (handed a.m a.user.now a.user_lengths.now a.filters.now a.filter_lengths.now a.options.now)) (record { early = c.before_size-fields.ensures; rest = c.rest-len.ensures a.filter_lengths.now; late = c.after_limit-end.ensures a.user.now a.user_lengths.now a.filters.now }))
+
+pub returns-in-Size : goal.returns-in-Size
+returns-in-Size c =
+    let a = c.args in
+    frame_written (limit_of a.limit) (subscribe (handed a.m a.user.now a.user_lengths.now a.filters.now a.filter_lengths.now a.options.now)) a.out.now _
+    (sym (ap told_written c.in-Size.is) ∙ c.settle.ensures ∙ settled_found (limit_of a.limit) _ (subscribe (handed a.m a.user.now a.user_lengths.now a.filters.now a.filter_lengths.now a.options.now)) (record { early = c.before_size-fields.ensures; rest = c.rest-len.ensures a.filter_lengths.now; late = c.after_limit-end.ensures a.user.now a.user_lengths.now a.filters.now })) _ c.put.ensures

@@ -1,0 +1,13 @@
+-- `write_properties::put_u8_if` is right since the identifier byte and the number behind it are one put. Assumes nothing.
+use native.Mathlib.Omega.{arith}
+use Rattle.grammar.specs.Tables.{u8}
+use Rattle.writing.specs.Spell.{numeral}
+use Rattle.write_numbers.proofs.Laws.Put.{wide_one}
+use Rattle.write_properties.proofs.Laws.{put_wide}
+use Rattle.write_properties.proofs.put_u8_if.Goals as goal
+
+pub returns-in-Present : goal.returns-in-Present
+unfolding numeral
+returns-in-Present c =
+    let a = c.args in
+    rw c.in-Present.is (put_wide a.id u8 1 _ (wide_one (omega arith)) a.out.now _ _ a.at _ c.put_id-next.ensures c.put_u8.ensures)
