@@ -1,0 +1,6 @@
+-- converted
+use mathlib.Core.Path.{refl}
+use Rattle.publish_write.proofs.copy.copy.Goals as goal
+
+pub returns : goal.returns
+returns c = (c.copy_any.ensures, refl)

@@ -1,0 +1,6 @@
+-- converted
+use Rattle.unsubscribe_write.proofs.Topics.{some_asked}
+use Rattle.unsubscribe_write.proofs.topic.test_asked.Goals as goal
+
+pub returns : goal.returns
+returns c = λ run. some_asked run c.args.lengths.now c.if-lengths-eq0.false
