@@ -1,0 +1,7 @@
+-- converted (mended)
+use borrow.Author.Tests.{leb-true}
+use Rattle.desk_text.proofs.Laws.{plain_shown}
+use Rattle.desk_text.proofs.is_plain.Goals as goal
+
+pub returns : goal.returns
+returns c = λ e. plain_shown _ c.if-b-lt35.false c.if-b-eq92.false (leb-true _ _ e)
