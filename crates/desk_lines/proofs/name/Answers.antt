@@ -1,4 +1,4 @@
--- converted (mended)
+-- `desk_lines::name` is right since the name is the part before the zeros. Assumes nothing.
 use mathlib.Core.Path.{◌∙◌}
 use Prim.Native.Nat.{◌-◌}
 use native.Mathlib.Omega.{arith}

@@ -1,4 +1,4 @@
--- converted (mended)
+-- `desk_lines::number` is right since the number is put behind the words. Assumes nothing.
 use native.Mathlib.Omega.{arith}
 use Rattle.desk_lines.proofs.Laws.{then}
 use Rattle.desk_lines.proofs.number.Goals as goal

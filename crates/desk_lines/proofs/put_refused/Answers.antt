@@ -1,4 +1,4 @@
--- converted (mended)
+-- `desk_lines::put_refused` is right since its parts are put one behind the other. Assumes nothing.
 use Rattle.desk_lines.proofs.Laws.{then}
 use Rattle.desk_lines.proofs.put_refused.Goals as goal
 

@@ -1,4 +1,4 @@
--- converted (mended)
+-- `desk_lines::taken_text` is right since its parts are put one behind the other. Assumes nothing.
 use Rattle.desk_lines.proofs.Laws.{then}
 use Rattle.desk_lines.proofs.taken_text.Goals as goal
 

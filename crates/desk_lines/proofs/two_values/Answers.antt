@@ -1,4 +1,4 @@
--- converted (mended)
+-- `desk_lines::two_values` is right since its parts are put one behind the other. Assumes nothing.
 use native.Mathlib.Omega.{arith}
 use Rattle.desk_lines.proofs.Laws.{then}
 use Rattle.desk_lines.proofs.two_values.Goals as goal

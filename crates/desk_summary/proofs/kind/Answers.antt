@@ -1,4 +1,4 @@
--- converted (mended)
+-- `desk_summary::kind` is right since its parts are put one behind the other. Assumes nothing.
 use Rattle.std.proofs.Common.{arith}
 use Rattle.desk_lines.proofs.Laws.{then}
 use Rattle.desk_summary.proofs.kind.Goals as goal

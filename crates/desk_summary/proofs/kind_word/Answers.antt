@@ -1,4 +1,4 @@
--- converted (mended)
+-- `desk_summary::kind_word` is right since the word is the part of its bytes before the zeros. Assumes nothing.
 use Rattle.std.proofs.Common.{◌-◌, length, ◌∙◌, arith}
 use Rattle.kinds.specs.Kinds.{word_of}
 use Rattle.desk_lines.proofs.Laws.{then, name_part}

@@ -1,4 +1,4 @@
--- converted (mended)
+-- `desk_summary::pair` is right since its parts are put one behind the other, or none is. Assumes nothing.
 use Rattle.std.proofs.Common.{arith, ne_eqb}
 use Rattle.desk_lines.proofs.Laws.{then}
 use Rattle.desk_summary.proofs.pair.Goals as goal

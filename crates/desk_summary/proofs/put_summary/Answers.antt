@@ -1,4 +1,4 @@
--- converted (mended)
+-- `desk_summary::put_summary` is right since its parts are put one behind the other. Assumes nothing.
 use Rattle.desk_lines.proofs.Laws.{then}
 use Rattle.desk_summary.proofs.put_summary.Goals as goal
 

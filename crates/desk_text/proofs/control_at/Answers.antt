@@ -1,4 +1,4 @@
--- converted (mended)
+-- `desk_text::control_at` is right since its bytes are those of the definition. Assumes nothing.
 use mathlib.Core.Path.{◌∙◌}
 use Rattle.desk_text.specs.Text.{control_at}
 use Rattle.desk_text.proofs.control_at.Goals as goal

@@ -1,4 +1,4 @@
--- converted (mended)
+-- `desk_text::does_stand` is right since its test is that of the definition. Assumes nothing.
 use Rattle.desk_text.proofs.does_stand.Goals as goal
 
 pub returns-then-text : goal.returns-then-text

@@ -1,4 +1,4 @@
--- converted (mended)
+-- `desk_text::is_hidden` is right since its tests are those of the definition. Assumes nothing.
 use mathlib.Core.Path.{sym, ap, ◌∙◌}
 use Prim.Native.Nat.{ℕ}
 use Rattle.desk_text.specs.Text.{control_at, turning_at, hidden}

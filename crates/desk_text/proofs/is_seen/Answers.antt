@@ -1,4 +1,4 @@
--- converted (mended)
+-- `desk_text::is_seen` is right since its tests are those of the definition. Assumes nothing.
 use mathlib.Core.Path.{sym, ◌∙◌}
 use borrow.Author.Tests.{le-leb, lt-leb}
 use Rattle.desk_text.specs.Text.{seen}

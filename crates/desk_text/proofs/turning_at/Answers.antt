@@ -1,4 +1,4 @@
--- converted (mended)
+-- `desk_text::turning_at` is right since its bytes are those of the definition. Assumes nothing.
 use mathlib.Core.Path.{◌∙◌}
 use Rattle.desk_text.specs.Text.{turning_at}
 use Rattle.desk_text.proofs.turning_at.Goals as goal

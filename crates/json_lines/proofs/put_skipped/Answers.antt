@@ -1,4 +1,4 @@
--- converted
+-- `json_lines::put_skipped` is right since its parts are put one behind the other. Assumes nothing.
 use native.Mathlib.Omega.{arith}
 use Rattle.json_text.proofs.Laws.{then}
 use Rattle.json_lines.proofs.Laws.{put_as, skipped_line_lem}

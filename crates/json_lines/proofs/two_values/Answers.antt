@@ -1,4 +1,4 @@
--- converted
+-- `json_lines::two_values` is right since the second is put behind the first. Assumes nothing.
 use native.Mathlib.Omega.{arith}
 use Rattle.json_text.proofs.Laws.{then}
 use Rattle.json_lines.proofs.two_values.Goals as goal

@@ -1,4 +1,4 @@
--- converted
+-- `json_lines::values` is right since it is for none, one and two. Assumes nothing.
 use Rattle.json_lines.proofs.values.Goals as goal
 
 pub returns-in-None : goal.returns-in-None

@@ -1,4 +1,4 @@
--- converted
+-- `json_text::behind` is right since an end beyond the room is none. Assumes nothing.
 use native.Mathlib.Omega.{arith}
 use Rattle.json_text.proofs.Laws.{end_fits, end_lost}
 use Rattle.json_text.proofs.behind.Goals as goal

@@ -1,4 +1,4 @@
--- converted
+-- `json_text::put_bytes_hex` is right since each turn puts one byte, and what is left decides. Assumes nothing.
 use mathlib.Core.Path.{refl}
 use Prim.Native.Nat.{◌-◌}
 use native.Mathlib.Omega.{arith}

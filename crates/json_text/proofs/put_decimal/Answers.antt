@@ -1,4 +1,4 @@
--- converted
+-- `json_text::put_decimal` is right since the digits are counted. Assumes nothing.
 use Rattle.json_text.proofs.Laws.{put_counted}
 use Rattle.json_text.proofs.put_decimal.Goals as goal
 

@@ -1,4 +1,4 @@
--- converted
+-- `json_text::put_escaped` is right since its tests are those of the form. Assumes nothing.
 use Rattle.json_text.proofs.Laws.{form_mark, form_slash, form_low, form_delete, form_plain}
 use Rattle.json_text.proofs.put_escaped.Goals as goal
 

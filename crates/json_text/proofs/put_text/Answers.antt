@@ -1,4 +1,4 @@
--- converted
+-- `json_text::put_text` is right since each turn puts one byte, and what is left decides. Assumes nothing.
 use Prim.Native.Nat.{◌-◌}
 use native.Mathlib.Omega.{arith}
 use Rattle.json_text.specs.Text.{escaped_of}

@@ -1,4 +1,4 @@
--- converted
+-- `packet::ping_req` is right since the frame is taken. Assumes nothing.
 use mathlib.Core.Path.{refl}
 use Rattle.reading.specs.Read.{body_answer}
 use Rattle.packet.proofs.ping_req.Goals as goal

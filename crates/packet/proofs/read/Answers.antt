@@ -1,4 +1,4 @@
--- converted (mended)
+-- `packet::read` is right since what `check` refuses takes nothing, and the answer to the frame that it finds is the answer to the stream. Assumes nothing.
 use mathlib.Core.Path.{sym, ap, ◌∙◌}
 use native.Mathlib.Omega.{arith}
 use Rattle.records.specs.AsNumbers.{told_error, limit_of}
@@ -12,7 +12,7 @@ returns-in-Refused c =
     let a = c.args in
     let k = c.in-Refused.e in
     let p = promised a.limit a.stream.now (Read.Refused k 0)
-        (refusing (answer_none (limit_of a.limit) a.stream.now (told_error k) (sym (ap (told_checked a.stream.now) c.in-Refused.is) ∙ c.check.ensures))) in
+    (refusing (answer_none (limit_of a.limit) a.stream.now (told_error k) (sym (ap (told_checked a.stream.now) c.in-Refused.is) ∙ c.check.ensures))) in
     record { answer = p.0; within = p.1.0; verdict = p.1.1 }
 
 pub slice_bounds-read_frame-end : goal.slice_bounds-read_frame-end

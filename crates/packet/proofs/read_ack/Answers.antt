@@ -1,4 +1,4 @@
--- converted
+-- `packet::read_ack` is right since record and refusal tell the same, the frame is taken, and the block ends with it. Assumes nothing.
 use mathlib.Core.Path.{ap}
 use Rattle.reading.specs.Reader.{got}
 use Rattle.reading.specs.Read.{body_answer}

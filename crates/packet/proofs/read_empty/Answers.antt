@@ -1,4 +1,4 @@
--- converted
+-- `packet::read_empty` is right since only a reserved kind and a ping are answered otherwise than with 5. Assumes nothing.
 use mathlib.Core.Option.{none}
 use mathlib.Core.Path.{refl, ap}
 use Rattle.reading.specs.Read.{body_answer}

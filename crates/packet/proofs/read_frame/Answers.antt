@@ -1,4 +1,4 @@
--- converted
+-- `packet::read_frame` is right since R is 0 just where no byte is left after the header, and the tables give each kind the layout that its reader reads. Assumes nothing.
 use mathlib.Core.Option.{none}
 use mathlib.Core.Path.{sym, ap}
 use lib.ListN.{drop_of_length-le}

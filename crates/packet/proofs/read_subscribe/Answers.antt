@@ -1,4 +1,4 @@
--- converted
+-- `packet::read_subscribe` is right since record and refusal tell the same, the frame is taken, and the block ends where what follows it begins. Assumes nothing.
 use mathlib.Core.Path.{ap}
 use Rattle.reading.specs.Reader.{got}
 use Rattle.reading.specs.Read.{body_answer}

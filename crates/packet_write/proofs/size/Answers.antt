@@ -1,4 +1,4 @@
--- converted (mended)
+-- `packet_write::size` is right since 20 is given for what does not belong to the record, and else the kind's size. Assumes nothing.
 use mathlib.Core.Path.{sym, ◌∙◌}
 use Rattle.packet_write.proofs.Laws.{sized_alone, sized_mixed}
 use Rattle.packet_write.proofs.size.Goals as goal

@@ -1,4 +1,4 @@
--- converted (mended)
+-- `packet_write::write` is right since 20 is given for what does not belong to the record, and else the kind is written. Assumes nothing.
 use mathlib.Core.Path.{sym, ◌∙◌}
 use Rattle.packet_write.proofs.Laws.{written_alone, written_mixed}
 use Rattle.packet_write.proofs.write.Goals as goal

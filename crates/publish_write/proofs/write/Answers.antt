@@ -1,4 +1,4 @@
--- converted
+-- `publish_write::write` is right since the order is settled from what is found, and only then is the frame laid, which fits. Assumes nothing.
 use mathlib.Core.Path.{sym, ap, ◌∙◌}
 use Rattle.writing.specs.Handed.{publish}
 use Rattle.records.specs.AsNumbers.{limit_of}

@@ -1,4 +1,4 @@
--- converted
+-- `unsubscribe_write::before_size` is right since the fields are tested in the order in which they are written. Assumes nothing.
 use Rattle.unsubscribe_write.specs.Handed.{handed}
 use Rattle.unsubscribe_write.proofs.Laws.{before_size_all}
 use Rattle.unsubscribe_write.proofs.before_size.Goals as goal

@@ -1,4 +1,4 @@
--- converted
+-- `unsubscribe_write::belongs` is right since all belongs together exactly if the user properties and the topics do. Assumes nothing.
 use Rattle.unsubscribe_write.specs.Handed.{handed}
 use Rattle.unsubscribe_write.proofs.Laws.{belong_all}
 use Rattle.unsubscribe_write.proofs.belongs.Goals as goal

@@ -1,4 +1,4 @@
--- converted
+-- `unsubscribe_write::put` is right since each field is put behind the one before it. Assumes nothing.
 use Rattle.unsubscribe_write.specs.Handed.{handed}
 use Rattle.unsubscribe_write.proofs.Laws.{put_frame}
 use Rattle.unsubscribe_write.proofs.put.Goals as goal

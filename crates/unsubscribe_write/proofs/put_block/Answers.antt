@@ -1,4 +1,4 @@
--- converted
+-- `unsubscribe_write::put_block` is right since the user properties are put behind L. Assumes nothing.
 use Rattle.write_runs.specs.Given.{run}
 use Rattle.unsubscribe_write.proofs.Laws.{put_rows}
 use Rattle.unsubscribe_write.proofs.put_block.Goals as goal

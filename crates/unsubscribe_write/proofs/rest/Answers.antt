@@ -1,4 +1,4 @@
--- converted
+-- `unsubscribe_write::rest` is right since R is the identifier, the block and the topics. Assumes nothing.
 use Rattle.unsubscribe_write.specs.Handed.{handed}
 use Rattle.unsubscribe_write.proofs.Laws.{unsubscribe_rest}
 use Rattle.unsubscribe_write.proofs.rest.Goals as goal

@@ -1,4 +1,4 @@
--- converted (mended)
+-- `packet_write::parts::nothing_else` is right since it asks of each kind's parts whether they are empty. Assumes nothing.
 use Rattle.packet_write.proofs.Lent.{last_lent}
 use Rattle.packet_write.proofs.parts.nothing_else.Goals as goal
 

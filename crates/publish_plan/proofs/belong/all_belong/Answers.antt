@@ -1,4 +1,4 @@
--- converted
+-- `publish_plan::belong::all_belong` is right since all rows belong exactly if each does. Assumes nothing.
 use Rattle.publish_plan.proofs.Laws.{belong_all}
 use Rattle.publish_plan.proofs.belong.all_belong.Goals as goal
 

@@ -1,4 +1,4 @@
--- converted
+-- `publish_plan::sizes::properties_size` is right since L is the sum of the rows, and a sum of sums that are cut off is cut off alike. Assumes nothing.
 use Rattle.grammar.specs.Tables.{text, bytes}
 use Rattle.publish_plan.proofs.Sums.{sum_all}
 use Rattle.publish_plan.proofs.sizes.properties_size.Goals as goal

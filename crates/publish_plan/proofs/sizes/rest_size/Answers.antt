@@ -1,4 +1,4 @@
--- converted
+-- `publish_plan::sizes::rest_size` is right since R is the sum of its parts. Assumes nothing.
 use Rattle.publish_plan.specs.Handed.{handed}
 use Rattle.publish_plan.proofs.Sums.{rest_all}
 use Rattle.publish_plan.proofs.sizes.rest_size.Goals as goal

@@ -1,4 +1,4 @@
--- converted
+-- `publish_plan::sizes::sizes` is right since R is counted from L. Assumes nothing.
 use Rattle.publish_plan.proofs.sizes.sizes.Goals as goal
 
 pub returns : goal.returns

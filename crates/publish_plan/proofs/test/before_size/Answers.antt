@@ -1,4 +1,4 @@
--- converted
+-- `publish_plan::test::before_size` is right since what belongs together comes first, then the fields. Assumes nothing.
 use mathlib.Core.Path.{◌∙◌}
 use Rattle.writing.specs.Handed.{publish}
 use Rattle.write_order.proofs.Laws.{before_size_foreign, before_size_fields}

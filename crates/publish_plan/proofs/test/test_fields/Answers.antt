@@ -1,4 +1,4 @@
--- converted
+-- `publish_plan::test::test_fields` is right since the tests go field by field. Assumes nothing.
 use Rattle.publish_plan.specs.Handed.{handed}
 use Rattle.publish_plan.proofs.Laws.{fields_all}
 use Rattle.publish_plan.proofs.test.test_fields.Goals as goal

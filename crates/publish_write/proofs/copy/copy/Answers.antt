@@ -1,4 +1,4 @@
--- converted
+-- `publish_write::copy::copy` is right since all bytes are copied. Assumes nothing.
 use mathlib.Core.Path.{refl}
 use Rattle.publish_write.proofs.copy.copy.Goals as goal
 

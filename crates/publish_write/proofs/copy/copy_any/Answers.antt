@@ -1,4 +1,4 @@
--- converted
+-- `publish_write::copy::copy_any` is right since each count of bytes has a copy. Assumes nothing.
 use Rattle.publish_write.proofs.copy.copy_any.Goals as goal
 
 pub returns-then-n-ge16 : goal.returns-then-n-ge16

@@ -1,4 +1,4 @@
--- converted
+-- `publish_write::copy::copy_few` is right since one byte is the first, and none is nothing. Assumes nothing.
 use mathlib.Core.Path.{◌≡◌, refl, ap, ◌∙◌}
 use mathlib.Core.List.{List}
 use Prim.Native.Nat.{ℕ}

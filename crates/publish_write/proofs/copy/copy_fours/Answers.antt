@@ -1,4 +1,4 @@
--- converted
+-- `publish_write::copy::copy_fours` is right since the two chunks reach each other. Assumes nothing.
 use Prim.Native.Nat.{◌-◌}
 use native.Mathlib.Omega.{arith}
 use Rattle.publish_write.proofs.Lay.{overlapped}

@@ -1,4 +1,4 @@
--- converted
+-- `publish_write::copy::copy_sixteen` is right since two copies of eight bytes, one behind the other, are one. Assumes nothing.
 use native.Mathlib.Omega.{arith}
 use Rattle.publish_write.proofs.Lay.{sixteen}
 use Rattle.publish_write.proofs.copy.copy_sixteen.Goals as goal

@@ -1,4 +1,4 @@
--- converted
+-- `publish_write::copy::copy_sixteens` is right since the sixteens from the front on reach the last. Assumes nothing.
 use Prim.Native.Nat.{◌-◌}
 use native.Mathlib.Omega.{arith}
 use Rattle.publish_write.proofs.Lay.{overlapped}

@@ -1,4 +1,4 @@
--- converted
+-- `publish_write::copy::copy_up` is right since after each turn the first i bytes are put. Assumes nothing.
 use mathlib.Core.Path.{sym, ap, ◌∙◌}
 use mathlib.Core.List.{List}
 use Prim.Native.Nat.{ℕ, ◌+◌, ◌-◌}

@@ -1,4 +1,4 @@
--- converted
+-- `publish_write::frame::first_byte` is right since the flags are digits that do not meet. Assumes nothing.
 use Rattle.publish_plan.specs.Handed.{handed}
 use Rattle.publish_write.proofs.Parts.{first_all}
 use Rattle.publish_write.proofs.frame.first_byte.Goals as goal

@@ -1,4 +1,4 @@
--- converted
+-- `publish_write::frame::lay_back` is right since L, the properties and the payload stand one behind the other. Assumes nothing.
 use mathlib.Core.List.{◌++◌}
 use native.Mathlib.Omega.{arith}
 use lib.Seq.{take-length}

@@ -1,4 +1,4 @@
--- converted
+-- `publish_write::frame::lay_frame` is right since the front and the back, one behind the other, stand behind the first byte. Assumes nothing.
 use mathlib.Core.List.{◌++◌}
 use Rattle.writing.specs.Handed.{publish}
 use Rattle.writing.specs.Spell.{short, string}

@@ -1,4 +1,4 @@
--- converted
+-- `publish_write::frame::lay_front` is right since R, the topic and the identifier stand one behind the other. Assumes nothing.
 use mathlib.Core.List.{◌++◌}
 use native.Mathlib.Omega.{arith}
 use Rattle.writing.specs.Spell.{short, string}

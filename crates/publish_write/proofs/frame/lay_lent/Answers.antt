@@ -1,4 +1,4 @@
--- converted
+-- `publish_write::frame::lay_lent` is right since what is on is a string behind its identifier byte, and what is off is nothing. Assumes nothing.
 use Rattle.publish_write.proofs.Parts.{whole_laid, lent_on}
 use Rattle.publish_write.proofs.frame.lay_lent.Goals as goal
 

@@ -1,4 +1,4 @@
--- converted
+-- `publish_write::frame::lay_lists` is right since the rows stand one behind the other. Assumes nothing.
 use mathlib.Core.List.{◌++◌}
 use native.Mathlib.Omega.{arith}
 use Rattle.grammar.specs.Tables.{number, text, pair}

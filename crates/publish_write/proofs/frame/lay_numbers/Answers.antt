@@ -1,4 +1,4 @@
--- converted
+-- `publish_write::frame::lay_numbers` is right since the rows stand one behind the other. Assumes nothing.
 use Rattle.publish_write.proofs.Lay.{put_laid, laid_then}
 use Rattle.publish_write.proofs.frame.lay_numbers.Goals as goal
 

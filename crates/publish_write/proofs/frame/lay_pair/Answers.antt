@@ -1,4 +1,4 @@
--- converted
+-- `publish_write::frame::lay_pair` is right since the strings stand one behind the other, behind the identifier byte. Assumes nothing.
 use Prim.Native.Nat.{◌+◌}
 use native.Mathlib.Omega.{arith}
 use lib.ListN.{take, drop}

@@ -1,4 +1,4 @@
--- converted
+-- `publish_write::frame::lay_pairs` is right since after each turn the pairs from the i-th length on, at the index `from` of the run, are left to lay. Assumes nothing.
 use mathlib.Core.Path.{ap}
 use mathlib.Core.List.{◌∷◌, ◌++◌}
 use Prim.Native.Nat.{◌+◌, ◌-◌}

@@ -1,4 +1,4 @@
--- converted
+-- `publish_write::frame::lay_properties` is right since numbers, strings and lists are the eight rows in the table's order. Assumes nothing.
 use Rattle.publish_write.proofs.Lay.{laid_then}
 use Rattle.publish_write.proofs.frame.lay_properties.Goals as goal
 

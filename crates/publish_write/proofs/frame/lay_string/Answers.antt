@@ -1,4 +1,4 @@
--- converted
+-- `publish_write::frame::lay_string` is right since the length stands before the bytes. Assumes nothing.
 use native.Mathlib.Omega.{arith}
 use Rattle.publish_write.proofs.Parts.{string_laid}
 use Rattle.publish_write.proofs.frame.lay_string.Goals as goal

@@ -1,4 +1,4 @@
--- converted
+-- `publish_write::frame::lay_strings` is right since the rows stand one behind the other. Assumes nothing.
 use Rattle.grammar.specs.Tables.{text, bytes}
 use Rattle.writing.specs.Spell.{row_bytes}
 use Rattle.write_runs.specs.Given.{given_lent}

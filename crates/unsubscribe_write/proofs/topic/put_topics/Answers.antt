@@ -1,4 +1,4 @@
--- converted
+-- `unsubscribe_write::topic::put_topics` is right since after each turn the topics from the i-th on, their texts at the index `from` of the run, are left to put. Assumes nothing.
 use mathlib.Core.Path.{ap, sym, ◌∙◌}
 use Prim.Native.Nat.{◌-◌}
 use native.Mathlib.Omega.{arith}

@@ -1,4 +1,4 @@
--- converted
+-- `unsubscribe_write::topic::test_asked` is right since a topic has a length. Assumes nothing.
 use Rattle.unsubscribe_write.proofs.Topics.{some_asked}
 use Rattle.unsubscribe_write.proofs.topic.test_asked.Goals as goal
 
