@@ -10,7 +10,7 @@ use Rattle.desk_render.specs.Shown.{decimal_of}
 use Rattle.json_text.specs.Text.{escaped_of, each}
 use Rattle.json_text.specs.Put.{PutIn}
 use Rattle.json_text.specs.Value.{joined, array, member}
-use Rattle.json_lines.specs.Line.{number_is, word_is, head_of, head_text, numbers, refusal_by, refusal_of, refusal_text, line_of, refused_line, skipped_line}
+use Rattle.json_lines.specs.Line.{number_is, word_is, head_of, head_text, numbers, refusal_text, line_of, refused_line, skipped_line}
 
 -- the same bytes in another spelling
 pub put_as : {l xs ys o : List ℕ} {at r : ℕ} → PutIn l at xs o r → xs ≡ ys → PutIn l at ys o r

@@ -1,6 +1,6 @@
 -- Puts one behind the other, and bytes put each in its form as far as there is room. Assumes nothing.
 use mathlib.Core.Path.{◌≡◌, refl, sym, ap, ◌∙◌}
-use mathlib.Core.Bool.{Bool, true, false, cond}
+use mathlib.Core.Bool.{Bool, true, false}
 use mathlib.Core.List.{List, [], ◌∷◌, ◌++◌, append_assoc}
 use Prim.Native.Nat.{ℕ, suc, ◌+◌, ◌-◌, ◌≤◌, ◌<◌}
 use native.Mathlib.Omega.{arith}
@@ -11,7 +11,7 @@ use lib.Seq.{sets, length-sets, drop-cons}
 use borrow.Author.Tests.{le-leb, lt-leb, lt-ltb, le-ltb, eq-eqb, ne_eqb, leb-true, leb-false}
 use Rattle.write_bytes.proofs.Laws.{sets_append, sets_out}
 use Rattle.desk_render.specs.Shown.{hex_of}
-use Rattle.json_text.specs.Text.{is_marked, is_control, escaped_of, each}
+use Rattle.json_text.specs.Text.{escaped_of, each}
 use Rattle.json_text.specs.Put.{end_in, PutIn}
 
 -- ---- an end

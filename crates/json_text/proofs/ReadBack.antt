@@ -1,15 +1,15 @@
 -- What is put of a text is read back as the text, up to its quote and no further; so no two texts have one spelling. Assumes nothing.
 use mathlib.Core.Path.{◌≡◌, refl, sym, ap, ◌∙◌}
-use mathlib.Core.Bool.{Bool, true, false, cond}
+use mathlib.Core.Bool.{Bool, true, false}
 use mathlib.Core.Option.{Option, none, some}
 use mathlib.Core.List.{List, [], ◌∷◌, ◌++◌, append_assoc}
-use Prim.Native.Nat.{ℕ, suc, ◌+◌, ◌-◌, ◌*◌, ◌/◌, ◌%◌, ◌≤◌, ◌<◌}
+use Prim.Native.Nat.{ℕ, ◌+◌, ◌-◌, ◌*◌, ◌/◌, ◌%◌, ◌≤◌, ◌<◌}
 use native.Mathlib.Omega.{arith}
 use lib.Dec.{eqb, ltb}
-use borrow.Author.Tests.{lt-ltb, le-ltb, eq-eqb, ne_eqb, eqb-true, eqb-false, ltb-true, ltb-false}
+use borrow.Author.Tests.{lt-ltb, le-ltb, ne_eqb, eqb-true, eqb-false, ltb-true, ltb-false}
 use Rattle.desk_render.specs.Shown.{hex_digit, hex_of}
 use Rattle.json_text.specs.Text.{escaped_of, each}
-use Rattle.json_text.specs.Back.{Awaits, digit_of, meant, before, text_in}
+use Rattle.json_text.specs.Back.{Awaits, digit_of, before, text_in}
 use Rattle.json_text.proofs.Laws.{form_mark, form_slash, form_low, form_delete, form_plain}
 
 digit_back : (d : ℕ) → d < 16 → digit_of (hex_digit d) ≡ d

@@ -11,7 +11,7 @@ use Rattle.grammar.specs.Choice.{is_empty}
 use Rattle.grammar.specs.Tables.{Layout, a_ping, is_ping}
 use Rattle.grammar.specs.Record.{ping, kind_of}
 use Rattle.reading.specs.Refusal.{Refusal, nr, Answer, refused_as}
-use Rattle.reading.specs.Reader.{Fit, got, bad, ◌>>◌, guard, map_fit, is_fit}
+use Rattle.reading.specs.Reader.{Fit, got, bad, guard, map_fit, is_fit, ◌>>◌}
 use Rattle.reading.specs.Read.{frame_of, fields_fit, layout_fit, body_fit, body_answer, whole_answer, frame_answer, read_as, read_of}
 use Rattle.reading.specs.Place.{as_places, Placed, read_placed_of, say_answer}
 use Rattle.reading.specs.Bounds.{bounds_by}

@@ -3,16 +3,15 @@ use mathlib.Core.Path.{◌≡◌, refl, sym, ap, ◌∙◌}
 use mathlib.Core.Bool.{Bool, true, false, false≢true}
 use mathlib.Core.Logic.{◌⊎◌, inl, inr}
 use mathlib.Core.List.{List, [], ◌∷◌, ◌++◌, append_assoc, append-nil}
-use Prim.Native.Nat.{ℕ, suc, ◌+◌, ◌*◌, ◌/◌, ◌%◌, ◌≤◌, ◌<◌}
+use Prim.Native.Nat.{ℕ, ◌+◌, ◌*◌, ◌/◌, ◌%◌, ◌≤◌, ◌<◌}
 use native.Mathlib.Omega.{arith}
 use native.Mathlib.Numerals.{add-one}
 use lib.ListN.{length, take, drop, get_or, length-append, length-drop}
 use lib.Seq.{sets, length-sets, length-take-le, take-length, drop-cons}
-use borrow.Author.Tests.{eqb-true}
 use Rattle.grammar.specs.Tables.{Form, u8, u16, u32, number, text, bytes, pair, publish_row}
 use Rattle.writing.specs.Lists.{sum}
-use Rattle.writing.specs.Handed.{Run, PublishHanded, publish, pairs, several, publish_given, adds_up}
-use Rattle.writing.specs.Spell.{wide, short, string, value, row_bytes, props_bytes}
+use Rattle.writing.specs.Handed.{Run, PublishHanded, publish, pairs, several, publish_given}
+use Rattle.writing.specs.Spell.{wide, string, value, row_bytes, props_bytes}
 use Rattle.writing.specs.Size.{no_ident}
 use Rattle.writing.specs.Write.{first_byte, ident_bytes}
 use Rattle.writing.proofs.Pins.{publish_props_lem}

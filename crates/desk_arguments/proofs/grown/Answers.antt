@@ -1,4 +1,4 @@
--- converted
+-- `desk_arguments::grown` is right since each test is one of the definition. Assumes nothing.
 use native.Mathlib.Omega.{arith}
 use Rattle.desk_arguments.proofs.Laws.{grow_low, grow_high, grow_past, grow_on}
 use Rattle.desk_arguments.proofs.grown.Goals as goal

@@ -1,4 +1,4 @@
--- converted
+-- `desk_arguments::is_same` is right since what is left decides. Assumes nothing.
 use Prim.Native.Nat.{◌-◌}
 use native.Mathlib.Omega.{arith}
 use Rattle.desk_arguments.proofs.Laws.{same_lengths, same_end, same_next, same_not}

@@ -1,4 +1,4 @@
--- converted
+-- `desk_arguments::number` is right since the number so far, with what is left, decides. Assumes nothing.
 use Prim.Native.Nat.{◌-◌}
 use Rattle.desk_arguments.proofs.Laws.{number_empty, number_start, number_end, number_next, number_bad}
 use Rattle.desk_arguments.proofs.number.Goals as goal

@@ -1,4 +1,3 @@
--- converted
 use mathlib.Core.Path.{◌≡◌}
 use mathlib.Core.Option.{some}
 use Prim.Native.Nat.{◌-◌}

@@ -1,4 +1,4 @@
--- converted
+-- `desk_arguments::said_by` is right since its tests are those of the definition. Assumes nothing.
 use mathlib.Core.Path.{sym, ◌∙◌}
 use Rattle.desk_arguments.specs.Words.{said_of}
 use Rattle.desk_arguments.proofs.said_by.Goals as goal

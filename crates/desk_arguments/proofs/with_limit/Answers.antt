@@ -1,4 +1,4 @@
--- converted
+-- `desk_arguments::with_limit` is right since the number decides. Assumes nothing.
 use mathlib.Core.Path.{ap, ◌∙◌}
 use Rattle.desk_arguments.specs.Words.{with_limit}
 use Rattle.desk_arguments.proofs.with_limit.Goals as goal

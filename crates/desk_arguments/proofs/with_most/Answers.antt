@@ -1,4 +1,4 @@
--- converted
+-- `desk_arguments::with_most` is right since the number decides. Assumes nothing.
 use mathlib.Core.Path.{ap, ◌∙◌}
 use Rattle.desk_arguments.specs.Words.{with_most}
 use Rattle.desk_arguments.proofs.with_most.Goals as goal

@@ -1,4 +1,4 @@
--- converted
+-- `desk_arguments::with_name` is right since its tests are those of the definition. Assumes nothing.
 use mathlib.Core.Path.{sym, ◌∙◌}
 use Rattle.desk_arguments.proofs.with_name.Goals as goal
 

@@ -1,4 +1,4 @@
--- converted
+-- `desk_arguments::with_said` is right since each word has its own arm. Assumes nothing.
 use Rattle.desk_arguments.proofs.with_said.Goals as goal
 
 pub returns-in-Limit : goal.returns-in-Limit

@@ -1,4 +1,4 @@
--- converted
+-- `desk_arguments::with_word` is right since what is awaited decides. Assumes nothing.
 use mathlib.Core.Path.{◌∙◌}
 use Rattle.desk_arguments.proofs.with_word.Goals as goal
 

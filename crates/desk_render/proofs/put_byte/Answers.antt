@@ -1,4 +1,4 @@
--- converted (mended)
+-- `desk_render::put_byte` is right since the count tells the form: as it is, marked, or in hexadecimal. Assumes nothing.
 use native.Mathlib.Omega.{arith}
 use lib.ListN.{length-set}
 use Rattle.desk_render.proofs.Laws.{size_some, put_plain, put_marked, put_escape}

@@ -1,4 +1,4 @@
--- converted (mended)
+-- `desk_render::put_decimal` is right since the kit's digits, which are put as they are, are the fewest. Assumes nothing.
 use mathlib.Core.Path.{◌∙◌}
 use native.Mathlib.Omega.{arith}
 use Rattle.desk_render.proofs.Laws.{fewest_decimal, fewest_length, decimal_short}

@@ -1,4 +1,4 @@
--- converted (mended)
+-- `desk_render::put_shown` is right since each turn shows one byte, and what is left decides. Assumes nothing.
 use Prim.Native.Nat.{◌-◌}
 use native.Mathlib.Omega.{arith}
 use Rattle.desk_render.proofs.Laws.{showing_start, showing_full, showing_next, showing_end, shows_none}

@@ -1,4 +1,3 @@
--- converted (mended)
 use Prim.Native.Nat.{◌-◌}
 use lib.ListN.{length}
 use Rattle.desk_render.proofs.Laws.{Showing}

@@ -1,4 +1,4 @@
--- converted
+-- `reply_write::before_size` is right since the fields are tested in the order in which they are written. Assumes nothing.
 use Rattle.records.specs.AsNumbers.{told_reply_kind}
 use Rattle.reply_write.specs.Handed.{handed}
 use Rattle.reply_write.proofs.Laws.{before_size_all}

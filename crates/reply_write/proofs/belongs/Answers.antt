@@ -1,4 +1,4 @@
--- converted
+-- `reply_write::belongs` is right since only its block can fail to belong together. Assumes nothing.
 use Rattle.records.specs.AsNumbers.{told_reply_kind}
 use Rattle.reply_write.specs.Handed.{handed}
 use Rattle.reply_write.proofs.Laws.{belong_all}

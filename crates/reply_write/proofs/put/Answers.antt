@@ -1,4 +1,4 @@
--- converted
+-- `reply_write::put` is right since each field is put behind the one before it. Assumes nothing.
 use Rattle.write_ack_properties.proofs.Laws.{rows_small}
 use Rattle.records.specs.AsNumbers.{told_reply_kind}
 use Rattle.reply_write.specs.Handed.{handed}

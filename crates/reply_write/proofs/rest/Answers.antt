@@ -1,4 +1,4 @@
--- converted
+-- `reply_write::rest` is right since R is the identifier, the block and the reasons. Assumes nothing.
 use Rattle.records.specs.AsNumbers.{told_reply_kind}
 use Rattle.reply_write.specs.Handed.{handed}
 use Rattle.reply_write.proofs.Laws.{reply_rest}

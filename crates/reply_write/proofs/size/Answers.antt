@@ -1,4 +1,4 @@
--- converted
+-- `reply_write::size` is right since what it hands on is whether all belongs together, and R. Assumes nothing.
 use mathlib.Core.Path.{◌∙◌}
 use Rattle.records.specs.AsNumbers.{told_reply_kind}
 use Rattle.writing.specs.Handed.{reply}

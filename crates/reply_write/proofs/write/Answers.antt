@@ -1,4 +1,4 @@
--- converted
+-- `reply_write::write` is right since the order is settled from what is found, and only then is the frame put. Assumes nothing.
 use mathlib.Core.Path.{sym, ap, ◌∙◌}
 use Rattle.writing.specs.Handed.{reply}
 use Rattle.records.specs.AsNumbers.{limit_of, told_reply_kind}

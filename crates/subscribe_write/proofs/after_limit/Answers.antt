@@ -1,4 +1,4 @@
--- converted
+-- `subscribe_write::after_limit` is right since the identifier is tested before the filters are asked for. Assumes nothing.
 use Rattle.subscribe_write.specs.Handed.{handed}
 use Rattle.subscribe_write.proofs.Laws.{after_limit_all}
 use Rattle.subscribe_write.proofs.after_limit.Goals as goal

@@ -1,4 +1,4 @@
--- converted
+-- `subscribe_write::before_size` is right since the fields are tested in the order in which they are written. Assumes nothing.
 use Rattle.subscribe_write.specs.Handed.{handed}
 use Rattle.subscribe_write.proofs.Laws.{before_size_all}
 use Rattle.subscribe_write.proofs.before_size.Goals as goal

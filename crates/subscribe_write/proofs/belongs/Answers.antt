@@ -1,4 +1,4 @@
--- converted
+-- `subscribe_write::belongs` is right since all belongs together exactly if the rows of the table and the filters do. Assumes nothing.
 use Rattle.subscribe_write.specs.Handed.{handed}
 use Rattle.subscribe_write.proofs.Laws.{belong_all}
 use Rattle.subscribe_write.proofs.belongs.Goals as goal

@@ -1,4 +1,4 @@
--- converted
+-- `subscribe_write::block_length` is right since it adds up the rows of the table. Assumes nothing.
 use Rattle.subscribe_write.specs.Handed.{handed}
 use Rattle.subscribe_write.proofs.Laws.{subscribe_length}
 use Rattle.subscribe_write.proofs.block_length.Goals as goal

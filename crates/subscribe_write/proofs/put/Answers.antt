@@ -1,4 +1,4 @@
--- converted
+-- `subscribe_write::put` is right since each field is put behind the one before it. Assumes nothing.
 use Rattle.subscribe_write.specs.Handed.{handed}
 use Rattle.subscribe_write.proofs.Laws.{put_frame}
 use Rattle.subscribe_write.proofs.put.Goals as goal

@@ -1,4 +1,4 @@
--- converted
+-- `subscribe_write::put_block` is right since each row is put behind the one before it. Assumes nothing.
 use Rattle.subscribe_write.specs.Handed.{handed}
 use Rattle.subscribe_write.proofs.Laws.{put_rows}
 use Rattle.subscribe_write.proofs.put_block.Goals as goal

@@ -1,4 +1,4 @@
--- converted
+-- `subscribe_write::rest` is right since R is the identifier, the block and the filters. Assumes nothing.
 use Rattle.subscribe_write.specs.Handed.{handed}
 use Rattle.subscribe_write.proofs.Laws.{subscribe_rest}
 use Rattle.subscribe_write.proofs.rest.Goals as goal

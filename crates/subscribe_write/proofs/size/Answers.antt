@@ -1,4 +1,4 @@
--- converted
+-- `subscribe_write::size` is right since what it hands on is whether all belongs together, and R. Assumes nothing.
 use mathlib.Core.Path.{◌∙◌}
 use Rattle.writing.specs.Handed.{subscribe}
 use Rattle.write_order.proofs.Laws.{sized_found}

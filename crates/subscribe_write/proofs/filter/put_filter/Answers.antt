@@ -1,4 +1,4 @@
--- converted
+-- `subscribe_write::filter::put_filter` is right since the string and the options byte behind it are one put. Assumes nothing.
 use native.Mathlib.Omega.{arith}
 use Rattle.write_strings.proofs.Fits.{string_most}
 use Rattle.subscribe_write.proofs.Filters.{put_filter}

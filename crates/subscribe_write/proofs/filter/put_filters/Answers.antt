@@ -1,4 +1,4 @@
--- converted
+-- `subscribe_write::filter::put_filters` is right since after each turn the filters from the i-th on, their texts at the index `from` of the run, are left to put. Assumes nothing.
 use mathlib.Core.Path.{ap, sym, ◌∙◌}
 use Prim.Native.Nat.{◌-◌}
 use native.Mathlib.Omega.{arith}

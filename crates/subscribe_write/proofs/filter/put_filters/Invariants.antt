@@ -1,4 +1,3 @@
--- converted
 use Prim.Native.Nat.{◌+◌, ◌*◌, ◌-◌, ◌≤◌}
 use lib.ListN.{length, drop}
 use Rattle.writing.specs.Lists.{flat, beside}

@@ -1,4 +1,4 @@
--- converted
+-- `subscribe_write::filter::test_asked` is right since a filter has a length and an options byte. Assumes nothing.
 use mathlib.Core.Path.{sym, ◌∙◌}
 use Rattle.subscribe_write.proofs.Filters.{none_asked, some_asked}
 use Rattle.subscribe_write.proofs.filter.test_asked.Goals as goal

@@ -1,4 +1,4 @@
--- converted
+-- `subscribe_write::filter::test_filter` is right since the text is tested first, then the forward rule, then QoS. Assumes nothing.
 use mathlib.Core.Path.{ap, sym, ◌∙◌}
 use Rattle.write_tests.specs.Tested.{told_tested}
 use Rattle.subscribe_write.proofs.Filters.{filter_bad, filter_rule, filter_qos, filter_fine}

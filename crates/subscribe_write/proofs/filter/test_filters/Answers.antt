@@ -1,4 +1,4 @@
--- converted
+-- `subscribe_write::filter::test_filters` is right since the filters from the i-th on, their texts at the index `at` of the run, decide. Assumes nothing.
 use mathlib.Core.Path.{refl, ap, sym, ◌∙◌}
 use mathlib.Core.List.{List, map}
 use Prim.Native.Nat.{ℕ, ◌-◌}

@@ -1,4 +1,3 @@
--- converted
 use mathlib.Core.List.{map}
 use Prim.Native.Nat.{◌-◌}
 use lib.ListN.{drop}

@@ -1,0 +1,17 @@
+-- `publish_plan::belong::all_belong` is right since all rows belong exactly if each does. Assumes nothing.
+use Rattle.publish_plan.proofs.Laws.{belong_all}
+use Rattle.publish_plan.proofs.belong.all_belong.Goals as goal
+
+pub returns : goal.returns
+returns c =
+    let a = c.args in
+    λ t p. belong_all a.head t a.response_topic.now a.correlation_data.now a.user.now a.user_lengths.now a.subscription_identifiers.now a.content_type.now p
+    c.u8_belongs.ensures c.u32_belongs.ensures c.u16_belongs.ensures
+    c.lent_belongs-response.ensures
+    c.lent_belongs-correlation.ensures
+    c.pairs_belong.ensures
+    c.ids_belong-ids.ensures
+    c.lent_belongs-content.ensures
+    c.both.ensures
+    c.both-lists.ensures c.both-2.ensures
+    c.both-strings.ensures c.both-numbers.ensures c.both-3.ensures c.both-4.ensures
