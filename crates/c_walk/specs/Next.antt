@@ -21,7 +21,7 @@ step_numbers m (got (str p)) = m ∷ 0 ∷ 0 ∷ 0 ∷ 0 ∷ []
 step_numbers m (got (duo k v)) = m ∷ k.start ∷ k.len ∷ v.start ∷ v.len ∷ []
 step_numbers m (bad k) = m ∷ 0 ∷ 0 ∷ 0 ∷ 0 ∷ []
 
--- the contract of `ecch_next_user`: what comes next, o, and where the walk stands then, m, of which there is one (**next-one**, walker), are returned and stored
+-- the contract of `ecch_next_user`: what comes next, o, and where the walk stands then, m, of which there is one (**next_one**, walker), are returned and stored
 pub record Stored (row : Option Row) (s : List ℕ) (end at number : ℕ) (before after : List ℕ) : Type 0 where
   pub o : Fit (Val Span)
   pub m : ℕ
