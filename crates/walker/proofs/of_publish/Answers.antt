@@ -1,0 +1,8 @@
+-- converted
+use Rattle.walker.proofs.of_publish.Goals as goal
+
+pub returns-in-Absent : goal.returns-in-Absent
+returns-in-Absent c = rw c.in-Absent.is c.nowhere.ensures
+
+pub returns-in-Present : goal.returns-in-Present
+returns-in-Present c = rw c.in-Present.is c.over.ensures
