@@ -1,0 +1,29 @@
+-- converted
+use Rattle.std.proofs.Common.{◌-◌, sym, arith}
+use Rattle.speed_leaves.proofs.Laws.{none_summed, all_summed, not_summed, ahead, one_summed}
+use Rattle.speed_leaves.proofs.speed_leaves_sum.Goals as goal
+
+pub loop-at-init : goal.loop-at-init
+loop-at-init c = none_summed _
+
+pub loop-at-smaller : goal.loop-at-smaller
+loop-at-smaller c =
+    omega (
+      arith,
+      ahead c.loop-at.invariant c.loop-at-test.true _ _
+          (sym (rw c.in-Value.is at c.read_length.ensures)),
+    )
+
+pub loop-at-preserved : goal.loop-at-preserved
+loop-at-preserved c =
+    rw c.wrapping_add_u64-sum.ensures.value
+    (one_summed c.loop-at.invariant c.loop-at-test.true _ _
+    (sym (rw c.in-Value.is at c.read_length.ensures)))
+
+pub returns-in-Refused : goal.returns-in-Refused
+returns-in-Refused c =
+    not_summed c.loop-at.invariant c.loop-at-test.true _
+    (sym (rw c.in-Refused.is at c.read_length.ensures))
+
+pub returns : goal.returns
+returns c = all_summed c.loop-at.invariant c.loop-at-test.false
