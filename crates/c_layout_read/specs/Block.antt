@@ -21,11 +21,11 @@ abbrev pub texted : Span → Text
 texted p = record { on = 1; start = p.start; len = p.len }
 
 -- a property whose value is a number
-abbrev pub Numbered : Option (Val Span) → Number
-Numbered none = no_number
-Numbered (some (num n)) = record { on = 1; value = n }
-Numbered (some (str p)) = no_number
-Numbered (some (duo p q)) = no_number
+abbrev pub numbered : Option (Val Span) → Number
+numbered none = no_number
+numbered (some (num n)) = record { on = 1; value = n }
+numbered (some (str p)) = no_number
+numbered (some (duo p q)) = no_number
 
 -- a property whose value is a string
 abbrev pub lettered : Option (Val Span) → Text
@@ -59,9 +59,9 @@ abbrev pub publish_block : Option (PublishProps Span (λ A. Span)) → Block
 publish_block none = no_block
 publish_block (some p) = record {
   place = texted p.user;
-  format = Numbered p.format;
-  expiry = Numbered p.expiry;
-  alias = Numbered p.alias;
+  format = numbered p.format;
+  expiry = numbered p.expiry;
+  alias = numbered p.alias;
   response = lettered p.response;
   correlation = lettered p.correlation;
   content = lettered p.content;
@@ -72,7 +72,7 @@ publish_block (some p) = record {
 -- 01, table of properties; 02, P1: every other row; what a row does not have is absent
 abbrev pub props_block : Option (Props Span (λ A. Span)) → Block
 props_block none = no_block
-props_block (some p) = plain_block (texted p.user) (lettered p.reason) (Numbered p.ident)
+props_block (some p) = plain_block (texted p.user) (lettered p.reason) (numbered p.ident)
 
 -- of a packet; a ping has none
 abbrev pub packet_block : Placed → Block

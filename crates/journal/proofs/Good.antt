@@ -199,8 +199,8 @@ marks_are t m h l =
 zeros_drop : (m n : ℕ) → drop m (replicate (m + n) 0) ≡ replicate {A = ℕ} n 0
 zeros_drop m n = ap (drop m) (sym (replicate-append-replicate m n 0)) ∙ drop_at (replicate m 0) (replicate n 0) m (length-replicate {A = ℕ} m 0)
 
-Numbered : (n : ℕ) → sets (replicate 512 0) 0 (bytes_of 8 n) ≡ bytes_of 8 n ++ replicate 504 0
-Numbered n =
+numbered : (n : ℕ) → sets (replicate 512 0) 0 (bytes_of 8 n) ≡ bytes_of 8 n ++ replicate 504 0
+numbered n =
     sets-eq (bytes_of 8 n) (replicate 512 0) 0 (let e : length (bytes_of 8 n) ≡ 8 = length_bytes_of 8 n in omega (arith, e))
     ∙ ap (λ (k : ℕ). bytes_of 8 n ++ drop (0 + k) (replicate 512 0)) (length_bytes_of 8 n)
 
@@ -208,7 +208,7 @@ marked : (n : ℕ) (t : List ℕ) (m : ℕ) → m ≤ 256 → length t ≤ 4 * m
     → sets (sets (replicate 512 0) 0 (bytes_of 8 n)) 8 (each (packed_at t) 0 m) ≡ body_of n t ++ replicate 4 0
 unfolding body_of
 marked n t m h l =
-    ap (λ (s : List ℕ). sets s 8 ms) (Numbered n)
+    ap (λ (s : List ℕ). sets s 8 ms) (numbered n)
     ∙ sets-eq ms (bytes_of 8 n ++ replicate 504 0) 8 (omega (arith, length-append (bytes_of 8 n) (replicate 504 0), length_bytes_of 8 n, lm))
     ∙ ap₂ (λ (x y : List ℕ). (x ++ ms) ++ y) (take_at (bytes_of 8 n) (replicate 504 0) 8 (length_bytes_of 8 n)) rest
     ∙ append_assoc (bytes_of 8 n) ms (replicate (504 - m) 0)

@@ -16,12 +16,12 @@ abbrev table : List ℕ
 table = 1 ∷ 2 ∷ 3 ∷ 0 ∷ 3 ∷ (replicate 1018 0 ++ (2 ∷ []))
 
 -- the number 0102030405060708 hex in front of s
-abbrev Numbered : List ℕ → List ℕ
-Numbered s = 1 ∷ 2 ∷ 3 ∷ 4 ∷ 5 ∷ 6 ∷ 7 ∷ 8 ∷ s
+abbrev numbered : List ℕ → List ℕ
+numbered s = 1 ∷ 2 ∷ 3 ∷ 4 ∷ 5 ∷ 6 ∷ 7 ∷ 8 ∷ s
 
 -- its block: number, marks, zeros, check
 abbrev block : List ℕ → List ℕ
-block check = Numbered (0x39 ∷ 3 ∷ (replicate 253 0 ++ (0x80 ∷ (replicate 244 0 ++ check))))
+block check = numbered (0x39 ∷ 3 ∷ (replicate 253 0 ++ (0x80 ∷ (replicate 244 0 ++ check))))
 
 abbrev bytes : List ℕ
 bytes = block (0x23 ∷ 0xDD ∷ 0xE5 ∷ 0xF2 ∷ [])
@@ -41,11 +41,11 @@ read_bytes = (refl, refl)
 pub which_good : ◌≡◌ {A = List Bool}
     (good 1024 bytes
     ∷ good 1024 (block (0x23 ∷ 0xDD ∷ 0xE5 ∷ 0xF3 ∷ []))
-    ∷ good 1024 (Numbered (replicate 256 0 ++ (1 ∷ (replicate 243 0 ++ (0xD2 ∷ 0x3B ∷ 0x09 ∷ 0x07 ∷ [])))))
-    ∷ good 1024 (Numbered (replicate 499 0 ++ (1 ∷ 0x82 ∷ 0xEC ∷ 0x7D ∷ 0xAD ∷ [])))
+    ∷ good 1024 (numbered (replicate 256 0 ++ (1 ∷ (replicate 243 0 ++ (0xD2 ∷ 0x3B ∷ 0x09 ∷ 0x07 ∷ [])))))
+    ∷ good 1024 (numbered (replicate 499 0 ++ (1 ∷ 0x82 ∷ 0xEC ∷ 0x7D ∷ 0xAD ∷ [])))
     ∷ good 1024 (replicate 508 0 ++ (0x0F ∷ 0xBB ∷ 0x6D ∷ 0x54 ∷ []))
-    ∷ good 1024 (Numbered (replicate 32 0 ++ (1 ∷ (replicate 467 0 ++ (0x57 ∷ 0xA7 ∷ 0xF8 ∷ 0x66 ∷ [])))))
-    ∷ good 128 (Numbered (replicate 32 0 ++ (1 ∷ (replicate 467 0 ++ (0x57 ∷ 0xA7 ∷ 0xF8 ∷ 0x66 ∷ [])))))
+    ∷ good 1024 (numbered (replicate 32 0 ++ (1 ∷ (replicate 467 0 ++ (0x57 ∷ 0xA7 ∷ 0xF8 ∷ 0x66 ∷ [])))))
+    ∷ good 128 (numbered (replicate 32 0 ++ (1 ∷ (replicate 467 0 ++ (0x57 ∷ 0xA7 ∷ 0xF8 ∷ 0x66 ∷ [])))))
     ∷ [])
     (true ∷ false ∷ false ∷ false ∷ false ∷ true ∷ false ∷ [])
 unfolding good all_zero number_of big_endian_from wait_in each crc_of bytes_in byte_in shifts shift

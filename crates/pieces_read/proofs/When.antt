@@ -96,13 +96,13 @@ module _ (limit : Option ℕ) (cap : ℕ) (s : List ℕ) where
   unfolding judge_of
   judge_ends w e = go (header_under limit s) refl
     where
-      Numbered : (k : ℕ) (vs : List ℕ) → header_under limit s ≡ bad (nr k vs) → (k ≡ 1) ⊎ ((k ≡ 2) ⊎ (k ≡ 3)) → Ending limit cap s w
-      Numbered k vs j (inl i) = no_forbids (rw (j, eq-eqb k 1 i) at e)
-      Numbered k vs j (inr (inl i)) = inl (sym (row_of_lem (forbids_inj (rw (j, i) at e))))
-      Numbered k vs j (inr (inr i)) = inr (inl (sym (row_of_lem (forbids_inj (rw (j, i) at e)))))
+      numbered : (k : ℕ) (vs : List ℕ) → header_under limit s ≡ bad (nr k vs) → (k ≡ 1) ⊎ ((k ≡ 2) ⊎ (k ≡ 3)) → Ending limit cap s w
+      numbered k vs j (inl i) = no_forbids (rw (j, eq-eqb k 1 i) at e)
+      numbered k vs j (inr (inl i)) = inl (sym (row_of_lem (forbids_inj (rw (j, i) at e))))
+      numbered k vs j (inr (inr i)) = inr (inl (sym (row_of_lem (forbids_inj (rw (j, i) at e)))))
 
       go : (m : Fit ((ℕ × ℕ) × List ℕ)) → header_under limit s ≡ m → Ending limit cap s w
-      go (bad (nr k vs)) j = Numbered k vs j (header_numbers limit s k vs j)
+      go (bad (nr k vs)) j = numbered k vs j (header_numbers limit s k vs j)
       go (got z) j = size (ltb cap (frame_bytes s z)) refl
         where
           size : (b : Bool) → ltb cap (frame_bytes s z) ≡ b → Ending limit cap s w

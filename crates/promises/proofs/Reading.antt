@@ -41,8 +41,8 @@ both f g = (λ a. g.0 (f.0 a), λ c. f.1 (g.1 c))
 row_of_lem : (k : Refusal) (t : ℕ) → refused_as {A = Placed} k t ≡ refused (row_of k) (values_of k) t
 row_of_lem (nr k vs) t = refl
 
-Numbered : (k : Refusal) → nr (row_of k) (values_of k) ≡ k
-Numbered (nr k vs) = refl
+numbered : (k : Refusal) → nr (row_of k) (values_of k) ≡ k
+numbered (nr k vs) = refl
 
 -- ---- demand 1: every stream has one answer, and it is pinned down without the reader
 
@@ -108,7 +108,7 @@ module _ (limit : Limit) (s : List ℕ) (r : Read) (m : Meets limit s r) where
       → (r ≡ Read.Refused e t) ↔ Breaks (limit_of limit) s (told_error e) t
   fields_break e t h =
       let k = told_error e in
-      rw (Numbered k) at (both (refused_as_lem e t) (field_rows (limit_of limit) s (values_of k) (row_of k) t h))
+      rw (numbered k) at (both (refused_as_lem e t) (field_rows (limit_of limit) s (values_of k) (row_of k) t h))
 
   -- 02, P9: 22, "a single-valued property met a second time"
   pub duplicate_property : (i t : ℕ) → (r ≡ Read.Refused (Error.DuplicateProperty i) t) ↔ Breaks (limit_of limit) s (nr 22 (i ∷ [])) t

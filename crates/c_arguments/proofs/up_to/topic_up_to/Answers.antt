@@ -1,0 +1,14 @@
+-- converted
+use mathlib.Core.Path.{sym, ◌∙◌}
+use lib.ListN.{length}
+use Rattle.reading.specs.Place.{as_places}
+use Rattle.positions.specs.Position.{from_at}
+use Rattle.reading.specs.Read.{text_of}
+use Rattle.c_arguments.proofs.UpTo.{up_within, up_outside}
+use Rattle.c_arguments.proofs.up_to.topic_up_to.Goals as goal
+
+pub returns-then-stream-end : goal.returns-then-stream-end
+returns-then-stream-end c = up_outside (λ t. from_at (text_of as_places (length t)) t c.args.at) c.args.stream.now c.args.end c.if-stream-end.true
+
+pub returns : goal.returns
+returns c = c.read_mqtt_string.ensures ∙ sym (up_within (λ t. from_at (text_of as_places (length t)) t c.args.at) c.args.stream.now c.args.end c.if-stream-end.false)
