@@ -1,11 +1,11 @@
--- converted
+-- converted (mended)
 use mathlib.Core.Path.{sym, ◌∙◌}
 use Rattle.c_arguments.specs.Kind.{property_at}
 use Rattle.c_arguments.proofs.UpTo.{up_within, up_outside}
 use Rattle.c_arguments.proofs.up_to.property_up_to.Goals as goal
 
 pub returns-then-stream-end : goal.returns-then-stream-end
-returns-then-stream-end c = (up_outside (λ t. property_at c.args.kind t c.args.at) c.args.stream.now c.args.end c.if-stream-end.true, tt)
+returns-then-stream-end c = record { says = up_outside (λ t. property_at c.args.kind t c.args.at) c.args.stream.now c.args.end c.if-stream-end.true; typed = tt }
 
 pub returns : goal.returns
-returns c = (c.property_at.ensures.says ∙ sym (up_within (λ t. property_at c.args.kind t c.args.at) c.args.stream.now c.args.end c.if-stream-end.false), c.property_at.ensures.typed)
+returns c = record { says = c.property_at.ensures.says ∙ sym (up_within (λ t. property_at c.args.kind t c.args.at) c.args.stream.now c.args.end c.if-stream-end.false); typed = c.property_at.ensures.typed }

@@ -1,4 +1,4 @@
--- converted
+-- converted (mended)
 use mathlib.Core.Path.{sym, ◌∙◌}
 use lib.ListN.{length}
 use Rattle.reading.specs.Place.{as_places}

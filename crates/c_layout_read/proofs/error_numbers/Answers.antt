@@ -1,0 +1,11 @@
+-- converted (mended)
+use mathlib.Core.Path.{◌∙◌}
+use Rattle.records.specs.AsNumbers.{told_error}
+use Rattle.c_layout_read.proofs.Laws.{refused_encoded}
+use Rattle.c_layout_read.proofs.error_numbers.Goals as goal
+
+pub returns : goal.returns
+returns c =
+    c.numbers.ensures
+    ∙ rw (c.refused_head.ensures, c.no_block.ensures, c.second_value.ensures, c.first_value.ensures, c.values-v.ensures)
+    (refused_encoded (told_error c.args.e) _)

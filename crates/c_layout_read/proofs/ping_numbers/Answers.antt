@@ -1,0 +1,8 @@
+-- converted (mended)
+use mathlib.Core.Path.{◌∙◌}
+use Rattle.c_layout_read.specs.Record.{packet_numbers}
+use Rattle.c_layout_read.proofs.ping_numbers.Goals as goal
+
+pub returns : goal.returns
+unfolding packet_numbers
+returns c = c.numbers.ensures ∙ rw (c.no_block.ensures, c.plain_head.ensures, c.no_span-nowhere.ensures)

@@ -1,0 +1,8 @@
+-- converted (mended)
+use mathlib.Core.Path.{◌∙◌}
+use Rattle.c_layout_read.specs.Record.{packet_numbers}
+use Rattle.c_layout_read.proofs.publish_numbers.Goals as goal
+
+pub returns : goal.returns
+unfolding packet_numbers
+returns c = c.numbers.ensures ∙ rw (c.publish_block.ensures, c.publish_head.ensures)

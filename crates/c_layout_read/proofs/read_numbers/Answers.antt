@@ -1,0 +1,7 @@
+-- converted (mended)
+use Rattle.c_layout_read.specs.Record.{encoded}
+use Rattle.c_layout_read.proofs.read_numbers.Goals as goal
+
+pub returns-in-Packet : goal.returns-in-Packet
+unfolding encoded
+returns-in-Packet c = rw c.in-Packet.is c.packet_numbers.ensures

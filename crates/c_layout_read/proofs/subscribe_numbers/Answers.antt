@@ -1,0 +1,8 @@
+-- converted (mended)
+use mathlib.Core.Path.{◌∙◌}
+use Rattle.c_layout_read.specs.Record.{packet_numbers}
+use Rattle.c_layout_read.proofs.subscribe_numbers.Goals as goal
+
+pub returns : goal.returns
+unfolding packet_numbers
+returns c = c.numbers.ensures ∙ rw (c.props_block.ensures, c.plain_head-head.ensures, c.no_span-nowhere.ensures)
