@@ -1,4 +1,4 @@
--- converted (mended)
+-- mended
 use native.Mathlib.Omega.{arith}
 use Rattle.desk_lines.proofs.Laws.{then}
 use Rattle.desk_lines.proofs.refused_head.Goals as goal

@@ -1,4 +1,4 @@
--- converted (mended)
+-- mended
 use native.Mathlib.Omega.{arith}
 use Rattle.desk_lines.proofs.Laws.{then}
 use Rattle.desk_lines.proofs.two_values.Goals as goal

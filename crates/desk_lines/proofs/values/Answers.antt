@@ -1,4 +1,4 @@
--- converted (mended)
+-- mended
 use native.Mathlib.Omega.{arith}
 use Rattle.desk_lines.proofs.Laws.{put_none}
 use Rattle.desk_lines.proofs.values.Goals as goal

@@ -1,4 +1,4 @@
--- converted (mended)
+-- mended
 use Prim.Native.Nat.{◌-◌}
 use native.Mathlib.Omega.{arith}
 use Rattle.desk_render.proofs.Laws.{showing_start, showing_full, showing_next, showing_end, shows_none}

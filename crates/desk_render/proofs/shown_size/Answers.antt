@@ -1,4 +1,4 @@
--- converted (mended)
+-- mended
 use Rattle.desk_render.proofs.Laws.{size_mark, size_slash, size_below, size_above, size_plain}
 use Rattle.desk_render.proofs.shown_size.Goals as goal
 

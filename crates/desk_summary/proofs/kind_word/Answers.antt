@@ -1,4 +1,4 @@
--- converted (mended)
+-- mended
 use Rattle.std.proofs.Common.{◌-◌, length, ◌∙◌, arith}
 use Rattle.kinds.specs.Kinds.{word_of}
 use Rattle.desk_lines.proofs.Laws.{then, name_part}

@@ -1,4 +1,4 @@
--- converted (mended)
+-- mended
 use Rattle.std.proofs.Common.{◌≡◌, ◌-◌, refl, arith, rules}
 use Rattle.desk_summary.proofs.Laws.{kinds_none, kinds_next}
 use Rattle.desk_summary.proofs.kinds.Goals as goal

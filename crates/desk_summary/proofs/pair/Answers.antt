@@ -1,4 +1,4 @@
--- converted (mended)
+-- mended
 use Rattle.std.proofs.Common.{arith, ne_eqb}
 use Rattle.desk_lines.proofs.Laws.{then}
 use Rattle.desk_summary.proofs.pair.Goals as goal

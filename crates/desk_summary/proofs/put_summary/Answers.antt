@@ -1,4 +1,4 @@
--- converted (mended)
+-- mended
 use Rattle.desk_lines.proofs.Laws.{then}
 use Rattle.desk_summary.proofs.put_summary.Goals as goal
 

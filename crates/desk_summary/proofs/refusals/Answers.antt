@@ -1,4 +1,4 @@
--- converted (mended)
+-- mended
 use Rattle.std.proofs.Common.{◌≡◌, ◌-◌, refl, arith, rules}
 use Rattle.desk_summary.proofs.Laws.{to_none, to_next}
 use Rattle.desk_summary.proofs.refusals.Goals as goal

@@ -1,4 +1,4 @@
--- converted (mended)
+-- mended
 use Rattle.std.proofs.Common.{◌≡◌, ◌+◌, ◌-◌, ◌*◌, ◌≤◌, length}
 use Rattle.desk_lines.specs.Line.{PutAt}
 use Rattle.desk_summary.specs.Tally.{refusals_to}

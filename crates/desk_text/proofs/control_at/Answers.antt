@@ -1,4 +1,4 @@
--- converted (mended)
+-- mended
 use mathlib.Core.Path.{◌∙◌}
 use Rattle.desk_text.specs.Text.{control_at}
 use Rattle.desk_text.proofs.control_at.Goals as goal

@@ -1,4 +1,4 @@
--- converted (mended)
+-- mended
 use Rattle.desk_text.proofs.does_stand.Goals as goal
 
 pub returns-then-text : goal.returns-then-text

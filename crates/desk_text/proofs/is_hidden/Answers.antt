@@ -1,4 +1,4 @@
--- converted (mended)
+-- mended
 use mathlib.Core.Path.{sym, ap, ◌∙◌}
 use Prim.Native.Nat.{ℕ}
 use Rattle.desk_text.specs.Text.{control_at, turning_at, hidden}

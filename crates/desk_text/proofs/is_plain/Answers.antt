@@ -1,4 +1,4 @@
--- converted (mended)
+-- mended
 use borrow.Author.Tests.{leb-true}
 use Rattle.desk_text.proofs.Laws.{plain_shown}
 use Rattle.desk_text.proofs.is_plain.Goals as goal

@@ -1,4 +1,4 @@
--- converted (mended)
+-- mended
 use mathlib.Core.Path.{sym, ◌∙◌}
 use Rattle.desk_text.proofs.Laws.{put_byte, piece_plain, piece_stands, piece_shown}
 use Rattle.desk_text.proofs.put_piece.Goals as goal

@@ -1,4 +1,4 @@
--- converted (mended)
+-- mended
 use Prim.Native.Nat.{◌-◌}
 use native.Mathlib.Omega.{arith}
 use Rattle.desk_text.proofs.Laws.{showing_end, turn_full, turn_next, shows_none, shows_past}

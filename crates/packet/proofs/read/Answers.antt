@@ -1,4 +1,4 @@
--- converted (mended)
+-- mended
 use mathlib.Core.Path.{sym, ap, ◌∙◌}
 use native.Mathlib.Omega.{arith}
 use Rattle.records.specs.AsNumbers.{told_error, limit_of}

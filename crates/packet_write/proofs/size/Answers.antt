@@ -1,4 +1,4 @@
--- converted (mended)
+-- mended
 use mathlib.Core.Path.{sym, ◌∙◌}
 use Rattle.packet_write.proofs.Laws.{sized_alone, sized_mixed}
 use Rattle.packet_write.proofs.size.Goals as goal

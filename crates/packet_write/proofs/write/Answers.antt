@@ -1,4 +1,4 @@
--- converted (mended)
+-- mended
 use mathlib.Core.Path.{sym, ◌∙◌}
 use Rattle.packet_write.proofs.Laws.{written_alone, written_mixed}
 use Rattle.packet_write.proofs.write.Goals as goal

@@ -1,4 +1,4 @@
--- converted (mended)
+-- mended
 use Rattle.packet_write.proofs.Lent.{last_lent}
 use Rattle.packet_write.proofs.parts.nothing_else.Goals as goal
 
