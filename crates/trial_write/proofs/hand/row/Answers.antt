@@ -1,0 +1,6 @@
+-- converted
+use Rattle.std.proofs.Common.{sym, arith, length-take-le}
+use Rattle.trial_write.proofs.hand.row.Goals as goal
+
+pub slice_bounds-answered-end : goal.slice_bounds-answered-end
+slice_bounds-answered-end c = sym (length-take-le _ _ (omega arith))
