@@ -1,4 +1,4 @@
--- converted
+-- mended
 use mathlib.Core.Path.{◌∙◌}
 use Rattle.c_read.proofs.item.ecch_subscription_identifier.Goals as goal
 

@@ -1,4 +1,4 @@
--- converted
+-- mended
 use mathlib.Core.Path.{◌∙◌}
 use Rattle.c_read.proofs.next.ecch_property.Goals as goal
 

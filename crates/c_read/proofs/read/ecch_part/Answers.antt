@@ -1,4 +1,4 @@
--- converted
+-- mended
 use mathlib.Core.Path.{sym}
 use Rattle.c_read.proofs.read.ecch_part.Goals as goal
 
