@@ -1,8 +1,4 @@
-<<<<<<< HEAD
 -- `desk_lines::name` is right since the name is the part before the zeros. Assumes nothing.
-=======
--- mended
->>>>>>> 4a552650cd17fb244a3bc622c71b25a0c0f3468b
 use mathlib.Core.Path.{◌∙◌}
 use Prim.Native.Nat.{◌-◌}
 use native.Mathlib.Omega.{arith}

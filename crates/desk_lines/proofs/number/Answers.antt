@@ -1,8 +1,4 @@
-<<<<<<< HEAD
 -- `desk_lines::number` is right since the number is put behind the words. Assumes nothing.
-=======
--- mended
->>>>>>> 4a552650cd17fb244a3bc622c71b25a0c0f3468b
 use native.Mathlib.Omega.{arith}
 use Rattle.desk_lines.proofs.Laws.{then}
 use Rattle.desk_lines.proofs.number.Goals as goal

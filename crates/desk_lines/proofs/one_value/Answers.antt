@@ -1,8 +1,4 @@
-<<<<<<< HEAD
 -- `desk_lines::one_value` is right since its parts are put one behind the other. Assumes nothing.
-=======
--- mended
->>>>>>> 4a552650cd17fb244a3bc622c71b25a0c0f3468b
 use native.Mathlib.Omega.{arith}
 use Rattle.desk_lines.proofs.Laws.{then}
 use Rattle.desk_lines.proofs.one_value.Goals as goal

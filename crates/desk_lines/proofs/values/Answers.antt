@@ -1,8 +1,4 @@
-<<<<<<< HEAD
 -- `desk_lines::values` is right for none, one and two. Assumes nothing.
-=======
--- mended
->>>>>>> 4a552650cd17fb244a3bc622c71b25a0c0f3468b
 use native.Mathlib.Omega.{arith}
 use Rattle.desk_lines.proofs.Laws.{put_none}
 use Rattle.desk_lines.proofs.values.Goals as goal

@@ -1,8 +1,4 @@
-<<<<<<< HEAD
 -- `desk_render::put_byte` is right since the count tells the form: as it is, marked, or in hexadecimal. Assumes nothing.
-=======
--- mended
->>>>>>> 4a552650cd17fb244a3bc622c71b25a0c0f3468b
 use native.Mathlib.Omega.{arith}
 use lib.ListN.{length-set}
 use Rattle.desk_render.proofs.Laws.{size_some, put_plain, put_marked, put_escape}

@@ -1,8 +1,4 @@
-<<<<<<< HEAD
 -- `desk_render::put_decimal` is right since the kit's digits, which are put as they are, are the fewest. Assumes nothing.
-=======
--- mended
->>>>>>> 4a552650cd17fb244a3bc622c71b25a0c0f3468b
 use mathlib.Core.Path.{◌∙◌}
 use native.Mathlib.Omega.{arith}
 use Rattle.desk_render.proofs.Laws.{fewest_decimal, fewest_length, decimal_short}

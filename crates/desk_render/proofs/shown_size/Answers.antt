@@ -1,8 +1,4 @@
-<<<<<<< HEAD
 -- `desk_render::shown_size` is right case by case. Assumes nothing.
-=======
--- mended
->>>>>>> 4a552650cd17fb244a3bc622c71b25a0c0f3468b
 use Rattle.desk_render.proofs.Laws.{size_mark, size_slash, size_below, size_above, size_plain}
 use Rattle.desk_render.proofs.shown_size.Goals as goal
 

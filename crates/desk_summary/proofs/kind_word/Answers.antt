@@ -1,8 +1,4 @@
-<<<<<<< HEAD
 -- `desk_summary::kind_word` is right since the word is the part of its bytes before the zeros. Assumes nothing.
-=======
--- mended
->>>>>>> 4a552650cd17fb244a3bc622c71b25a0c0f3468b
 use Rattle.std.proofs.Common.{◌-◌, length, ◌∙◌, arith}
 use Rattle.kinds.specs.Kinds.{word_of}
 use Rattle.desk_lines.proofs.Laws.{then, name_part}

@@ -1,8 +1,4 @@
-<<<<<<< HEAD
 -- `desk_summary::kinds` is right since each turn puts the next behind those before it. Assumes nothing.
-=======
--- mended
->>>>>>> 4a552650cd17fb244a3bc622c71b25a0c0f3468b
 use Rattle.std.proofs.Common.{◌≡◌, ◌-◌, refl, arith, rules}
 use Rattle.desk_summary.proofs.Laws.{kinds_none, kinds_next}
 use Rattle.desk_summary.proofs.kinds.Goals as goal

@@ -1,8 +1,4 @@
-<<<<<<< HEAD
 -- `desk_summary::put_summary` is right since its parts are put one behind the other. Assumes nothing.
-=======
--- mended
->>>>>>> 4a552650cd17fb244a3bc622c71b25a0c0f3468b
 use Rattle.desk_lines.proofs.Laws.{then}
 use Rattle.desk_summary.proofs.put_summary.Goals as goal
 

@@ -1,7 +1,3 @@
-<<<<<<< HEAD
-=======
--- mended
->>>>>>> 4a552650cd17fb244a3bc622c71b25a0c0f3468b
 use Rattle.std.proofs.Common.{◌≡◌, ◌+◌, ◌-◌, ◌*◌, ◌≤◌, length}
 use Rattle.desk_lines.specs.Line.{PutAt}
 use Rattle.desk_summary.specs.Tally.{refusals_to}

@@ -1,8 +1,4 @@
-<<<<<<< HEAD
 -- `desk_text::does_stand` is right since its test is that of the definition. Assumes nothing.
-=======
--- mended
->>>>>>> 4a552650cd17fb244a3bc622c71b25a0c0f3468b
 use Rattle.desk_text.proofs.does_stand.Goals as goal
 
 pub returns-then-text : goal.returns-then-text

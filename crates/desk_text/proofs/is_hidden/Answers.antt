@@ -1,8 +1,4 @@
-<<<<<<< HEAD
 -- `desk_text::is_hidden` is right since its tests are those of the definition. Assumes nothing.
-=======
--- mended
->>>>>>> 4a552650cd17fb244a3bc622c71b25a0c0f3468b
 use mathlib.Core.Path.{sym, ap, ◌∙◌}
 use Prim.Native.Nat.{ℕ}
 use Rattle.desk_text.specs.Text.{control_at, turning_at, hidden}

@@ -1,8 +1,4 @@
-<<<<<<< HEAD
 -- `desk_text::is_plain` is right since those behind 0x22, but for 0x5C, are neither marked nor escaped. Assumes nothing.
-=======
--- mended
->>>>>>> 4a552650cd17fb244a3bc622c71b25a0c0f3468b
 use borrow.Author.Tests.{leb-true}
 use Rattle.desk_text.proofs.Laws.{plain_shown}
 use Rattle.desk_text.proofs.is_plain.Goals as goal

@@ -1,8 +1,4 @@
-<<<<<<< HEAD
 -- `desk_text::is_seen` is right since its tests are those of the definition. Assumes nothing.
-=======
--- mended
->>>>>>> 4a552650cd17fb244a3bc622c71b25a0c0f3468b
 use mathlib.Core.Path.{sym, ◌∙◌}
 use borrow.Author.Tests.{le-leb, lt-leb}
 use Rattle.desk_text.specs.Text.{seen}

@@ -1,8 +1,4 @@
-<<<<<<< HEAD
 -- `desk_text::put_piece` is right since the byte is put as it stands, or as `desk_render` shows it. Assumes nothing.
-=======
--- mended
->>>>>>> 4a552650cd17fb244a3bc622c71b25a0c0f3468b
 use mathlib.Core.Path.{sym, ◌∙◌}
 use Rattle.desk_text.proofs.Laws.{put_byte, piece_plain, piece_stands, piece_shown}
 use Rattle.desk_text.proofs.put_piece.Goals as goal

@@ -1,8 +1,4 @@
-<<<<<<< HEAD
 -- `desk_text::put_text` is right since each turn shows one byte, and what is left decides. Assumes nothing.
-=======
--- mended
->>>>>>> 4a552650cd17fb244a3bc622c71b25a0c0f3468b
 use Prim.Native.Nat.{◌-◌}
 use native.Mathlib.Omega.{arith}
 use Rattle.desk_text.proofs.Laws.{showing_end, turn_full, turn_next, shows_none, shows_past}

@@ -1,7 +1,3 @@
-<<<<<<< HEAD
-=======
--- mended
->>>>>>> 4a552650cd17fb244a3bc622c71b25a0c0f3468b
 use Prim.Native.Nat.{◌-◌}
 use lib.ListN.{length}
 use Rattle.desk_text.proofs.Laws.{Showing}

@@ -1,8 +1,4 @@
-<<<<<<< HEAD
 -- `desk_text::turning_at` is right since its bytes are those of the definition. Assumes nothing.
-=======
--- mended
->>>>>>> 4a552650cd17fb244a3bc622c71b25a0c0f3468b
 use mathlib.Core.Path.{◌∙◌}
 use Rattle.desk_text.specs.Text.{turning_at}
 use Rattle.desk_text.proofs.turning_at.Goals as goal

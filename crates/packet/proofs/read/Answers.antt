@@ -1,8 +1,4 @@
-<<<<<<< HEAD
 -- `packet::read` is right since what `check` refuses takes nothing, and the answer to the frame that it finds is the answer to the stream. Assumes nothing.
-=======
--- mended
->>>>>>> 4a552650cd17fb244a3bc622c71b25a0c0f3468b
 use mathlib.Core.Path.{sym, ap, ◌∙◌}
 use native.Mathlib.Omega.{arith}
 use Rattle.records.specs.AsNumbers.{told_error, limit_of}

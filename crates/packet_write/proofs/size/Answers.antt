@@ -1,8 +1,4 @@
-<<<<<<< HEAD
 -- `packet_write::size` is right since 20 is given for what does not belong to the record, and else the kind's size. Assumes nothing.
-=======
--- mended
->>>>>>> 4a552650cd17fb244a3bc622c71b25a0c0f3468b
 use mathlib.Core.Path.{sym, ◌∙◌}
 use Rattle.packet_write.proofs.Laws.{sized_alone, sized_mixed}
 use Rattle.packet_write.proofs.size.Goals as goal

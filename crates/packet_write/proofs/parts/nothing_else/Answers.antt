@@ -1,8 +1,4 @@
-<<<<<<< HEAD
 -- `packet_write::parts::nothing_else` is right since it asks of each kind's parts whether they are empty. Assumes nothing.
-=======
--- mended
->>>>>>> 4a552650cd17fb244a3bc622c71b25a0c0f3468b
 use Rattle.packet_write.proofs.Lent.{last_lent}
 use Rattle.packet_write.proofs.parts.nothing_else.Goals as goal
 
