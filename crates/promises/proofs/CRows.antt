@@ -43,6 +43,7 @@ each_flat f p [] = nil
 each_flat f p (a ∷ l) = each_append (f a) (flat f l) (p a) (each_flat f p l)
 
 first_of_lem : (rs : List ℕ) {k : Refusal} (fs : List Field) → Each (Of rs) fs → FirstFault k fs → is_in (row_of k) rs ≡ true
+first_of_lem rs [] n x = elim x [ ]
 first_of_lem rs (f ∷ fs) (p & ps) (r.FirstFault.here q) = p _ q
 first_of_lem rs (f ∷ fs) (p & ps) (r.FirstFault.later w q) = first_of_lem rs fs ps q
 
@@ -98,11 +99,13 @@ fields_of_lem (ping k) = nil
 -- ---- numbers
 
 unfit_of : (rs : List ℕ) → is_in 17 rs ≡ true → is_in 23 rs ≡ true → (ns : List ℕ) {k : Refusal} → FirstUnfit k ns → is_in (row_of k) rs ≡ true
+unfit_of rs a b [] x = elim x [ ]
 unfit_of rs a b (n ∷ ns) (r.FirstUnfit.here (large l)) = a
 unfit_of rs a b (n ∷ ns) (r.FirstUnfit.here nought) = b
 unfit_of rs a b (n ∷ ns) (r.FirstUnfit.later f u) = unfit_of rs a b ns u
 
 unfit_none : (ns : List ℕ) {k : Refusal} → ns ≡ [] → FirstUnfit k ns → ⊥
+unfit_none [] e u = elim u [ ]
 unfit_none (n ∷ ns) e u = omega (arith, ap length e)
 
 unfit_row : (h : Handed) {k : Refusal} → FirstUnfit k (numbers_of h) → is_in (row_of k) (write_rows h) ≡ true

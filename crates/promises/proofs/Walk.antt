@@ -55,14 +55,18 @@ use Rattle.promises.proofs.Items.{present}
 
 -- ---- a walk gives one list
 
-pub one_walk : {A : Type 0} {item : ℕ → Fit (A × ℕ)} {end at : ℕ} {vs ws : List A} → Walked item end at vs → Walked item end at ws → vs ≡ ws
-one_walk arrived arrived = refl
-one_walk arrived (onward h e w) = absurd (omega arith)
-one_walk (onward h e w) arrived = absurd (omega arith)
-one_walk {A = A} {item = item} {end = end} (onward {next = n} {a = a} {vs = vs} h e w) (onward {next = m} {a = b} {vs = ws} h' e' w') =
-    let i : ◌≡◌ {A = A × ℕ} (a, n) (b, m) = got_inj (sym e ∙ e') in
-    let j : vs ≡ ws = one_walk w (subst (λ (k : ℕ). Walked item end k ws) (sym (ap (λ (z : A × ℕ). z.1) i)) w') in
+-- from two indices that are one
+one_from : {A : Type 0} {item : ℕ → Fit (A × ℕ)} {end at at' : ℕ} {vs ws : List A} → at ≡ at' → Walked item end at vs → Walked item end at' ws → vs ≡ ws
+one_from q arrived arrived = refl
+one_from q arrived (onward h e w) = absurd (omega arith)
+one_from q (onward h e w) arrived = absurd (omega arith)
+one_from {A = A} {item = item} q (onward {next = n} {a = a} {vs = vs} h e w) (onward {next = m} {a = b} {vs = ws} h' e' w') =
+    let i : ◌≡◌ {A = A × ℕ} (a, n) (b, m) = got_inj (sym e ∙ (ap item q ∙ e')) in
+    let j : vs ≡ ws = one_from (ap (λ (z : A × ℕ). z.1) i) w w' in
     rw (ap (λ (z : A × ℕ). z.0) i, j)
+
+pub one_walk : {A : Type 0} {item : ℕ → Fit (A × ℕ)} {end at : ℕ} {vs ws : List A} → Walked item end at vs → Walked item end at ws → vs ≡ ws
+one_walk v w = one_from refl v w
 
 -- ---- any reader, again and again from an index of s to its end
 
