@@ -1,4 +1,4 @@
--- converted (mended)
+-- mended
 use Prim.Native.Nat.{◌-◌}
 use lib.ListN.{length}
 use Rattle.filter_table.proofs.Laws.{Counted}

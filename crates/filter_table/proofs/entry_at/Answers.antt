@@ -1,4 +1,4 @@
--- converted (mended)
+-- mended
 use Rattle.filter_table.proofs.Laws.{entry_got, entry_bad}
 use Rattle.filter_table.proofs.entry_at.Goals as goal
 

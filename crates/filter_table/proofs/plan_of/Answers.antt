@@ -1,4 +1,4 @@
--- converted (mended)
+-- mended
 use mathlib.Core.Path.{refl}
 use Rattle.filter_table.proofs.Laws.{plan_refused, plan_other, plan_subscribe}
 use Rattle.filter_table.proofs.plan_of.Goals as goal

@@ -1,4 +1,4 @@
--- converted (mended)
+-- mended
 use native.Mathlib.Omega.{arith}
 use mathlib.Core.Path.{refl}
 use lib.ListN.{length}

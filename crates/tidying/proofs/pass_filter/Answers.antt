@@ -1,4 +1,4 @@
--- converted (mended)
+-- mended
 use Rattle.tidying.proofs.Laws.Pass.{filter_found, filter_none}
 use Rattle.tidying.proofs.pass_filter.Goals as goal
 

@@ -1,4 +1,4 @@
--- converted (mended)
+-- mended
 use Rattle.tables.specs.Property.{table_row}
 use Rattle.tidying.proofs.Laws.Pass.{passed_found, passed_none}
 use Rattle.tidying.proofs.pass_property.Goals as goal

@@ -1,4 +1,4 @@
--- converted (mended)
+-- mended
 use Rattle.grammar.specs.Tables.{publish_row, subscribe_row, ack_row, unsubscribe_row}
 use Rattle.tidying.proofs.put_block.Goals as goal
 

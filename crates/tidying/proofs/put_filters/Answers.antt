@@ -1,4 +1,4 @@
--- converted (mended)
+-- mended
 use Prim.Native.Nat.{◌-◌}
 use native.Mathlib.Omega.{arith}
 use Rattle.tidying.proofs.Laws.Put.{mask_next, mask_end}

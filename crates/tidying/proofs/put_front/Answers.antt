@@ -1,4 +1,4 @@
--- converted (mended)
+-- mended
 use Rattle.tables.specs.Property.{table_row}
 use Rattle.tidying.proofs.Laws.Put.{front_put}
 use Rattle.tidying.proofs.put_front.Goals as goal

@@ -1,4 +1,4 @@
--- converted (mended)
+-- mended
 use mathlib.Core.Path.{◌∙◌}
 use native.Mathlib.Omega.{arith}
 use lib.ListN.{length, drop, length-drop}

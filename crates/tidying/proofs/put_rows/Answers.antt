@@ -1,4 +1,4 @@
--- converted (mended)
+-- mended
 use Prim.Native.Nat.{◌-◌}
 use native.Mathlib.Omega.{arith}
 use Rattle.tables.specs.Property.{table_row}

@@ -1,4 +1,4 @@
--- converted (mended)
+-- mended
 use Rattle.tidying.proofs.Laws.Frame.{tidies_refused, accepted_frame, tidies_frame}
 use Rattle.tidying.proofs.tidy.Goals as goal
 

@@ -1,4 +1,4 @@
--- converted (mended)
+-- mended
 use native.Mathlib.Omega.{arith}
 use Rattle.tables.specs.Property.{table_row}
 use Rattle.tidying.proofs.Laws.Put.{laid_none, laid_put}

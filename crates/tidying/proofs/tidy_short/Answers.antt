@@ -1,4 +1,4 @@
--- converted (mended)
+-- mended
 use mathlib.Core.Path.{sym, ◌∙◌}
 use Rattle.tidying.proofs.Laws.Put.{short_success, short_reason}
 use Rattle.tidying.proofs.tidy_short.Goals as goal

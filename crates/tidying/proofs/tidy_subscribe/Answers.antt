@@ -1,4 +1,4 @@
--- converted (mended)
+-- mended
 use native.Mathlib.Omega.{arith}
 use Rattle.grammar.specs.Tables.{subscribe_row}
 use Rattle.tidying.proofs.Laws.Put.{laid_none, masked_put}
