@@ -1,0 +1,5 @@
+-- mended
+use Rattle.c_filters.proofs.table_number.Goals as goal
+
+pub returns-in-Refused : goal.returns-in-Refused
+returns-in-Refused c = rw c.in-Refused.is c.number.ensures
