@@ -1,0 +1,7 @@
+-- mended
+use mathlib.Core.Path.{refl}
+use Rattle.c_write.proofs.Laws.{written_by}
+use Rattle.c_write.proofs.put_ping.ecch_pingreq_write.Goals as goal
+
+pub returns : goal.returns
+returns c = written_by _ _ c.store_written.ensures c.bound.ensures refl c.write_ping_req-written.ensures

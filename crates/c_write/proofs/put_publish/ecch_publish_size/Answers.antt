@@ -1,0 +1,10 @@
+-- mended
+use mathlib.Core.Path.{ap, ◌∙◌}
+use Rattle.writing.specs.Write.{sized_behind}
+use Rattle.c_heads.specs.By.{behind}
+use Rattle.c_write.proofs.Laws.{answered_by}
+use Rattle.c_write.proofs.put_publish.ecch_publish_size.Goals as goal
+
+pub returns : goal.returns
+returns c = let a = c.args in
+    answered_by _ c.store_written.ensures (c.size_publish-size.ensures ∙ ap (λ t. sized_behind (behind t)) (c.publish_head-by.ensures a.topic.now a.response.now a.correlation.now a.user.now a.user_lengths.now a.identifiers.now a.content.now a.payload.now))

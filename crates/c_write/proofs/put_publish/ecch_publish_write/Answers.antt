@@ -1,0 +1,9 @@
+-- mended
+use mathlib.Core.Path.{ap}
+use Rattle.c_heads.specs.By.{behind}
+use Rattle.c_write.proofs.Laws.{behind_by}
+use Rattle.c_write.proofs.put_publish.ecch_publish_write.Goals as goal
+
+pub returns : goal.returns
+returns c = let a = c.args in
+    behind_by _ a.out.now c.store_written.ensures c.bound.ensures (ap behind (c.publish_head-by.ensures a.topic.now a.response.now a.correlation.now a.user.now a.user_lengths.now a.identifiers.now a.content.now a.payload.now)) c.write_publish-written.ensures

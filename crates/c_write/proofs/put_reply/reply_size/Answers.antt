@@ -1,0 +1,10 @@
+-- mended
+use mathlib.Core.Path.{ap, ◌∙◌}
+use Rattle.writing.specs.Write.{size_of}
+use Rattle.c_write.proofs.Laws.{answered_by}
+use Rattle.c_write.proofs.put_reply.reply_size.Goals as goal
+
+pub returns : goal.returns
+returns c =
+    let a = c.args in
+    answered_by _ c.store_written.ensures (c.as_written.ensures ∙ c.size-size.ensures ∙ ap size_of (c.reply_head-head.ensures a.reason_string.now a.user.now a.user_lengths.now a.reasons.now))

@@ -1,0 +1,8 @@
+-- mended
+use mathlib.Core.Path.{ap}
+use Rattle.c_heads.specs.By.{behind}
+use Rattle.c_write.proofs.Laws.{behind_by}
+use Rattle.c_write.proofs.put_subscribe.ecch_subscribe_write.Goals as goal
+
+pub returns : goal.returns
+returns c = behind_by _ c.args.out.now c.store_written.ensures c.bound.ensures (ap behind (c.subscribe_head-by.ensures c.args.user.now c.args.user_lengths.now c.args.filters.now c.args.filter_lengths.now c.args.options.now)) c.write_subscribe-written.ensures

@@ -1,0 +1,11 @@
+-- mended
+use mathlib.Core.Path.{ap, ◌∙◌}
+use Rattle.writing.specs.Handed.{unsubscribe}
+use Rattle.writing.specs.Write.{size_of}
+use Rattle.c_write.proofs.Laws.{answered_by}
+use Rattle.c_write.proofs.put_unsubscribe.ecch_unsubscribe_size.Goals as goal
+
+pub returns : goal.returns
+returns c =
+    let a = c.args in
+    answered_by _ c.store_written.ensures (c.as_written.ensures ∙ c.size-size.ensures ∙ ap size_of (ap unsubscribe (c.unsubscribe_head-head.ensures a.user.now a.user_lengths.now a.topics.now a.topic_lengths.now)))

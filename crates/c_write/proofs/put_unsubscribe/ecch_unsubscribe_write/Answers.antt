@@ -1,0 +1,10 @@
+-- mended
+use mathlib.Core.Path.{ap}
+use Rattle.writing.specs.Handed.{unsubscribe}
+use Rattle.c_write.proofs.Laws.{written_by}
+use Rattle.c_write.proofs.put_unsubscribe.ecch_unsubscribe_write.Goals as goal
+
+pub returns : goal.returns
+returns c =
+    let a = c.args in
+    written_by _ _ c.store_written.ensures c.bound.ensures (ap unsubscribe (c.unsubscribe_head-head.ensures a.user.now a.user_lengths.now a.topics.now a.topic_lengths.now)) c.write-written.ensures
