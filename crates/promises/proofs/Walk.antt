@@ -17,7 +17,7 @@ use Rattle.grammar.specs.Sentence.{Value, Prop, some_of, Packet}
 use Rattle.reading.specs.Refusal.{accepted}
 use Rattle.reading.specs.Reader.{Fit, got, bad, Reader, Filler, ◌>>◌, guard, many_fit, only_fit}
 use Rattle.reading.specs.Read.{some_fit, as_bytes, property_of, properties_fit, text_of, filter_of, reasons_fit, filters_fit, topics_fit}
-use Rattle.reading.specs.Place.{Span, part_of, lies_in, as_places, no_item, or_no_item, again, values_at, if_some, say_val, held_of, say_publish_props, say_props, say, OnBoth}
+use Rattle.reading.specs.Place.{Span, part_of, lies_in, as_places, no_item, or_no_item, again, values_at, if_some, say_val, say_publish_props, say_props, say, OnBoth}
 use Rattle.reading.proofs.Lists.{T_of}
 use Rattle.reading.proofs.Reading.{bad_got, got_inj, from_got, from_bind, from_guard}
 use Rattle.reading.proofs.Forget.{Like, gots, bads, Reading}

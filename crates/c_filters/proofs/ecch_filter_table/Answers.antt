@@ -1,4 +1,4 @@
--- mended
+-- `c_filters::ecch_filter_table` is right since the plan says which entries are put and what is answered. Assumes nothing.
 use native.Mathlib.Omega.{arith}
 use mathlib.Core.Path.{ap, ◌∙◌}
 use Rattle.c_filters.specs.Numbers.{table_number}

@@ -1,4 +1,4 @@
--- mended
+-- `c_filters::put_entries` is right since what is left to put is what is left of the entries; at the end that is nothing. Assumes nothing.
 use Prim.Native.Nat.{◌-◌}
 use native.Mathlib.Omega.{arith}
 use Rattle.c_filters.proofs.Laws.{put_start, put_next, put_end}

@@ -1,4 +1,3 @@
--- mended
 use Prim.Native.Nat.{◌-◌, ◌≤◌}
 use Rattle.c_filters.proofs.Laws.{Put}
 use Rattle.c_filters.proofs.put_entries.Given as goal

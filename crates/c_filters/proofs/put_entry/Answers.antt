@@ -1,4 +1,4 @@
--- mended
+-- `c_filters::put_entry` is right since the numbers are stored in the part behind `at`. Assumes nothing.
 use Rattle.c_filters.proofs.Laws.{put_behind}
 use mathlib.Core.Path.{refl, ◌∙◌}
 use lib.ListN.{length}

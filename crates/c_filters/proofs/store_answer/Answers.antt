@@ -1,4 +1,4 @@
--- mended
+-- `c_filters::store_answer` is right since it returns and stores what the answer tells. Assumes nothing.
 use mathlib.Core.Path.{◌∙◌}
 use Rattle.c_filters.proofs.store_answer.Goals as goal
 

@@ -1,4 +1,4 @@
--- mended
+-- `c_filters::table_number` is right since each answer has its number. Assumes nothing.
 use Rattle.c_filters.proofs.table_number.Goals as goal
 
 pub returns-in-Refused : goal.returns-in-Refused

@@ -1,4 +1,4 @@
--- mended
+-- `c_filters::table_numbers` is right since each is laid out as the header says. Assumes nothing.
 use Rattle.c_filters.proofs.table_numbers.Goals as goal
 
 pub returns-in-Filled : goal.returns-in-Filled

@@ -1,4 +1,4 @@
--- converted
+-- mended
 use mathlib.Core.Path.{ap, ◌∙◌}
 use Prim.Native.Nat.{ℕ}
 use lib.Seq.{sets}

@@ -1,4 +1,4 @@
--- converted
+-- mended
 use borrow.Author.Tests.{eq-eqb, ne_eqb}
 use Rattle.c_pieces.proofs.end_of.Goals as goal
 

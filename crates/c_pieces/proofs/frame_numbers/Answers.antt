@@ -1,4 +1,4 @@
--- converted
+-- mended
 use Rattle.c_pieces.proofs.frame_numbers.Goals as goal
 
 pub returns-in-More : goal.returns-in-More

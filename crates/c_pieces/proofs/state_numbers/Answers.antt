@@ -1,4 +1,4 @@
--- converted
+-- mended
 use Rattle.c_pieces.proofs.state_numbers.Goals as goal
 
 pub returns-in-Open : goal.returns-in-Open

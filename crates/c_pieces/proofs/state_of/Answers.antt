@@ -1,4 +1,4 @@
--- converted
+-- mended
 use borrow.Author.Tests.{lt-leb}
 use Rattle.c_pieces.proofs.Laws.{given_none, given_some}
 use Rattle.c_pieces.proofs.state_of.Goals as goal

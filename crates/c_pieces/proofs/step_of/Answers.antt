@@ -1,4 +1,4 @@
--- converted
+-- mended
 use mathlib.Core.Path.{◌∙◌}
 use Rattle.c_pieces.proofs.Laws.{none_frame, some_frame, none_kept, some_kept}
 use Rattle.c_pieces.proofs.step_of.Goals as goal

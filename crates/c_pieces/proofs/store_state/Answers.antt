@@ -1,4 +1,4 @@
--- converted
+-- mended
 use mathlib.Core.Path.{◌∙◌}
 use Rattle.c_pieces.proofs.store_state.Goals as goal
 

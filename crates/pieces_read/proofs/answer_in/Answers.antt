@@ -1,4 +1,4 @@
--- mended
+-- `pieces_read::answer_in` is right since the frame is read from its own bytes. Assumes nothing.
 use mathlib.Core.Path.{sym, ap, ◌∙◌}
 use mathlib.Core.List.{List}
 use Prim.Native.Nat.{ℕ}

@@ -1,4 +1,4 @@
--- mended
+-- `pieces_read::next` is right since the answer to the frame that is found is the answer to the call. Assumes nothing.
 use mathlib.Core.Path.{ap, ◌∙◌}
 use Rattle.records.specs.AsNumbers.{limit_of}
 use Rattle.pieces_rules.specs.Step.{read_step}

@@ -1,4 +1,4 @@
--- converted
+-- `trial_pieces::cut` ends since the index grows up to the length of the stream. Assumes nothing.
 use Rattle.std.proofs.Common.{◌≡◌, ◌-◌, ◌≤◌, length}
 use Rattle.trial_pieces.proofs.cut.Given as goal
 

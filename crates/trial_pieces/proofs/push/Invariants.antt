@@ -1,4 +1,4 @@
--- converted
+-- `trial_pieces::push` ends since the turns grow up to the length of the piece. Assumes nothing.
 use Rattle.std.proofs.Common.{◌≡◌, suc, ◌-◌, length}
 use Rattle.trial_pieces.proofs.push.Given as goal
 

@@ -1,4 +1,3 @@
--- converted (mended)
 use Rattle.std.proofs.Common.{◌≡◌, ◌-◌, ◌≤◌, length}
 use Rattle.desk.specs.Held.{fronted}
 use Rattle.desk.proofs.stream.to_front.Given as goal

@@ -1,4 +1,4 @@
--- converted (mended)
+-- `desk::stream::with_room` is right since what moves is what is held. Assumes nothing.
 use Rattle.records.specs.AsNumbers.{told_span}
 use Rattle.desk.proofs.Laws.{kept_none, kept_moved}
 use Rattle.desk.proofs.stream.with_room.Goals as goal
