@@ -5,4 +5,4 @@ use Rattle.alias.specs.AliasAnswer.{told_alias}
 use Rattle.c_alias.proofs.judged_number.Goals as goal
 
 pub returns-in-Refused : goal.returns-in-Refused
-returns-in-Refused c = c.number.ensures ∙ rw c.in-Refused.is (bad_number _ (told_alias c.in-Refused.e))
+returns-in-Refused c = c.number.ensures ∙ rw c.in-Refused.is (bad_number (Unit {0}) (told_alias c.in-Refused.e))

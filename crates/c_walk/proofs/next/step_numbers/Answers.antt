@@ -1,0 +1,8 @@
+-- mended
+use Rattle.c_walk.proofs.next.step_numbers.Goals as goal
+
+pub returns-in-Pair : goal.returns-in-Pair
+returns-in-Pair c = rw c.in-Pair.is
+
+pub returns-in-NoItem : goal.returns-in-NoItem
+returns-in-NoItem c = rw c.in-NoItem.is
