@@ -1,4 +1,4 @@
--- converted
+-- converted (mended)
 use Rattle.std.proofs.Common.{◌-◌, arith}
 use Rattle.filters.proofs.Laws.{filter_ahead}
 use Rattle.json_stream.proofs.list.filters_in.Goals as goal

@@ -1,4 +1,4 @@
--- converted
+-- converted (mended)
 use Rattle.std.proofs.Common.{◌-◌, arith}
 use Rattle.property_value.proofs.Laws.{property_ahead}
 use Rattle.json_stream.proofs.list.identifiers_in.Goals as goal

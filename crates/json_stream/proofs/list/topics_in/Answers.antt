@@ -1,4 +1,4 @@
--- converted
+-- converted (mended)
 use Rattle.std.proofs.Common.{◌-◌, sym, arith}
 use Rattle.reading.specs.Place.{as_places}
 use Rattle.positions.proofs.Less.{text_less}

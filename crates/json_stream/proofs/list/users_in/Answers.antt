@@ -1,4 +1,4 @@
--- converted
+-- converted (mended)
 use Rattle.std.proofs.Common.{◌-◌, arith}
 use Rattle.walker.proofs.Laws.{next_ahead}
 use Rattle.json_stream.proofs.list.users_in.Goals as goal
