@@ -4,4 +4,6 @@ use Rattle.c_write.proofs.Laws.{written_by}
 use Rattle.c_write.proofs.put_ping.ecch_pingresp_write.Goals as goal
 
 pub returns : goal.returns
-returns c = written_by _ _ c.store_written.ensures c.bound.ensures refl c.write_ping_resp-written.ensures
+returns c =
+    let all = written_by _ _ (c.store_written.ensures.number, c.store_written.ensures.stored) c.bound.ensures refl c.write_ping_resp-written.ensures in
+    record { number = all.0; output = all.1.0; stored = all.1.1 }

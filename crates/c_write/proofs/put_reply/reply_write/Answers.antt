@@ -5,4 +5,5 @@ use Rattle.c_write.proofs.put_reply.reply_write.Goals as goal
 pub returns : goal.returns
 returns c =
     let a = c.args in
-    written_by _ _ c.store_written.ensures c.bound.ensures (c.reply_head-head.ensures a.reason_string.now a.user.now a.user_lengths.now a.reasons.now) c.write-written.ensures
+    let all = written_by _ _ (c.store_written.ensures.number, c.store_written.ensures.stored) c.bound.ensures (c.reply_head-head.ensures a.reason_string.now a.user.now a.user_lengths.now a.reasons.now) c.write-written.ensures in
+    record { number = all.0; output = all.1.0; stored = all.1.1 }

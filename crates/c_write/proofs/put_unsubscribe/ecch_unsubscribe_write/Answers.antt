@@ -7,4 +7,5 @@ use Rattle.c_write.proofs.put_unsubscribe.ecch_unsubscribe_write.Goals as goal
 pub returns : goal.returns
 returns c =
     let a = c.args in
-    written_by _ _ c.store_written.ensures c.bound.ensures (ap unsubscribe (c.unsubscribe_head-head.ensures a.user.now a.user_lengths.now a.topics.now a.topic_lengths.now)) c.write-written.ensures
+    let all = written_by _ _ (c.store_written.ensures.number, c.store_written.ensures.stored) c.bound.ensures (ap unsubscribe (c.unsubscribe_head-head.ensures a.user.now a.user_lengths.now a.topics.now a.topic_lengths.now)) c.write-written.ensures in
+    record { number = all.0; output = all.1.0; stored = all.1.1 }

@@ -1,0 +1,6 @@
+-- converted
+use mathlib.Core.Path.{◌∙◌}
+use Rattle.c_read.proofs.item.ecch_filter.Goals as goal
+
+pub returns : goal.returns
+returns c = record { number = c.store_filter.ensures.number ∙ rw c.filter-found.ensures; stored = c.store_filter.ensures.stored ∙ rw c.filter-found.ensures }

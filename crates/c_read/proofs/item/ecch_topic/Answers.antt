@@ -1,0 +1,6 @@
+-- converted
+use mathlib.Core.Path.{◌∙◌}
+use Rattle.c_read.proofs.item.ecch_topic.Goals as goal
+
+pub returns : goal.returns
+returns c = record { number = c.store_topic.ensures.number ∙ rw c.topic-found.ensures; stored = c.store_topic.ensures.stored ∙ rw c.topic-found.ensures }

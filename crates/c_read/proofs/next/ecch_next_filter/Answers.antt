@@ -1,0 +1,6 @@
+-- converted
+use mathlib.Core.Path.{◌∙◌}
+use Rattle.c_read.proofs.next.ecch_next_filter.Goals as goal
+
+pub returns : goal.returns
+returns c = record { number = c.store_next_filter.ensures.number ∙ rw c.filter_up_to-found.ensures; stored = c.store_next_filter.ensures.stored ∙ rw c.filter_up_to-found.ensures }

@@ -1,0 +1,6 @@
+-- converted
+use mathlib.Core.Path.{◌∙◌}
+use Rattle.c_read.proofs.next.ecch_next_topic.Goals as goal
+
+pub returns : goal.returns
+returns c = record { number = c.store_next_topic.ensures.number ∙ rw c.topic_up_to-found.ensures; stored = c.store_next_topic.ensures.stored ∙ rw c.topic_up_to-found.ensures }
