@@ -1,4 +1,4 @@
--- mended
+-- `c_alias::ecch_alias_learn` is right since the topic is the part at the place, and the alias what the two numbers stand for. Assumes nothing.
 use mathlib.Core.Path.{ap, ◌∙◌}
 use Rattle.c_layout.specs.Value.{fit_number}
 use Rattle.alias.proofs.Laws.{learnt_as}

@@ -1,4 +1,4 @@
--- mended
+-- `c_alias::ecch_topic_in_force` is right since what is returned and stored is of the answer that `find_topic` gives. Assumes nothing.
 use mathlib.Core.Path.{ap, ◌∙◌}
 use Rattle.alias.specs.Alias.{in_force}
 use Rattle.c_alias.proofs.ecch_topic_in_force.Goals as goal

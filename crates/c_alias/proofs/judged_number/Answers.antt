@@ -1,4 +1,4 @@
--- mended
+-- `c_alias::judged_number` is right since a refusal tells its number. Assumes nothing.
 use mathlib.Core.Path.{◌∙◌}
 use Rattle.c_layout.proofs.Laws.{bad_number}
 use Rattle.alias.specs.AliasAnswer.{told_alias}

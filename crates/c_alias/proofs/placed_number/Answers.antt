@@ -1,4 +1,4 @@
--- mended
+-- `c_alias::placed_number` is right since a refusal tells its number. Assumes nothing.
 use mathlib.Core.Path.{◌∙◌}
 use Rattle.alias.specs.Alias.{Lies}
 use Rattle.c_layout.proofs.Laws.{bad_number}

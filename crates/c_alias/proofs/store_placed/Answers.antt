@@ -1,4 +1,4 @@
--- mended
+-- `c_alias::store_placed` is right since it returns and stores what the answer tells. Assumes nothing.
 use mathlib.Core.Path.{◌∙◌}
 use Rattle.c_alias.proofs.store_placed.Goals as goal
 

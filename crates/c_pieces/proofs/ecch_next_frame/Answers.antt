@@ -1,4 +1,4 @@
--- mended
+-- `c_pieces::ecch_next_frame` is right since what is returned and stored is of the step that the numbers stand for. Assumes nothing.
 use mathlib.Core.Path.{ap, ◌∙◌}
 use Prim.Native.Nat.{ℕ}
 use lib.Seq.{sets}

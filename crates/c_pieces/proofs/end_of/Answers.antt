@@ -1,4 +1,4 @@
--- mended
+-- `c_pieces::end_of` is right since each number is tried in turn. Assumes nothing.
 use borrow.Author.Tests.{eq-eqb, ne_eqb}
 use Rattle.c_pieces.proofs.end_of.Goals as goal
 

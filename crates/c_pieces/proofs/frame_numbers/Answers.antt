@@ -1,4 +1,4 @@
--- mended
+-- `c_pieces::frame_numbers` is right since each is laid out as the header says. Assumes nothing.
 use Rattle.c_pieces.proofs.frame_numbers.Goals as goal
 
 pub returns-in-More : goal.returns-in-More

@@ -1,4 +1,4 @@
--- mended
+-- `c_pieces::state_numbers` is right since each is laid out as the header says. Assumes nothing.
 use Rattle.c_pieces.proofs.state_numbers.Goals as goal
 
 pub returns-in-Open : goal.returns-in-Open

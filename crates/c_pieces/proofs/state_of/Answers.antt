@@ -1,4 +1,4 @@
--- mended
+-- `c_pieces::state_of` is right since four numbers are needed, and the last three say how the stream stands. Assumes nothing.
 use borrow.Author.Tests.{lt-leb}
 use Rattle.c_pieces.proofs.Laws.{given_none, given_some}
 use Rattle.c_pieces.proofs.state_of.Goals as goal

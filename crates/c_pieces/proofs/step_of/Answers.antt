@@ -1,4 +1,4 @@
--- mended
+-- `c_pieces::step_of` is right since numbers that stand for no state change nothing, and others are the state of the call. Assumes nothing.
 use mathlib.Core.Path.{◌∙◌}
 use Rattle.c_pieces.proofs.Laws.{none_frame, some_frame, none_kept, some_kept}
 use Rattle.c_pieces.proofs.step_of.Goals as goal

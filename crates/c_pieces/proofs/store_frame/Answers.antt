@@ -1,4 +1,4 @@
--- mended
+-- `c_pieces::store_frame` is right since it returns and stores what the answer tells. Assumes nothing.
 use mathlib.Core.Path.{◌∙◌}
 use Rattle.c_pieces.proofs.store_frame.Goals as goal
 

@@ -1,4 +1,4 @@
--- converted
+-- `trial_frames::frames` ends since the index grows up to the length of the table. Assumes nothing.
 use Rattle.std.proofs.Common.{◌-◌, length}
 use Rattle.trial_frames.proofs.frames.Given as goal
 

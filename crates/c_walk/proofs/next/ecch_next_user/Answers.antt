@@ -1,4 +1,4 @@
--- mended
+-- `c_walk::next::ecch_next_user` is right since it returns and stores what the step gives. Assumes nothing.
 use mathlib.Core.Path.{◌∙◌}
 use Rattle.c_walk.proofs.next.ecch_next_user.Goals as goal
 

@@ -1,4 +1,4 @@
--- mended
+-- `c_walk::next::step_given` is right since the kind's row is asked for first. Assumes nothing.
 use mathlib.Core.Path.{refl, sym}
 use Rattle.c_walk.proofs.next.step_given.Goals as goal
 

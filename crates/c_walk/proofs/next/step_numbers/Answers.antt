@@ -1,4 +1,4 @@
--- mended
+-- `c_walk::next::step_numbers` is right since a pair is told as its two places. Assumes nothing.
 use Rattle.c_walk.proofs.next.step_numbers.Goals as goal
 
 pub returns-in-Pair : goal.returns-in-Pair

@@ -1,4 +1,4 @@
--- converted (mended)
+-- `json_stream::list::filters_in` ends since a filter that is found ends further on. Assumes nothing.
 use Rattle.std.proofs.Common.{◌-◌, arith}
 use Rattle.filters.proofs.Laws.{filter_ahead}
 use Rattle.json_stream.proofs.list.filters_in.Goals as goal

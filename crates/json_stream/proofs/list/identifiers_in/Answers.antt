@@ -1,4 +1,4 @@
--- converted (mended)
+-- `json_stream::list::identifiers_in` ends since a property that is found ends further on. Assumes nothing.
 use Rattle.std.proofs.Common.{◌-◌, arith}
 use Rattle.property_value.proofs.Laws.{property_ahead}
 use Rattle.json_stream.proofs.list.identifiers_in.Goals as goal

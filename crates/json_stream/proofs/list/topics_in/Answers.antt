@@ -1,4 +1,4 @@
--- converted (mended)
+-- `json_stream::list::topics_in` ends since a topic that is found ends further on. Assumes nothing.
 use Rattle.std.proofs.Common.{◌-◌, sym, arith}
 use Rattle.reading.specs.Place.{as_places}
 use Rattle.positions.proofs.Less.{text_less}

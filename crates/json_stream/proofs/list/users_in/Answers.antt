@@ -1,4 +1,4 @@
--- converted (mended)
+-- `json_stream::list::users_in` ends since a step that finds one goes further on. Assumes nothing.
 use Rattle.std.proofs.Common.{◌-◌, arith}
 use Rattle.walker.proofs.Laws.{next_ahead}
 use Rattle.json_stream.proofs.list.users_in.Goals as goal

@@ -1,4 +1,4 @@
--- converted
+-- `trial_frames::show::subscribe_of` ends since n grows up to the length of the frame. Assumes nothing.
 use Rattle.std.proofs.Common.{◌-◌, length}
 use Rattle.trial_frames.proofs.show.subscribe_of.Given as goal
 
