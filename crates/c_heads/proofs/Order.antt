@@ -1,28 +1,25 @@
 -- Each writer of C refuses with 20, then with 11 for the QoS of the first byte, then as the packet's own order says, and exactly then; so does
 -- each size. Assumes nothing.
-use mathlib.Core.Path.{◌≡◌, refl, sym, ap, ◌∙◌, subst}
+use mathlib.Core.Path.{◌≡◌, refl, sym, ◌∙◌, subst}
 use mathlib.Core.Bool.{Bool, true, false, not, ◌&&◌, false≢true}
 use mathlib.Core.Option.{Option}
 use mathlib.Core.Logic.{◌↔◌, ◌⊎◌, inl, inr}
 use mathlib.Core.List.{List, [], ◌∷◌}
 use Prim.Native.Nat.{ℕ, ◌≤◌, ◌<◌}
 use native.Mathlib.Omega.{arith}
-use lib.Dec.{ltb}
 use lib.ListN.{length}
 use borrow.Author.Tests.{eqb-true, lt-ltb, le-ltb}
 use Rattle.grammar.specs.Choice.{all}
 use Rattle.reading.specs.Refusal.{Refusal, nr}
 use Rattle.reading.specs.Reader.{Fit, got, bad, ◌>>=◌}
-use Rattle.reading.proofs.Reading.{bad_got, got_inj}
+use Rattle.reading.proofs.Reading.{bad_got}
 use Rattle.writing.specs.Handed.{Handed, belongs}
-use Rattle.writing.specs.Size.{size_is}
-use Rattle.writing.specs.Refuse.{Refuses, Accepts, Unsized, HasSize}
 use Rattle.writing.specs.Write.{size_of, answer_of, sized_behind, answered_behind}
 use Rattle.writing.proofs.Tests.{and_when, or_when, eq_when, all_when, fails_when, decide_by, le_or}
 use Rattle.writing.proofs.Belong.{belongs_when}
-use Rattle.writing.proofs.Verdict.{answered_when, unanswered_when, sized_when, unsized_when}
+use Rattle.writing.proofs.Verdict.{unanswered_when, unsized_when}
 use Rattle.c_arguments.specs.Given.{is_on}
-use Rattle.c_heads.specs.By.{By, zero_if_off, behind, handed_by, alone}
+use Rattle.c_heads.specs.By.{By, zero_if_off, behind, handed_by}
 use Rattle.c_heads.specs.Refuse.{ZeroIfOff, BelongsBy, InOrder, mismatch, quality, own, RefusesBy, UnsizedBy}
 
 -- ---- a flag and the number behind it

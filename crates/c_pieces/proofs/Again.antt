@@ -2,13 +2,12 @@
 -- Assumes nothing.
 use mathlib.Core.Path.{◌≡◌, refl}
 use mathlib.Core.Option.{Option, none, some}
-use mathlib.Core.List.{List, [], ◌∷◌}
+use mathlib.Core.List.{[], ◌∷◌}
 use Prim.Native.Nat.{ℕ}
 use lib.ListN.{get_or}
 use Rattle.reading.specs.Refusal.{Refusal, nr}
-use Rattle.c_layout.specs.Value.{value_or_zero}
 use Rattle.pieces_rules.specs.Whole.{frame_too_long}
-use Rattle.pieces_rules.specs.Step.{State, Gives, more, inPiece, inBuffer, stops}
+use Rattle.pieces_rules.specs.Step.{more, inPiece, inBuffer, stops}
 use Rattle.c_pieces.specs.Frame.{state_given, state_numbers, frame_numbers}
 
 -- 02, P10: "Refusals 2 and 3 of the header, and FrameTooLong, end the stream"

@@ -1,6 +1,6 @@
 -- What is returned and stored of a refusal, from its row and its values. Assumes nothing.
 use mathlib.Core.Path.{◌≡◌, refl}
-use mathlib.Core.List.{List, [], ◌∷◌}
+use mathlib.Core.List.{[], ◌∷◌}
 use Prim.Native.Nat.{ℕ}
 use Rattle.reading.specs.Refusal.{Refusal, nr, refused_as}
 use Rattle.records.specs.AsNumbers.{row_of, values_of}

@@ -48,13 +48,7 @@ fn step_numbers(next: usize, item: UserItem) -> [u64; 5]
 }
 
 // The next user property from an index on, in the bytes before another, in the row of a kind: 0, or 21 when there is none left.
-pub fn ecch_next_user(
-    frame: &[u8],
-    kind: u8,
-    at: usize,
-    end: usize,
-    into: &mut [u64],
-) -> u32
+pub fn ecch_next_user(frame: &[u8], kind: u8, at: usize, end: usize, into: &mut [u64]) -> u32
     ensures { Stored (row_of_kind kind) frame.now end at result into.old into.new }
 {
     let t = step_given(frame, kind, at, end);

@@ -19,12 +19,7 @@ pub fn ecch_ping_size(answer: &mut [u64]) -> u32
 }
 
 // A PingReq written: 0, or the refusal's number.
-pub fn ecch_pingreq_write(
-    limited: u8,
-    limit: usize,
-    out: &mut [u8],
-    answer: &mut [u64],
-) -> u32
+pub fn ecch_pingreq_write(limited: u8, limit: usize, out: &mut [u8], answer: &mut [u64]) -> u32
     ensures number { result ≡ fit_number (answer_of (limit_given limited limit) (length out.old) (ping 12)) }
     ensures output { out.new ≡ out_of (limit_given limited limit) out.old (ping 12) }
     ensures stored { answer.new ≡ sets answer.old 0 (answer_numbers (answer_of (limit_given limited limit) (length out.old) (ping 12))) }
@@ -34,12 +29,7 @@ pub fn ecch_pingreq_write(
 }
 
 // A PingResp written: 0, or the refusal's number.
-pub fn ecch_pingresp_write(
-    limited: u8,
-    limit: usize,
-    out: &mut [u8],
-    answer: &mut [u64],
-) -> u32
+pub fn ecch_pingresp_write(limited: u8, limit: usize, out: &mut [u8], answer: &mut [u64]) -> u32
     ensures number { result ≡ fit_number (answer_of (limit_given limited limit) (length out.old) (ping 13)) }
     ensures output { out.new ≡ out_of (limit_given limited limit) out.old (ping 13) }
     ensures stored { answer.new ≡ sets answer.old 0 (answer_numbers (answer_of (limit_given limited limit) (length out.old) (ping 13))) }

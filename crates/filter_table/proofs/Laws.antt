@@ -12,10 +12,10 @@ use borrow.Author.Tests.{leb-false, le-leb, lt-leb}
 use Rattle.grammar.specs.Record.{Filter, mk_filter, publish, ack, subscribe, reply, unsubscribe, ping}
 use Rattle.grammar.specs.Tables.{subscribe_row}
 use Rattle.grammar.specs.Sentence.{Packet, some_of}
-use Rattle.reading.specs.Refusal.{Refusal, nr, Answer, accepted, refused, refused_as}
+use Rattle.reading.specs.Refusal.{Refusal, nr, accepted, refused_as}
 use Rattle.reading.specs.Reader.{Fit, got, bad, Filler, Reader, ◌>>=◌, ◌>>◌, guard, many_fit, only_fit}
 use Rattle.reading.specs.Read.{as_bytes, filter_of, filters_fit}
-use Rattle.reading.specs.Place.{Span, part_of, lies_in, held_of, as_places, Placed, read_placed_of, no_item, or_no_item, again, nth_of, filter_at, on_got, if_some, say_props, say}
+use Rattle.reading.specs.Place.{Span, part_of, lies_in, held_of, as_places, Placed, read_placed_of, no_item, or_no_item, again, nth_of, filter_at, on_got, if_some, say_props}
 use Rattle.reading.proofs.Lists.{T_of}
 use Rattle.reading.proofs.Reading.{bad_got, got_inj, from_got, from_bind, from_guard}
 use Rattle.reading.proofs.Forget.{Like, gots, bads}
@@ -27,16 +27,14 @@ use Rattle.positions.proofs.Walk.{Less}
 use Rattle.positions.proofs.Less.{filter_less}
 use Rattle.positions.proofs.Run.{Passed, none_passed, passed_end, passed_bad, passed_next}
 use Rattle.positions.proofs.Trails.{trails_filter}
-use Rattle.records.specs.AsNumbers.{told_error, told_qos, told_rule, told_span}
-use Rattle.records.specs.Said.{told_filter, told_subscribe, told_packet}
+use Rattle.records.specs.AsNumbers.{told_error, told_qos, told_rule}
 use Rattle.records.specs.declared.error.Error.{Error}
 use Rattle.records.specs.declared.qos.QoS.{QoS}
 use Rattle.records.specs.declared.qos.QoS.TheVariants.{AtMostOnce, AtLeastOnce, ExactlyOnce}
 use Rattle.records.specs.declared.subscribe_record.RetainForwardRule.{RetainForwardRule}
 use Rattle.records.specs.declared.subscribe_record.RetainForwardRule.TheVariants.{OnEverySubscribe, OnNewSubscribe, Never}
-use Rattle.records.specs.declared.subscribe_record.Filter as said
 use Rattle.filters.proofs.Laws.{filter_ahead}
-use Rattle.filter_table.specs.Table.{table_full, not_subscribe, told_table, options_of, entry_of, run_of, entries_of, table_of, table_after, Fills, front, entry_or, entry_at, fill_from, entries_from, filled_of, EntryIs, PlanIs, spanned, Planned, CountIs, RunIs, RunPlanIs}
+use Rattle.filter_table.specs.Table.{not_subscribe, told_table, options_of, entry_of, run_of, entries_of, table_of, Fills, front, entry_at, fill_from, entries_from, EntryIs, PlanIs, spanned, Planned, CountIs, RunIs, RunPlanIs}
 use Rattle.filter_table.specs.declared.FilterEntry.{FilterEntry}
 use Rattle.filter_table.specs.declared.FilterTable.{FilterTable}
 use Rattle.filter_table.specs.declared.Plan.{Plan}

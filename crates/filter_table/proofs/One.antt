@@ -8,7 +8,7 @@ use lib.Dec.{eqb}
 use lib.ListN.{get_or}
 use Rattle.reading.specs.Refusal.{Refusal, nr}
 use Rattle.reading.specs.Reader.{Fit, got, bad}
-use Rattle.records.specs.AsNumbers.{told_error, row_of}
+use Rattle.records.specs.AsNumbers.{told_error}
 use Rattle.records.proofs.Laws.{injective_by}
 use Rattle.records.proofs.AsNumbers.{back_error, back_error_lem}
 use Rattle.records.specs.declared.error.Error.{Error}

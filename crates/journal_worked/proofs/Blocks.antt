@@ -3,13 +3,11 @@
 use mathlib.Core.Path.{◌≡◌, refl}
 use mathlib.Core.Bool.{Bool, true, false}
 use mathlib.Core.List.{List, [], ◌∷◌, ◌++◌, map}
-use Prim.Native.Nat.{ℕ, zero, suc, ◌+◌, ◌*◌, ◌-◌, ◌/◌, ◌%◌, ◌^◌}
-use lib.Dec.{eqb, leb}
-use lib.ListN.{length, take, drop, get_or, replicate}
-use lib.Seq.{sets}
+use Prim.Native.Nat.{ℕ, ◌+◌, ◌-◌, ◌^◌}
+use lib.ListN.{replicate}
 use Rattle.crc32.specs.Crc.{crc_of, bytes_in, byte_in, shifts, shift}
-use Rattle.journal.specs.Block.{each, bytes_of, big_endian_from, big_endian, all_zero, packed_at, body_of, block_of, number_of, wait_in, table_in, good}
-use Rattle.journal.specs.Area.{whole, count_of, blocks, newer, latest, latest_in, highest, save, save_after, stored, place_of, Says, saved, journal_ended}
+use Rattle.journal.specs.Block.{each, bytes_of, big_endian_from, all_zero, packed_at, body_of, block_of, number_of, wait_in, table_in, good}
+use Rattle.journal.specs.Area.{whole, blocks, newer, latest, latest_in, highest, save, save_after, stored, saved, journal_ended}
 
 -- identifiers 1, 2, 3 and 5 wait for PubAck, PubRec, PubComp and PubComp, identifier 1,024 for PubRec
 abbrev table : List ℕ

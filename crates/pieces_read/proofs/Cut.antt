@@ -1,7 +1,6 @@
 -- 02, P10, of every answer that meets the contract of `pieces_read::next`. Assumes nothing.
 use mathlib.Core.Path.{◌≡◌, refl, sym, ap, ◌∙◌}
 use mathlib.Core.Option.{Option, some}
-use mathlib.Core.Option as option
 use mathlib.Core.List.{List, [], ◌∷◌, ◌++◌, map, flatten, append_assoc, append-nil}
 use Prim.Native.Nat.{ℕ, zero, suc, ◌+◌, ◌≤◌, ◌<◌}
 use native.Mathlib.Omega.{arith}
@@ -16,7 +15,7 @@ use Rattle.pieces_rules.specs.Whole.{lacks, list_of}
 use Rattle.pieces_rules.specs.Step.{fresh, more, inPiece, inBuffer, stops, Step, step_by, step_of}
 use Rattle.pieces_rules.specs.Step as step
 use Rattle.pieces_rules.specs.Feed.{Fed, before, once, feed_on, feed_from}
-use Rattle.pieces_rules.proofs.Run.{Left, waits, over, Runs, stop, turn_at, nil_lacks, run_list}
+use Rattle.pieces_rules.proofs.Run.{waits, stop, turn_at, nil_lacks, run_list}
 use Rattle.pieces_rules.proofs.Feed.{Serves, serves_true, Feeds, feeds, Lists, lists_then}
 use Rattle.pieces.specs.PieceAnswer.{told_end, told_state}
 use Rattle.pieces.specs.declared.State.{State}

@@ -1,31 +1,30 @@
 -- 02, P10: when BadBuffer and FrameTooLong are given, and what ends a stream. Assumes nothing.
 use mathlib.Core.Path.{◌≡◌, refl, sym, ap, ◌∙◌}
-use mathlib.Core.Bool.{Bool, true, false, cond}
+use mathlib.Core.Bool.{Bool, true, false}
 use mathlib.Core.Logic.{◌⊎◌, inl, inr, ◌↔◌}
 use mathlib.Core.Option.{Option, none, some}
-use mathlib.Core.List.{List, [], ◌∷◌, ◌++◌, append-nil}
-use Prim.Native.Nat.{ℕ, zero, suc, ◌+◌, ◌-◌, ◌≤◌, ◌<◌}
+use mathlib.Core.List.{List, [], ◌∷◌, ◌++◌}
+use Prim.Native.Nat.{ℕ, zero, suc, ◌+◌, ◌-◌}
 use native.Mathlib.Omega.{arith}
-use lib.Dec.{eqb, leb, ltb}
+use lib.Dec.{leb, ltb}
 use lib.ListN.{length, take, length-append}
 use borrow.Author.Tests.{lt-ltb, ltb-true, leb-true, leb-false, eq-eqb}
 use Rattle.grammar.specs.Number.{shortest}
-use Rattle.reading.specs.Refusal.{Refusal, nr, Answer, over, passes, exceeds}
+use Rattle.reading.specs.Refusal.{Refusal, nr, Answer, over, passes}
 use Rattle.reading.specs.Reader.{Fit, got, bad, only_by_of, then_of}
 use Rattle.reading.specs.Read.{byte_of, group_of, groups_of, num_of}
 use Rattle.reading.specs.Place.{Placed, as_places}
-use Rattle.reading.proofs.Reading.{bad_got, Reads}
+use Rattle.reading.proofs.Reading.{bad_got}
 use Rattle.records.specs.AsNumbers.{row_of, limit_of}
 use Rattle.records.specs.declared.answer.Limit.{Limit}
-use Rattle.pieces_rules.specs.Whole.{frame_too_long, header_under, frame_bytes, answer_as, Turn, lacks, ends, frame, turn_of}
-use Rattle.pieces_rules.specs.Step.{bad_buffer, Gives, more, inPiece, inBuffer, stops, Step, serves, waiting, step_from, step_by, step_of}
-use Rattle.pieces_rules.specs.Judge.{Judge, unknown, forbids, spans, judged, judge_of}
+use Rattle.pieces_rules.specs.Whole.{frame_too_long, header_under, frame_bytes, answer_as, Turn, frame, turn_of}
+use Rattle.pieces_rules.specs.Step.{bad_buffer, Gives, more, stops, Step, serves, waiting, step_from, step_by}
+use Rattle.pieces_rules.specs.Judge.{Judge, unknown, forbids, spans, judge_of}
 use Rattle.pieces_rules.proofs.Head.{bad_inj, reads_header}
 use Rattle.pieces_rules.proofs.Says.{Says, lacking, refusing, framing, says, forbids_ends}
-use Rattle.pieces_rules.proofs.Feed.{Serves, serves_true}
-use Rattle.pieces.specs.PieceAnswer.{told_end, told_state}
+use Rattle.pieces.specs.PieceAnswer.{told_end}
 use Rattle.pieces.specs.declared.State.{State}
-use Rattle.pieces_read.specs.PacketAnswer.{told_answer, told_reply}
+use Rattle.pieces_read.specs.PacketAnswer.{told_answer}
 use Rattle.pieces_read.specs.declared.Reply.{Reply}
 use Rattle.pieces_read.specs.Handed.{Meets}
 use Rattle.pieces_read.specs.When.{Longer, Ending}

@@ -1,20 +1,20 @@
 -- A writer and a size of C refuse with a row of their kind's list, and no other. Assumes nothing.
-use mathlib.Core.Path.{◌≡◌, refl, sym, ap, ◌∙◌}
+use mathlib.Core.Path.{◌≡◌, refl, ap}
 use mathlib.Core.Bool.{Bool, true, false, cond}
 use mathlib.Core.Option.{Option}
 use mathlib.Core.List.{List, [], ◌∷◌, ◌++◌, map}
-use Prim.Native.Nat.{ℕ, ◌≤◌, ◌<◌}
+use Prim.Native.Nat.{ℕ, ◌<◌}
 use native.Mathlib.Omega.{arith}
 use lib.ListN.{length}
 use Rattle.grammar.specs.Choice.{is_in}
 use Rattle.grammar.specs.Octets.{Each, nil, ◌&◌}
 use Rattle.grammar.specs.Tables.{Form, u8, u16, u32, number, text, bytes, pair, Row, publish_row, subscribe_row, ack_row, unsubscribe_row, reasons_of}
-use Rattle.reading.specs.Refusal.{Refusal, nr}
-use Rattle.reading.specs.Reader.{Fit, bad}
+use Rattle.reading.specs.Refusal.{Refusal}
+use Rattle.reading.specs.Reader.{bad}
 use Rattle.writing.specs.Lists.{flat}
 use Rattle.writing.specs.Handed.{Handed, publish, ack, subscribe, reply, unsubscribe, ping, Given, one, lent, pairs, several, Givens, publish_given, subscribe_given, ack_given, unsubscribe_given, strings, filters}
 use Rattle.writing.specs.Order.{Field, raw, word, filter, code, string_field, given_fields, props_fields, filter_field, fields_of, numbers_of}
-use Rattle.writing.specs.Refuse.{Faulty, long_raw, long_word, long_filter, bad_word, bad_filter, bad_rule, bad_qos, unlisted, FirstFault, Unfit, large, nought, FirstUnfit, LacksIdent, LacksEntries, Refuses, Unsized}
+use Rattle.writing.specs.Refuse.{Faulty, long_raw, long_word, long_filter, bad_word, bad_filter, bad_rule, bad_qos, unlisted, FirstFault, large, nought, FirstUnfit, LacksIdent, LacksEntries, Refuses, Unsized}
 use Rattle.writing.specs.Refuse as r
 use Rattle.writing.specs.Write.{sized_behind, answered_behind}
 use Rattle.records.specs.AsNumbers.{row_of}
@@ -43,6 +43,7 @@ each_flat f p [] = nil
 each_flat f p (a ∷ l) = each_append (f a) (flat f l) (p a) (each_flat f p l)
 
 first_of_lem : (rs : List ℕ) {k : Refusal} (fs : List Field) → Each (Of rs) fs → FirstFault k fs → is_in (row_of k) rs ≡ true
+first_of_lem rs [] n x = elim x [ ]
 first_of_lem rs (f ∷ fs) (p & ps) (r.FirstFault.here q) = p _ q
 first_of_lem rs (f ∷ fs) (p & ps) (r.FirstFault.later w q) = first_of_lem rs fs ps q
 
@@ -98,11 +99,13 @@ fields_of_lem (ping k) = nil
 -- ---- numbers
 
 unfit_of : (rs : List ℕ) → is_in 17 rs ≡ true → is_in 23 rs ≡ true → (ns : List ℕ) {k : Refusal} → FirstUnfit k ns → is_in (row_of k) rs ≡ true
+unfit_of rs a b [] x = elim x [ ]
 unfit_of rs a b (n ∷ ns) (r.FirstUnfit.here (large l)) = a
 unfit_of rs a b (n ∷ ns) (r.FirstUnfit.here nought) = b
 unfit_of rs a b (n ∷ ns) (r.FirstUnfit.later f u) = unfit_of rs a b ns u
 
 unfit_none : (ns : List ℕ) {k : Refusal} → ns ≡ [] → FirstUnfit k ns → ⊥
+unfit_none [] e u = elim u [ ]
 unfit_none (n ∷ ns) e u = omega (arith, ap length e)
 
 unfit_row : (h : Handed) {k : Refusal} → FirstUnfit k (numbers_of h) → is_in (row_of k) (write_rows h) ≡ true

@@ -19,8 +19,6 @@ use Rattle.reply_write.specs.Handed as replying
 use Rattle.unsubscribe_write.specs.declared.UnsubscribeHead.{UnsubscribeHead}
 use Rattle.unsubscribe_write.specs.Handed as unsubscribing
 use Rattle.records.specs.AsNumbers.{told_ack_kind, told_reply_kind}
-use Rattle.records.specs.declared.ack_record.AckKind.{AckKind}
-use Rattle.records.specs.declared.reply_record.ReplyKind.{ReplyKind}
 use Rattle.subscribe_write.specs.declared.SubscribeHead.{SubscribeHead}
 use Rattle.subscribe_write.specs.Handed as subscribing
 use Rattle.write_tests.specs.Tested.{told_tested}

@@ -1,12 +1,12 @@
 -- What `kind_of` and `property` promise is 01's answer, in its number and values, and the telling leaves no choice of the case. Assumes nothing.
-use mathlib.Core.Path.{◌≡◌, refl, sym, ap, ◌∙◌}
-use mathlib.Core.Bool.{Bool, true, false, not}
+use mathlib.Core.Path.{◌≡◌, refl, ap, ◌∙◌}
+use mathlib.Core.Bool.{Bool, false, not}
 use mathlib.Core.Option.{Option, none, some}
 use mathlib.Core.List.{List, [], ◌∷◌}
 use Prim.Native.Nat.{ℕ}
 use lib.Dec.{eqb}
 use Rattle.grammar.specs.Tables.{Form, Row, form_at, Layout}
-use Rattle.reading.specs.Refusal.{Refusal, nr}
+use Rattle.reading.specs.Refusal.{nr}
 use Rattle.reading.specs.Reader.{Fit, got, bad, ◌>>=◌, ◌>>◌, guard}
 use Rattle.tables.specs.Property.{told_form}
 use Rattle.tables.specs.declared.property.PropertyForm.{PropertyForm}

@@ -17,7 +17,7 @@ use Rattle.grammar.specs.Sentence.{Value, Prop, some_of, Packet}
 use Rattle.reading.specs.Refusal.{accepted}
 use Rattle.reading.specs.Reader.{Fit, got, bad, Reader, Filler, ◌>>◌, guard, many_fit, only_fit}
 use Rattle.reading.specs.Read.{some_fit, as_bytes, property_of, properties_fit, text_of, filter_of, reasons_fit, filters_fit, topics_fit}
-use Rattle.reading.specs.Place.{Span, part_of, lies_in, as_places, no_item, or_no_item, again, values_at, if_some, say_val, held_of, say_publish_props, say_props, say, OnBoth}
+use Rattle.reading.specs.Place.{Span, part_of, lies_in, as_places, no_item, or_no_item, again, values_at, if_some, say_val, say_publish_props, say_props, say, OnBoth}
 use Rattle.reading.proofs.Lists.{T_of}
 use Rattle.reading.proofs.Reading.{bad_got, got_inj, from_got, from_bind, from_guard}
 use Rattle.reading.proofs.Forget.{Like, gots, bads, Reading}
@@ -55,14 +55,18 @@ use Rattle.promises.proofs.Items.{present}
 
 -- ---- a walk gives one list
 
-pub one_walk : {A : Type 0} {item : ℕ → Fit (A × ℕ)} {end at : ℕ} {vs ws : List A} → Walked item end at vs → Walked item end at ws → vs ≡ ws
-one_walk arrived arrived = refl
-one_walk arrived (onward h e w) = absurd (omega arith)
-one_walk (onward h e w) arrived = absurd (omega arith)
-one_walk {A = A} {item = item} {end = end} (onward {next = n} {a = a} {vs = vs} h e w) (onward {next = m} {a = b} {vs = ws} h' e' w') =
-    let i : ◌≡◌ {A = A × ℕ} (a, n) (b, m) = got_inj (sym e ∙ e') in
-    let j : vs ≡ ws = one_walk w (subst (λ (k : ℕ). Walked item end k ws) (sym (ap (λ (z : A × ℕ). z.1) i)) w') in
+-- from two indices that are one
+one_from : {A : Type 0} {item : ℕ → Fit (A × ℕ)} {end at at' : ℕ} {vs ws : List A} → at ≡ at' → Walked item end at vs → Walked item end at' ws → vs ≡ ws
+one_from q arrived arrived = refl
+one_from q arrived (onward h e w) = absurd (omega arith)
+one_from q (onward h e w) arrived = absurd (omega arith)
+one_from {A = A} {item = item} q (onward {next = n} {a = a} {vs = vs} h e w) (onward {next = m} {a = b} {vs = ws} h' e' w') =
+    let i : ◌≡◌ {A = A × ℕ} (a, n) (b, m) = got_inj (sym e ∙ (ap item q ∙ e')) in
+    let j : vs ≡ ws = one_from (ap (λ (z : A × ℕ). z.1) i) w w' in
     rw (ap (λ (z : A × ℕ). z.0) i, j)
+
+pub one_walk : {A : Type 0} {item : ℕ → Fit (A × ℕ)} {end at : ℕ} {vs ws : List A} → Walked item end at vs → Walked item end at ws → vs ≡ ws
+one_walk v w = one_from refl v w
 
 -- ---- any reader, again and again from an index of s to its end
 

@@ -61,7 +61,7 @@ row_of_field (bad_rule s u r) = refl
 row_of_field (bad_qos s u r q) = refl
 row_of_field (unlisted u) = refl
 
-row_of_fields : {fs : List Field} {k : Refusal} → FirstFault k fs → is_in (row_of k) writer_rows ≡ true
+row_of_fields : {k : Refusal} {fs : List Field} → FirstFault k fs → is_in (row_of k) writer_rows ≡ true
 row_of_fields (refuse.FirstFault.here f) = row_of_field f
 row_of_fields (refuse.FirstFault.later s f) = row_of_fields f
 
@@ -69,7 +69,7 @@ row_of_number : {n : ℕ} {k : Refusal} → Unfit n k → is_in (row_of k) write
 row_of_number (large h) = refl
 row_of_number nought = refl
 
-row_of_numbers : {ns : List ℕ} {k : Refusal} → FirstUnfit k ns → is_in (row_of k) writer_rows ≡ true
+row_of_numbers : {k : Refusal} {ns : List ℕ} → FirstUnfit k ns → is_in (row_of k) writer_rows ≡ true
 row_of_numbers (refuse.FirstUnfit.here f) = row_of_number f
 row_of_numbers (refuse.FirstUnfit.later s f) = row_of_numbers f
 

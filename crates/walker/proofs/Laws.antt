@@ -1,20 +1,19 @@
 -- How a walk over the user properties goes on, property by property; and that its answers are the record's list in order. Assumes nothing.
-use mathlib.Core.Path.{◌≡◌, refl, sym, ap, ◌∙◌, subst}
-use mathlib.Core.Option.{Option, none, some}
-use mathlib.Core.List.{List, [], ◌∷◌}
-use Prim.Native.Nat.{ℕ, ◌+◌, ◌≤◌, ◌<◌}
+use mathlib.Core.Path.{◌≡◌, refl, sym, ◌∙◌, subst}
+use mathlib.Core.Option.{some}
+use mathlib.Core.List.{List}
+use Prim.Native.Nat.{ℕ, ◌≤◌, ◌<◌}
 use native.Mathlib.Omega.{arith}
-use lib.ListN.{length, drop, drop_of_length-le}
+use lib.ListN.{length, drop_of_length-le}
 use Rattle.grammar.specs.Record.{Val}
-use Rattle.grammar.specs.Tables.{Form, pair, Row, form_at}
-use Rattle.reading.specs.Refusal.{Refusal, cut}
+use Rattle.grammar.specs.Tables.{pair, Row, form_at}
+use Rattle.reading.specs.Refusal.{cut}
 use Rattle.reading.specs.Reader.{Fit, got, bad}
 use Rattle.reading.specs.Read.{property_of}
-use Rattle.reading.specs.Place.{Span, as_places, no_item}
+use Rattle.reading.specs.Place.{Span, no_item}
 use Rattle.reading.proofs.Reading.{bad_got}
 use Rattle.positions.specs.Position.{from_at}
 use Rattle.records.specs.Answered.{told_user}
-use Rattle.records.specs.AsNumbers.{told_error}
 use Rattle.records.specs.declared.answer.UserItem.{UserItem}
 use Rattle.records.specs.declared.error.Error.{Error}
 use Rattle.property_value.specs.OneProperty.{told_value, form_of, PropertyRead}

@@ -2,13 +2,13 @@
 use mathlib.Core.Path.{◌≡◌, refl, sym, ap, ◌∙◌, subst}
 use mathlib.Core.Bool.{Bool, true, false}
 use mathlib.Core.Option.{Option, none, some}
-use mathlib.Core.List.{List, [], ◌∷◌}
+use mathlib.Core.List.{List}
 use Prim.Native.Nat.{ℕ, ◌+◌, ◌≤◌}
 use native.Mathlib.Omega.{arith}
 use lib.Dec.{leb→le}
 use lib.ListN.{length}
 use Rattle.grammar.specs.Record.{PropOf, PublishProps, Props, publish, ack, subscribe, reply, unsubscribe, ping}
-use Rattle.grammar.specs.Sentence.{Value, Prop, Packet}
+use Rattle.grammar.specs.Sentence.{Value, Packet}
 use Rattle.grammar.specs.Tables.{Row, publish_row, subscribe_row, ack_row, unsubscribe_row}
 use Rattle.reading.specs.Refusal.{Refusal, nr, Answer, accepted, refused, refused_as}
 use Rattle.reading.specs.Reader.{Fit, got, bad, Filler, ◌>>◌, guard}

@@ -3,7 +3,7 @@ use mathlib.Core.Path.{◌≡◌, refl, sym, ap, ◌∙◌, subst}
 use mathlib.Core.Bool.{Bool, true, false}
 use mathlib.Core.Option.{Option, none, some}
 use mathlib.Core.List.{List, [], ◌∷◌}
-use Prim.Native.Nat.{ℕ, zero, suc, ◌+◌, ◌≤◌, ◌<◌}
+use Prim.Native.Nat.{ℕ, suc, ◌+◌, ◌≤◌, ◌<◌}
 use native.Mathlib.Omega.{arith}
 use lib.Dec.{leb, leb→le}
 use lib.ListN.{length, take, drop, drop_of_length-le}
@@ -11,7 +11,7 @@ use lib.Seq.{length-take-le}
 use borrow.Author.Tests.{leb-false, le-leb, ne_eqb}
 use Rattle.grammar.specs.Record.{Val, PropOf, all_of}
 use Rattle.grammar.specs.Tables.{Row, publish_row}
-use Rattle.reading.specs.Refusal.{Refusal, cut}
+use Rattle.reading.specs.Refusal.{cut}
 use Rattle.reading.specs.Reader.{Fit, got, bad, Reader, ◌>>=◌, many_fit}
 use Rattle.reading.specs.Read.{property_of, properties_fit}
 use Rattle.reading.specs.Place.{Span, part_of, held_of, as_places, no_item, again, nth_of, values_at, user_at, read_placed_of}

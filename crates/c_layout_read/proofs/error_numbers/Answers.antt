@@ -1,4 +1,4 @@
--- converted (mended)
+-- `c_layout_read::error_numbers` is right since the values are those of the row. Assumes nothing.
 use mathlib.Core.Path.{◌∙◌}
 use Rattle.records.specs.AsNumbers.{told_error}
 use Rattle.c_layout_read.proofs.Laws.{refused_encoded}

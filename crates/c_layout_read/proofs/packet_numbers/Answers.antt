@@ -1,4 +1,4 @@
--- converted (mended)
+-- `c_layout_read::packet_numbers` is right since each kind has its own arm. Assumes nothing.
 use Rattle.c_layout_read.proofs.packet_numbers.Goals as goal
 
 pub returns-in-Publish : goal.returns-in-Publish

@@ -1,4 +1,4 @@
--- converted (mended)
+-- `c_layout_read::ping_numbers` is right since head and properties are those of the definition. Assumes nothing.
 use mathlib.Core.Path.{◌∙◌}
 use Rattle.c_layout_read.specs.Record.{packet_numbers}
 use Rattle.c_layout_read.proofs.ping_numbers.Goals as goal

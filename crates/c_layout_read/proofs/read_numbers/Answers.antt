@@ -1,4 +1,4 @@
--- converted (mended)
+-- `c_layout_read::read_numbers` is right since each answer has its own arm. Assumes nothing.
 use Rattle.c_layout_read.specs.Record.{encoded}
 use Rattle.c_layout_read.proofs.read_numbers.Goals as goal
 

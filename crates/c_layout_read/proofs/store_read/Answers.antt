@@ -1,4 +1,4 @@
--- converted (mended)
+-- `c_layout_read::store_read` is right since it returns and stores what the answer tells. Assumes nothing.
 use mathlib.Core.Path.{◌∙◌}
 use Rattle.c_layout_read.proofs.store_read.Goals as goal
 

@@ -1,4 +1,4 @@
--- converted
+-- `desk_journal::show` is right since it ends behind the last block. Assumes nothing.
 use Prim.Native.Nat.{◌-◌, ◌/◌, ◌≤◌}
 use lib.ListN.{length}
 use Rattle.desk_journal.proofs.show.Given as goal

@@ -1,4 +1,4 @@
--- converted
+-- `desk_journal::waits` is right since it ends behind identifier 1,024. Assumes nothing.
 use Prim.Native.Nat.{◌-◌, ◌≤◌}
 use Rattle.desk_journal.proofs.waits.Given as goal
 

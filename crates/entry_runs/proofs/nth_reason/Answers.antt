@@ -1,4 +1,4 @@
--- converted
+-- `entry_runs::nth_reason` is right since each turn passes one reason and keeps the n-th of those passed. Assumes nothing.
 use mathlib.Core.Path.{sym, ◌∙◌}
 use Prim.Native.Nat.{◌-◌}
 use Rattle.grammar.specs.Tables.{reasons_of}

@@ -1,4 +1,3 @@
--- converted
 use Prim.Native.Nat.{◌-◌}
 use lib.ListN.{length}
 use Rattle.grammar.specs.Tables.{reasons_of}

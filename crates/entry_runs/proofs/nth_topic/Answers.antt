@@ -1,4 +1,4 @@
--- converted
+-- `entry_runs::nth_topic` is right since each turn passes one topic and keeps the n-th of those passed. Assumes nothing.
 use mathlib.Core.Path.{sym}
 use Prim.Native.Nat.{◌-◌}
 use native.Mathlib.Omega.{arith}

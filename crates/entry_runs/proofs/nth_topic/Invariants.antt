@@ -1,4 +1,3 @@
--- converted
 use Prim.Native.Nat.{◌-◌}
 use lib.ListN.{length}
 use Rattle.reading.specs.Read.{text_of}

@@ -1,4 +1,4 @@
--- converted
+-- `entry_runs::topic` is right since a place that lies within is the end of the slice that stops there. Assumes nothing.
 use mathlib.Core.Path.{sym, ◌∙◌}
 use Prim.Native.Nat.{◌+◌}
 use borrow.Author.Tests.{leb-true, leb-false}

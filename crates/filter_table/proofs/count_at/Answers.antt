@@ -1,4 +1,4 @@
--- mended
+-- `filter_table::count_at` is right since a place within the slice is the end of the slice that ends where the place does. Assumes nothing.
 use mathlib.Core.Path.{sym, ◌∙◌}
 use borrow.Author.Tests.{leb-true, leb-false}
 use Rattle.filter_table.proofs.Laws.{run_within, run_outside}

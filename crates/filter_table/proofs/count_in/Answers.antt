@@ -1,4 +1,4 @@
--- mended
+-- `filter_table::count_in` is right since each turn passes one filter. Assumes nothing.
 use Prim.Native.Nat.{◌-◌}
 use native.Mathlib.Omega.{arith}
 use Rattle.filters.proofs.Laws.{filter_ahead}

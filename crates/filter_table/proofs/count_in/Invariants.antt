@@ -1,4 +1,3 @@
--- mended
 use Prim.Native.Nat.{◌-◌}
 use lib.ListN.{length}
 use Rattle.filter_table.proofs.Laws.{Counted}

@@ -1,4 +1,4 @@
--- mended
+-- `filter_table::entry_at` is right since the part is the bytes before `end`. Assumes nothing.
 use Rattle.filter_table.proofs.Laws.{entry_got, entry_bad}
 use Rattle.filter_table.proofs.entry_at.Goals as goal
 

@@ -1,4 +1,4 @@
--- mended
+-- `filter_table::plan_of` is right since only an accepted Subscribe has filters. Assumes nothing.
 use mathlib.Core.Path.{refl}
 use Rattle.filter_table.proofs.Laws.{plan_refused, plan_other, plan_subscribe}
 use Rattle.filter_table.proofs.plan_of.Goals as goal

@@ -1,4 +1,4 @@
--- mended
+-- `filter_table::plan_run` is right since the filters at the place are counted. Assumes nothing.
 use mathlib.Core.Path.{sym, ◌∙◌}
 use native.Mathlib.Omega.{arith}
 use borrow.Author.Tests.{leb-false}

@@ -1,6 +1,5 @@
 -- `filter_table::put_entries` is right since each turn puts the entry at its index, and goes on where that entry ends. Assumes nothing.
 use mathlib.Core.Path.{◌≡◌, ap, ◌∙◌}
-use mathlib.Core.List.{List}
 use Prim.Native.Nat.{ℕ, suc, ◌-◌}
 use native.Mathlib.Numerals.{add-one}
 use native.Mathlib.Omega.{arith}
@@ -18,7 +17,7 @@ loop-i-preserved c =
       within = omega arith;
       long = length-set l.table l.i c.entry_at-e.result.entry ∙ l.invariant.long;
       rest =
-        rw (add-one l.i)
-        (ap (λ (z : FilterEntry × ℕ). fill_from c.args.s.now c.args.end k z.1 (suc l.i) (set l.table l.i z.0)) c.entry_at-e.ensures.is
-        ∙ (rw m at l.invariant.rest));
+          rw (add-one l.i)
+          (ap (λ (z : FilterEntry × ℕ). fill_from c.args.s.now c.args.end k z.1 (suc l.i) (set l.table l.i z.0)) c.entry_at-e.ensures.is
+          ∙ (rw m at l.invariant.rest));
     }

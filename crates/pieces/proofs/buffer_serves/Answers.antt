@@ -1,4 +1,4 @@
--- converted
+-- `pieces::buffer_serves` is right since each test is one of the definition's, in its order. Assumes nothing.
 use borrow.Author.Tests.{le-leb, lt-leb}
 use Rattle.pieces_rules.specs.Step.{serves}
 use Rattle.pieces.proofs.buffer_serves.Goals as goal

@@ -1,4 +1,4 @@
--- converted
+-- `pieces::fresh_length` is right since it asks whether the state is the first one. Assumes nothing.
 use mathlib.Core.Path.{ap}
 use Rattle.records.specs.AsNumbers.{limit_of}
 use Rattle.pieces.specs.PieceAnswer.{told_end}

@@ -1,4 +1,4 @@
--- converted
+-- `pieces::if_under` is right since F above the limit gives 0, which nothing is said of. Assumes nothing.
 use borrow.Author.Tests.{le-leb}
 use Rattle.reading.specs.Refusal.{within}
 use Rattle.records.specs.AsNumbers.{limit_of}

@@ -1,4 +1,4 @@
--- converted
+-- `pieces::if_whole` is right since each test is asked for, and 0 says nothing. Assumes nothing.
 use mathlib.Core.Path.{sym, ◌∙◌}
 use Rattle.records.specs.AsNumbers.{limit_of}
 use Rattle.pieces.proofs.Laws.{no_frame_lem, whole}

@@ -1,4 +1,4 @@
--- converted
+-- `pieces::judge` is right since it refuses as the header does, then above the limit, then a frame longer than the buffer: 02's order. Assumes nothing.
 use mathlib.Core.Path.{sym, ◌∙◌}
 use native.Mathlib.Omega.{arith}
 use Rattle.framing.proofs.Laws.{header_within}

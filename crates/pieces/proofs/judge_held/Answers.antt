@@ -1,4 +1,4 @@
--- converted
+-- `pieces::judge_held` is right since a header is in the piece, or in the buffer, or its bytes are put together. Assumes nothing.
 use Rattle.records.specs.AsNumbers.{limit_of}
 use lib.ListN.{length}
 use Rattle.pieces.proofs.Laws.{judge_five}

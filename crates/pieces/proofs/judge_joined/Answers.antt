@@ -1,4 +1,4 @@
--- converted
+-- `pieces::judge_joined` is right since the first five bytes of what is held and the piece, put together, decide the header. Assumes nothing.
 use mathlib.Core.List.{[], ◌∷◌}
 use lib.ListN.{length}
 use mathlib.Core.Path.{refl}

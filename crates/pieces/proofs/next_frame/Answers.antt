@@ -1,4 +1,4 @@
--- converted
+-- `pieces::next_frame` is right since a frame that is whole in the piece is what the header says, and the rest is judged. Assumes nothing.
 use Rattle.records.specs.AsNumbers.{limit_of}
 use Rattle.pieces.specs.PieceAnswer.{told_state}
 use Rattle.pieces.proofs.Laws.{found_whole}

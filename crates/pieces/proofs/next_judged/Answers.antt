@@ -1,4 +1,4 @@
--- converted
+-- `pieces::next_judged` is right since it refuses a bad buffer first, then what has ended. Assumes nothing.
 use Rattle.records.specs.AsNumbers.{limit_of}
 use lib.ListN.{length}
 use mathlib.Core.Path.{sym, ap, ◌∙◌}

@@ -1,4 +1,4 @@
--- converted
+-- `pieces::next_length` is right since a frame lacks bytes, or lies in the piece, or began in the buffer. Assumes nothing.
 use Rattle.records.specs.AsNumbers.{limit_of}
 use mathlib.Core.Path.{◌∙◌}
 use Rattle.pieces_rules.proofs.Calls.{call_lacks, call_frame}

@@ -1,4 +1,4 @@
--- converted
+-- `pieces::next_open` is right since the header decides what becomes of the call. Assumes nothing.
 use Rattle.records.specs.AsNumbers.{limit_of}
 use mathlib.Core.List.{◌++◌}
 use lib.ListN.{length, take}

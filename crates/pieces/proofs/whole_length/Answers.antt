@@ -1,4 +1,4 @@
--- converted
+-- `pieces::whole_length` is right since the header decides F, and what F must pass is asked for. Assumes nothing.
 use native.Mathlib.Omega.{arith}
 use Rattle.records.specs.AsNumbers.{limit_of}
 use Rattle.framing.proofs.Laws.{header_within}

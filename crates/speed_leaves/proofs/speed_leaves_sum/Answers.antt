@@ -1,4 +1,4 @@
--- converted
+-- `speed_leaves::speed_leaves_sum` is right since the numbers before `at` are summed up, and what stands from there on decides. Assumes nothing.
 use Rattle.std.proofs.Common.{◌-◌, sym, arith}
 use Rattle.speed_leaves.proofs.Laws.{none_summed, all_summed, not_summed, ahead, one_summed}
 use Rattle.speed_leaves.proofs.speed_leaves_sum.Goals as goal

@@ -1,4 +1,3 @@
--- converted
 use Rattle.std.proofs.Common.{◌-◌, length}
 use Rattle.speed_leaves.proofs.Laws.{Summed}
 use Rattle.speed_leaves.proofs.speed_leaves_sum.Given as goal

@@ -1,4 +1,4 @@
--- converted
+-- `speed_reading::speed_reading_sum` is right since the frames before `at` are added up, and what stands from there on decides. Assumes nothing.
 use Rattle.std.proofs.Common.{◌-◌, arith}
 use Rattle.records.specs.AsNumbers.{told_error}
 use Rattle.speed_reading.proofs.Laws.{none_summed, all_summed, last_summed, ahead, one_summed}

@@ -1,4 +1,3 @@
--- converted
 use Rattle.std.proofs.Common.{◌-◌, length}
 use Rattle.speed_reading.proofs.Laws.{Summed}
 use Rattle.speed_reading.proofs.speed_reading_sum.Given as goal

@@ -7,7 +7,6 @@ use native.Mathlib.Omega.{arith}
 use lib.Dec.{eqb}
 use lib.ListN.{length, take, drop, get_or, length-append, length-drop, drop_of_length-le}
 use lib.Seq.{sets, take_all, drop-cons, take-suc}
-use Rattle.grammar.specs.Gram.{done}
 use Rattle.grammar.specs.Octets.{nil, ◌&◌}
 use Rattle.grammar.specs.Tables.{Row}
 use Rattle.grammar.specs.Sentence.{Prop}

@@ -1,4 +1,4 @@
--- mended
+-- `tidying::give` is right since the size is told, and nothing is put where there is no room. Assumes nothing.
 use native.Mathlib.Omega.{arith}
 use mathlib.Core.Path.{refl}
 use lib.ListN.{length}

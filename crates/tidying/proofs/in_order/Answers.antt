@@ -1,4 +1,4 @@
--- mended
+-- `tidying::in_order` is right since the runs of all identifiers, one behind the other, are all properties just where nothing is left. Assumes nothing.
 use Prim.Native.Nat.{◌-◌}
 use native.Mathlib.Omega.{arith}
 use borrow.Author.Tests.{leb-true}

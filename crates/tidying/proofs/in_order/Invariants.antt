@@ -1,4 +1,3 @@
--- mended
 use Prim.Native.Nat.{◌-◌}
 use lib.ListN.{length}
 use Rattle.tables.specs.Property.{table_row}

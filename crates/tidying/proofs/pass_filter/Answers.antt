@@ -1,4 +1,4 @@
--- mended
+-- `tidying::pass_filter` is right since a filter is passed where the grammar's ends, and else nothing is said. Assumes nothing.
 use Rattle.tidying.proofs.Laws.Pass.{filter_found, filter_none}
 use Rattle.tidying.proofs.pass_filter.Goals as goal
 

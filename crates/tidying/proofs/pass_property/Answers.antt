@@ -1,4 +1,4 @@
--- mended
+-- `tidying::pass_property` is right since a property is passed where the grammar's ends, and else nothing is said. Assumes nothing.
 use Rattle.tables.specs.Property.{table_row}
 use Rattle.tidying.proofs.Laws.Pass.{passed_found, passed_none}
 use Rattle.tidying.proofs.pass_property.Goals as goal

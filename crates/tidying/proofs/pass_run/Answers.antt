@@ -1,4 +1,4 @@
--- mended
+-- `tidying::pass_run` is right since each turn passes one property with the identifier. Assumes nothing.
 use Prim.Native.Nat.{◌-◌}
 use native.Mathlib.Omega.{arith}
 use Rattle.tables.specs.Property.{table_row}

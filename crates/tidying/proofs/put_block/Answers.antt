@@ -1,4 +1,4 @@
--- mended
+-- `tidying::put_block` is right since each row of the table has its identifiers. Assumes nothing.
 use Rattle.grammar.specs.Tables.{publish_row, subscribe_row, ack_row, unsubscribe_row}
 use Rattle.tidying.proofs.put_block.Goals as goal
 

@@ -1,4 +1,4 @@
--- mended
+-- `tidying::put_each` is right since each turn puts one property, if it has the identifier, and what is left decides the rest. Assumes nothing.
 use mathlib.Core.Path.{◌∙◌}
 use Prim.Native.Nat.{◌-◌}
 use native.Mathlib.Omega.{arith}

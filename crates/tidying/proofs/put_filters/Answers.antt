@@ -1,4 +1,4 @@
--- mended
+-- `tidying::put_filters` is right since each turn puts one filter where it stands, and what is left decides the rest. Assumes nothing.
 use Prim.Native.Nat.{◌-◌}
 use native.Mathlib.Omega.{arith}
 use Rattle.tidying.proofs.Laws.Put.{mask_next, mask_end}

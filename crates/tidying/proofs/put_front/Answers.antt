@@ -1,4 +1,4 @@
--- mended
+-- `tidying::put_front` is right since each put goes on where the one before it ended. Assumes nothing.
 use Rattle.tables.specs.Property.{table_row}
 use Rattle.tidying.proofs.Laws.Put.{front_put}
 use Rattle.tidying.proofs.put_front.Goals as goal

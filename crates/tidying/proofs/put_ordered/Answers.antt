@@ -1,4 +1,4 @@
--- mended
+-- `tidying::put_ordered` is right since properties that stand in order are put as they stand, and others by their identifiers. Assumes nothing.
 use mathlib.Core.Path.{◌∙◌}
 use native.Mathlib.Omega.{arith}
 use lib.ListN.{length, drop, length-drop}

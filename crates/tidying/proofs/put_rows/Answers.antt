@@ -1,4 +1,4 @@
--- mended
+-- `tidying::put_rows` is right since the properties of one identifier are put behind those of the ones before it. Assumes nothing.
 use Prim.Native.Nat.{◌-◌}
 use native.Mathlib.Omega.{arith}
 use Rattle.tables.specs.Property.{table_row}

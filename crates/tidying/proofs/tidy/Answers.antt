@@ -1,4 +1,4 @@
--- mended
+-- `tidying::tidy` is right since the frame that is read is tidied, and the stream's answer is the frame's. Assumes nothing.
 use Rattle.tidying.proofs.Laws.Frame.{tidies_refused, accepted_frame, tidies_frame}
 use Rattle.tidying.proofs.tidy.Goals as goal
 

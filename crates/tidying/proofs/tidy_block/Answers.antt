@@ -1,4 +1,4 @@
--- mended
+-- `tidying::tidy_block` is right since front and rest are the tidy form, which is as long as the frame. Assumes nothing.
 use native.Mathlib.Omega.{arith}
 use Rattle.tables.specs.Property.{table_row}
 use Rattle.tidying.proofs.Laws.Put.{laid_none, laid_put}

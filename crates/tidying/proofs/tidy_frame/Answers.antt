@@ -1,4 +1,4 @@
--- mended
+-- `tidying::tidy_frame` is right since each way puts the tidy form of its layouts. Assumes nothing.
 use native.Mathlib.Omega.{arith}
 use Rattle.tidying.proofs.Laws.Put.{octets_of, some_bytes}
 use Rattle.tidying.proofs.Laws.Frame.{way_block, way_filters, way_long, way_short, way_ping, way_no, laid_tidied, laid_start}

@@ -1,4 +1,4 @@
--- mended
+-- `tidying::tidy_short` is right since success is four bytes, and any other reason is followed by L = 0. Assumes nothing.
 use mathlib.Core.Path.{sym, ◌∙◌}
 use Rattle.tidying.proofs.Laws.Put.{short_success, short_reason}
 use Rattle.tidying.proofs.tidy_short.Goals as goal

@@ -1,4 +1,4 @@
--- mended
+-- `tidying::tidy_subscribe` is right since front and filters are the tidy form, which is as long as the frame. Assumes nothing.
 use native.Mathlib.Omega.{arith}
 use Rattle.grammar.specs.Tables.{subscribe_row}
 use Rattle.tidying.proofs.Laws.Put.{laid_none, masked_put}

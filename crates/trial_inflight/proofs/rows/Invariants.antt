@@ -1,4 +1,4 @@
--- converted
+-- `trial_inflight::rows` is right since each row ends within the text. Assumes nothing.
 use mathlib.Core.Path.{◌≡◌}
 use Prim.Native.Nat.{◌-◌, ◌≤◌}
 use lib.ListN.{length}

@@ -1,4 +1,4 @@
--- converted
+-- `trial_topics::every` is right since each line ends behind its start. Assumes nothing.
 use Rattle.std.proofs.Common.{◌-◌, ◌≤◌, length}
 use Rattle.trial_topics.proofs.every.Given as goal
 

@@ -1,4 +1,4 @@
--- converted
+-- `trial_topics::find` is right since each step stays within. Assumes nothing.
 use Rattle.std.proofs.Common.{◌-◌, ◌≤◌, length}
 use Rattle.trial_topics.proofs.find.Given as goal
 

@@ -1,4 +1,4 @@
--- converted
+-- `walker::begin_at` is right since the block of a record that was read lies within the stream. Assumes nothing.
 use Rattle.walker.proofs.Lies.{begins_packet}
 use Rattle.walker.proofs.begin_at.Goals as goal
 

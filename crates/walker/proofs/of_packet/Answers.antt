@@ -1,4 +1,4 @@
--- converted
+-- `walker::of_packet` is right since each arm walks the block of its kind, if there is one. Assumes nothing.
 use Rattle.walker.proofs.of_packet.Goals as goal
 
 pub returns-in-Publish : goal.returns-in-Publish

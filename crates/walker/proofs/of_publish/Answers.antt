@@ -1,4 +1,4 @@
--- converted
+-- `walker::of_publish` is right since only a block that is present is walked. Assumes nothing.
 use Rattle.walker.proofs.of_publish.Goals as goal
 
 pub returns-in-Absent : goal.returns-in-Absent

@@ -1,4 +1,4 @@
--- converted
+-- `walker::over` is right since a place within the slice ends where its sum says. Assumes nothing.
 use mathlib.Core.Path.{refl, sym, ◌∙◌}
 use Prim.Native.Nat.{◌+◌}
 use native.Mathlib.Omega.{arith}

@@ -1,4 +1,4 @@
--- converted
+-- `walker::step_at` is right since the part is the bytes before `end`. Assumes nothing.
 use Rattle.walker.proofs.step_at.Goals as goal
 
 pub returns : goal.returns

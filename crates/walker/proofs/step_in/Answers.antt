@@ -1,4 +1,4 @@
--- converted
+-- `walker::step_in` is right since each turn passes one property that is no user property, and what is left decides. Assumes nothing.
 use native.Mathlib.Omega.{arith}
 use Prim.Native.Nat.{◌-◌}
 use Rattle.items.proofs.Laws.{user_form}

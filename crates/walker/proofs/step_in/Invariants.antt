@@ -1,4 +1,3 @@
--- converted
 use lib.ListN.{length}
 use Prim.Native.Nat.{◌-◌}
 use Rattle.tables.specs.Property.{table_row}

@@ -1,4 +1,4 @@
--- converted (mended)
+-- `c_arguments::up_to::property_up_to` is right since it reads in the bytes before the end. Assumes nothing.
 use mathlib.Core.Path.{sym, ◌∙◌}
 use Rattle.c_arguments.specs.Kind.{property_at}
 use Rattle.c_arguments.proofs.UpTo.{up_within, up_outside}

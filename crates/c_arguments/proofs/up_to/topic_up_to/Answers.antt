@@ -1,4 +1,4 @@
--- converted (mended)
+-- `c_arguments::up_to::topic_up_to` is right since it reads in the bytes before the end. Assumes nothing.
 use mathlib.Core.Path.{sym, ◌∙◌}
 use lib.ListN.{length}
 use Rattle.reading.specs.Place.{as_places}

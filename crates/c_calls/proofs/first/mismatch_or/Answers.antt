@@ -1,4 +1,4 @@
--- converted
+-- `c_calls::first::mismatch_or` is right since it asks whether what is handed over belongs together. Assumes nothing.
 use mathlib.Core.Path.{sym}
 use Rattle.c_calls.proofs.first.mismatch_or.Goals as goal
 

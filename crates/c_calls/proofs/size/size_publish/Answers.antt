@@ -1,4 +1,4 @@
--- converted
+-- `c_calls::size::size_publish` is right since 20 and the QoS come first, and then the head and the lists are what is handed over. Assumes nothing.
 use mathlib.Core.Path.{◌∙◌}
 use borrow.Author.Tests.{not-true, not-false}
 use Rattle.c_calls.proofs.Laws.{sized_off, sized_bad, sized_fine}

@@ -1,4 +1,4 @@
--- converted
+-- `c_calls::write::write_publish` is right since 20 and the QoS come first, and then the head and the lists are what is handed over. Assumes nothing.
 use borrow.Author.Tests.{not-true, not-false}
 use Rattle.c_calls.proofs.Laws.{written_off, written_bad, written_fine}
 use Rattle.c_calls.proofs.write.write_publish.Goals as goal

@@ -1,4 +1,4 @@
--- converted
+-- `c_calls::write::write_subscribe` is right since 20 comes first, and then the head and the lists are what is handed over. Assumes nothing.
 use borrow.Author.Tests.{not-true, not-false}
 use Rattle.c_calls.proofs.Laws.{written_off, written_fine}
 use Rattle.c_calls.proofs.write.write_subscribe.Goals as goal

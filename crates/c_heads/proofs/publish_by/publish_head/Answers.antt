@@ -1,4 +1,4 @@
--- converted
+-- `c_heads::publish_by::publish_head` is right since each part has what the definition has. Assumes nothing.
 use Rattle.c_heads.proofs.publish_by.publish_head.Goals as goal
 
 pub returns : goal.returns

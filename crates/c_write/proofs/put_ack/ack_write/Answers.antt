@@ -1,4 +1,4 @@
--- mended
+-- `c_write::put_ack::ack_write` is right since the head is what is handed over, and what is returned and stored is of the answer that the writer gives. Assumes nothing.
 use Rattle.c_write.proofs.Laws.{written_by}
 use Rattle.c_write.proofs.put_ack.ack_write.Goals as goal
 

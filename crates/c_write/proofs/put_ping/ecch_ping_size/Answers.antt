@@ -1,4 +1,4 @@
--- mended
+-- `c_write::put_ping::ecch_ping_size` is right since what is returned and stored is of the size that `ping_size` gives. Assumes nothing.
 use mathlib.Core.Path.{◌∙◌}
 use Rattle.c_write.proofs.Laws.{answered_by}
 use Rattle.c_write.proofs.put_ping.ecch_ping_size.Goals as goal

@@ -1,4 +1,4 @@
--- mended
+-- `c_write::put_ping::ecch_pingresp_write` is right since what is returned and stored is of the answer that the writer gives. Assumes nothing.
 use mathlib.Core.Path.{refl}
 use Rattle.c_write.proofs.Laws.{written_by}
 use Rattle.c_write.proofs.put_ping.ecch_pingresp_write.Goals as goal

@@ -1,4 +1,4 @@
--- mended
+-- `c_write::put_publish::ecch_publish_size` is right since what is returned and stored is of the size that `size_publish` gives. Assumes nothing.
 use mathlib.Core.Path.{ap, ◌∙◌}
 use Rattle.writing.specs.Write.{sized_behind}
 use Rattle.c_heads.specs.By.{behind}

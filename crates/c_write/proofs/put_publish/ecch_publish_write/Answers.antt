@@ -1,4 +1,4 @@
--- mended
+-- `c_write::put_publish::ecch_publish_write` is right since what is returned and stored is of the answer that `write_publish` gives. Assumes nothing.
 use mathlib.Core.Path.{ap}
 use Rattle.c_heads.specs.By.{behind}
 use Rattle.c_write.proofs.Laws.{behind_by}

@@ -1,4 +1,4 @@
--- mended
+-- `c_write::put_unsubscribe::ecch_unsubscribe_size` is right since the head is what is handed over, and what is returned and stored is of its size. Assumes nothing.
 use mathlib.Core.Path.{ap, ◌∙◌}
 use Rattle.writing.specs.Handed.{unsubscribe}
 use Rattle.writing.specs.Write.{size_of}

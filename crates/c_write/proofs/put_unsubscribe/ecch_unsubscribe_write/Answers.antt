@@ -1,4 +1,4 @@
--- mended
+-- `c_write::put_unsubscribe::ecch_unsubscribe_write` is right since the head is what is handed over, and what is returned and stored is of the answer that the writer gives. Assumes nothing.
 use mathlib.Core.Path.{ap}
 use Rattle.writing.specs.Handed.{unsubscribe}
 use Rattle.c_write.proofs.Laws.{written_by}

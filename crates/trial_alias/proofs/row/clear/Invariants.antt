@@ -1,4 +1,4 @@
--- converted
+-- `trial_alias::row::clear` ends since the index grows up to the length of the table. Assumes nothing.
 use Rattle.std.proofs.Common.{◌≡◌, ◌-◌, length}
 use Rattle.trial_alias.proofs.row.clear.Given as goal
 

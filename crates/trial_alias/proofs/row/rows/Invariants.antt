@@ -1,4 +1,4 @@
--- converted
+-- `trial_alias::row::rows` ends since the index grows up to the end of the text. Assumes nothing.
 use Rattle.std.proofs.Common.{◌≡◌, ◌-◌, ◌≤◌, length}
 use Rattle.trial_alias.proofs.row.rows.Given as goal
 

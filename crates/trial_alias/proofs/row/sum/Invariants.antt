@@ -1,4 +1,4 @@
--- converted
+-- `trial_alias::row::sum` ends since the index falls. Assumes nothing.
 use Rattle.std.proofs.Common.{◌≤◌, length}
 use Rattle.trial_alias.proofs.row.sum.Given as goal
 

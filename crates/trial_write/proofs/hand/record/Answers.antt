@@ -1,4 +1,4 @@
--- converted
+-- `trial_write::hand::record`: a list has at most the two numbers that are read of it. Assumes nothing.
 use Rattle.std.proofs.Common.{sym, arith, length-take-le}
 use Rattle.trial_write.proofs.hand.record.Goals as goal
 

@@ -1,4 +1,4 @@
--- converted
+-- `trial_write::hand::row`: the output is no longer than what is lent of it. Assumes nothing.
 use Rattle.std.proofs.Common.{sym, arith, length-take-le}
 use Rattle.trial_write.proofs.hand.row.Goals as goal
 

@@ -1,4 +1,4 @@
--- converted
+-- `trial_write::text::number` ends since the index grows up to the length. Assumes nothing.
 use Rattle.std.proofs.Common.{◌-◌, length}
 use Rattle.trial_write.proofs.text.number.Given as goal
 
