@@ -42,13 +42,7 @@ pub fn ecch_subscription_identifier(
 }
 
 // Text and options of the n-th filter: 0, or 21.
-pub fn ecch_filter(
-    stream: &[u8],
-    start: usize,
-    len: usize,
-    n: usize,
-    into: &mut [u64],
-) -> u32
+pub fn ecch_filter(stream: &[u8], start: usize, len: usize, n: usize, into: &mut [u64]) -> u32
     ensures number { result ≡ fit_number (filter_at as_places stream.now (record { start = start; len = len }) n) }
     ensures stored { into.new ≡ sets into.old 0 (filter_numbers (filter_at as_places stream.now (record { start = start; len = len }) n)) }
 {
@@ -73,13 +67,7 @@ pub fn ecch_reason(
 }
 
 // Where the n-th topic of an Unsubscribe stands: 0, or 21.
-pub fn ecch_topic(
-    stream: &[u8],
-    start: usize,
-    len: usize,
-    n: usize,
-    into: &mut [u64],
-) -> u32
+pub fn ecch_topic(stream: &[u8], start: usize, len: usize, n: usize, into: &mut [u64]) -> u32
     ensures number { result ≡ fit_number (topic_at as_places stream.now (record { start = start; len = len }) n) }
     ensures stored { into.new ≡ sets into.old 0 (topic_numbers (topic_at as_places stream.now (record { start = start; len = len }) n)) }
 {

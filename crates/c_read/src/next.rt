@@ -11,13 +11,7 @@ use c_layout_item::next::{store_next_filter, store_next_topic, store_property};
 
 // Identifier and value of the property at an index of a block that ends where C says: 0, or the refusal's number. What came before it is not
 // known, so it is never 22.
-pub fn ecch_property(
-    stream: &[u8],
-    kind: u8,
-    at: usize,
-    end: usize,
-    into: &mut [u64],
-) -> u32
+pub fn ecch_property(stream: &[u8], kind: u8, at: usize, end: usize, into: &mut [u64]) -> u32
     ensures number { result ≡ fit_number (property_up_to kind stream.now at end) }
     ensures stored { into.new ≡ sets into.old 0 (property_numbers (property_up_to kind stream.now at end)) }
 {

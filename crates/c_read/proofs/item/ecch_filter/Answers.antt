@@ -1,4 +1,4 @@
--- mended
+-- `c_read::item::ecch_filter` is right since what is returned and stored is of the answer that `filter` gives. Assumes nothing.
 use mathlib.Core.Path.{◌∙◌}
 use Rattle.c_read.proofs.item.ecch_filter.Goals as goal
 

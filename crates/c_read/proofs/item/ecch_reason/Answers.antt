@@ -1,4 +1,4 @@
--- mended
+-- `c_read::item::ecch_reason` is right since what is returned and stored is of the answer that `reason_item` gives. Assumes nothing.
 use mathlib.Core.Path.{◌∙◌}
 use Rattle.c_read.proofs.item.ecch_reason.Goals as goal
 

@@ -1,4 +1,4 @@
--- mended
+-- `c_read::item::ecch_topic` is right since what is returned and stored is of the answer that `topic` gives. Assumes nothing.
 use mathlib.Core.Path.{◌∙◌}
 use Rattle.c_read.proofs.item.ecch_topic.Goals as goal
 

@@ -1,4 +1,4 @@
--- mended
+-- `c_read::item::ecch_user_property` is right since what is returned and stored is of the answer that `user_item` gives. Assumes nothing.
 use mathlib.Core.Path.{◌∙◌}
 use Rattle.c_read.proofs.item.ecch_user_property.Goals as goal
 

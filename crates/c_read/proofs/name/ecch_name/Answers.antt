@@ -1,4 +1,4 @@
--- mended
+-- `c_read::name::ecch_name` is right since the name of the row is put, and there is none without a row. Assumes nothing.
 use Rattle.refusal_names.specs.Names.{name_at}
 use Rattle.c_read.proofs.Laws.{name_put}
 use Rattle.c_read.proofs.name.ecch_name.Goals as goal

@@ -1,4 +1,4 @@
--- mended
+-- `c_read::next::ecch_next_topic` is right since what is returned and stored is of the answer that `topic_up_to` gives. Assumes nothing.
 use mathlib.Core.Path.{◌∙◌}
 use Rattle.c_read.proofs.next.ecch_next_topic.Goals as goal
 

@@ -1,4 +1,4 @@
--- mended
+-- `c_read::read::ecch_part` is right since it asks whether the place lies within. Assumes nothing.
 use mathlib.Core.Path.{sym}
 use Rattle.c_read.proofs.read.ecch_part.Goals as goal
 

@@ -1,4 +1,4 @@
--- mended
+-- `c_read::read::ecch_read` is right since what is returned and stored is of the answer that `packet::read` gives. Assumes nothing.
 use mathlib.Core.Path.{◌∙◌}
 use Rattle.c_read.proofs.read.ecch_read.Goals as goal
 
