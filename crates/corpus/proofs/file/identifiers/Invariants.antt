@@ -1,0 +1,6 @@
+-- mended
+use Rattle.std.proofs.Common.{◌-◌}
+use Rattle.corpus.proofs.file.identifiers.Given as goal
+
+abbrev pub decreases-loop-k : goal.decreases-loop-k
+decreases-loop-k l = 8 - l.k

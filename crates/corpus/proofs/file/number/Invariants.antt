@@ -1,0 +1,6 @@
+-- mended
+use Rattle.std.proofs.Common.{◌-◌}
+use Rattle.corpus.proofs.file.number.Given as goal
+
+abbrev pub decreases-loop-i : goal.decreases-loop-i
+decreases-loop-i l = l.n - l.i

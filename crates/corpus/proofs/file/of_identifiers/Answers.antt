@@ -1,0 +1,6 @@
+-- mended
+use Rattle.std.proofs.Common.{sym, arith, length-take-le}
+use Rattle.corpus.proofs.file.of_identifiers.Goals as goal
+
+pub slice_bounds-result-end-2 : goal.slice_bounds-result-end-2
+slice_bounds-result-end-2 c = sym (length-take-le _ _ (omega arith))

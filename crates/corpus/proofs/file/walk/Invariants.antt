@@ -1,0 +1,9 @@
+-- mended
+use Rattle.std.proofs.Common.{◌≡◌, ◌-◌, length}
+use Rattle.corpus.proofs.file.walk.Given as goal
+
+abbrev pub invariant-loop-k : goal.invariant-loop-k
+invariant-loop-k l = length l.v ≡ length l.initial.v
+
+abbrev pub decreases-loop-k : goal.decreases-loop-k
+decreases-loop-k l = length l.fields - l.k
