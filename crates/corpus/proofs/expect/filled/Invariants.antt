@@ -1,4 +1,4 @@
--- mended
+-- `corpus::expect::filled` ends since the index grows up to the length. Assumes nothing.
 use Rattle.std.proofs.Common.{◌-◌}
 use Rattle.corpus.proofs.expect.filled.Given as goal
 

@@ -1,4 +1,4 @@
--- mended
+-- `corpus::expect::is_output` ends since the index grows up to the length. Assumes nothing.
 use Rattle.std.proofs.Common.{◌-◌, length}
 use Rattle.corpus.proofs.expect.is_output.Given as goal
 

@@ -1,4 +1,4 @@
--- mended
+-- `corpus::expect::same_numbers` ends since the index grows up to the length. Assumes nothing.
 use Rattle.std.proofs.Common.{◌-◌, length}
 use Rattle.corpus.proofs.expect.same_numbers.Given as goal
 

@@ -1,4 +1,4 @@
--- mended
+-- `corpus::expect::stored` ends since i grows up to the count of pairs. Assumes nothing.
 use Rattle.std.proofs.Common.{◌-◌}
 use Rattle.corpus.proofs.expect.stored.Given as goal
 

@@ -1,4 +1,4 @@
--- mended
+-- `corpus::file::identifiers` ends since the index grows up to the length. Assumes nothing.
 use Rattle.std.proofs.Common.{◌-◌}
 use Rattle.corpus.proofs.file.identifiers.Given as goal
 

@@ -1,4 +1,4 @@
--- mended
+-- `corpus::file::number` ends since i grows up to n; each turn keeps 56 bits before it adds 8. Assumes nothing.
 use Rattle.std.proofs.Common.{◌-◌}
 use Rattle.corpus.proofs.file.number.Given as goal
 

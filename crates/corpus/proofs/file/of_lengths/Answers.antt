@@ -1,4 +1,4 @@
--- mended
+-- `corpus::file::of_lengths` hands back n numbers only where there are as many. Assumes nothing.
 use Rattle.std.proofs.Common.{sym, arith, length-take-le}
 use Rattle.corpus.proofs.file.of_lengths.Goals as goal
 

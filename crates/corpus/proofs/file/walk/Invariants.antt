@@ -1,4 +1,4 @@
--- mended
+-- `corpus::file::walk` ends since k grows up to the count of fields. Assumes nothing.
 use Rattle.std.proofs.Common.{◌≡◌, ◌-◌, length}
 use Rattle.corpus.proofs.file.walk.Given as goal
 

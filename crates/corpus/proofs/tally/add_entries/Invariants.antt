@@ -1,4 +1,4 @@
--- mended
+-- `corpus::tally::add_entries` ends since what is left of the class falls. Assumes nothing.
 use Rattle.std.proofs.Common.{◌≡◌, length}
 use Rattle.corpus.proofs.tally.add_entries.Given as goal
 

@@ -1,4 +1,4 @@
--- mended
+-- `corpus::tally::counts` ends since k grows up to 65. Assumes nothing.
 use Rattle.std.proofs.Common.{◌-◌}
 use Rattle.corpus.proofs.tally.counts.Given as goal
 

@@ -1,4 +1,4 @@
--- mended
+-- `corpus::writes::in_room` lends the first bytes of the output only where there are as many. Assumes nothing.
 use Rattle.std.proofs.Common.{sym, arith, length-take-le}
 use Rattle.corpus.proofs.writes.in_room.Goals as goal
 
