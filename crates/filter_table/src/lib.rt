@@ -1,5 +1,4 @@
-// A Subscribe's filters in a table that the caller lends. The borrow checker covers no function over a slice of structs, so `put_entries`
-// and `fill_filters` are proved by hand; `entry_at` and `plan_of` do the work.
+// A Subscribe's filters in a table that the caller lends. `put_entries` and `fill_filters` are thin; `entry_at` and `plan_of` do the work.
 #![tactic(auto)]
 
 ghost use Rattle.std.specs.Prelude.{◌≡◌, ◌≤◌, length};

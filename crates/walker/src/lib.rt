@@ -1,5 +1,5 @@
-// The user properties of a frame, one after another: a walker that holds the frame. The borrow checker covers no function over such a
-// struct, so `make` and `next` are thin, and proved by hand; `begin_at` and `step_at` do the work.
+// The user properties of a frame, one after another: a walker that holds the frame. `make` and `next` are thin; `begin_at` and `step_at` do
+// the work.
 #![tactic(auto)]
 
 ghost use Rattle.std.proofs.Math.Option.{none, some};
