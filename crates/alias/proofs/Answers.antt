@@ -26,53 +26,53 @@ rows =
     ∷ (27, AliasError.AliasUnknown)
     ∷ []
 
-abbrev orLast : Option AliasError → AliasError
-orLast none = AliasError.AliasNoRoom
-orLast (some e) = e
+abbrev or_last : Option AliasError → AliasError
+or_last none = AliasError.AliasNoRoom
+or_last (some e) = e
 
-abbrev backAlias : Refusal → AliasError
-backAlias (nr n vs) = orLast (lookup rows n)
+abbrev back_alias : Refusal → AliasError
+back_alias (nr n vs) = or_last (lookup rows n)
 
-back-alias : (e : AliasError) → backAlias (told_alias e) ≡ e
+back_alias_lem : (e : AliasError) → back_alias (told_alias e) ≡ e
 unfolding rows
-back-alias AliasError.AliasTableBad = refl
-back-alias AliasError.AliasInvalid = refl
-back-alias AliasError.TopicMissing = refl
-back-alias AliasError.AliasUnknown = refl
-back-alias AliasError.AliasNoRoom = refl
+back_alias_lem AliasError.AliasTableBad = refl
+back_alias_lem AliasError.AliasInvalid = refl
+back_alias_lem AliasError.TopicMissing = refl
+back_alias_lem AliasError.AliasUnknown = refl
+back_alias_lem AliasError.AliasNoRoom = refl
 
 -- two refusals with one number are the same
-pub alias-same : {e d : AliasError} → told_alias e ≡ told_alias d → e ≡ d
-alias-same = injective_by told_alias backAlias back-alias
+pub alias_same : {e d : AliasError} → told_alias e ≡ told_alias d → e ≡ d
+alias_same = injective_by told_alias back_alias back_alias_lem
 
-abbrev backJudged : Fit (Unit {0}) → Judged
-backJudged (got u) = Judged.Permitted
-backJudged (bad k) = Judged.Refused (backAlias k)
+abbrev back_judged : Fit (Unit {0}) → Judged
+back_judged (got u) = Judged.Permitted
+back_judged (bad k) = Judged.Refused (back_alias k)
 
-back-judged : (r : Judged) → backJudged (told_judged r) ≡ r
-back-judged Judged.Permitted = refl
-back-judged (Judged.Refused e) = ap Judged.Refused (back-alias e)
+back_judged_lem : (r : Judged) → back_judged (told_judged r) ≡ r
+back_judged_lem Judged.Permitted = refl
+back_judged_lem (Judged.Refused e) = ap Judged.Refused (back_alias_lem e)
 
 -- demand 1, of `judge`, `learn_topic` and `learn`
-pub judged-same : (d : Fit (Unit {0})) (r q : Judged) → told_judged r ≡ d → told_judged q ≡ d → r ≡ q
-judged-same d r q e f = injective_by told_judged backJudged back-judged (e ∙ sym f)
+pub judged_same : (d : Fit (Unit {0})) (r q : Judged) → told_judged r ≡ d → told_judged q ≡ d → r ≡ q
+judged_same d r q e f = injective_by told_judged back_judged back_judged_lem (e ∙ sym f)
 
-abbrev backPlaced : Fit Lies → Placed
-backPlaced (got (in_packet p)) = Placed.InPacket (back_span p)
-backPlaced (got (in_table p)) = Placed.InTable (back_span p)
-backPlaced (bad k) = Placed.Refused (backAlias k)
+abbrev back_placed : Fit Lies → Placed
+back_placed (got (in_packet p)) = Placed.InPacket (back_span p)
+back_placed (got (in_table p)) = Placed.InTable (back_span p)
+back_placed (bad k) = Placed.Refused (back_alias k)
 
-back-placed : (r : Placed) → backPlaced (told_placed r) ≡ r
-back-placed (Placed.InPacket p) = refl
-back-placed (Placed.InTable p) = refl
-back-placed (Placed.Refused e) = ap Placed.Refused (back-alias e)
+back_placed_lem : (r : Placed) → back_placed (told_placed r) ≡ r
+back_placed_lem (Placed.InPacket p) = refl
+back_placed_lem (Placed.InTable p) = refl
+back_placed_lem (Placed.Refused e) = ap Placed.Refused (back_alias_lem e)
 
 -- demand 1, of `place_in_force`
 pub placed_same : (d : Fit Lies) (r q : Placed) → told_placed r ≡ d → told_placed q ≡ d → r ≡ q
-placed_same d r q e f = injective_by told_placed backPlaced back-placed (e ∙ sym f)
+placed_same d r q e f = injective_by told_placed back_placed back_placed_lem (e ∙ sym f)
 
 -- demand 1, of `topic_in_force`
-pub part-in-same : (s t r q : Bor (List ℕ)) (w : Fit Lies) → PartIn s t w r → PartIn s t w q → (r.ref_ptr ≡ q.ref_ptr) × (r.now ≡ q.now)
-part-in-same s t r q (got (in_packet p)) a b = part_at_same a b
-part-in-same s t r q (got (in_table p)) a b = part_at_same a b
-part-in-same s t r q (bad k) a b = part_at_same a b
+pub part_in_same : (s t r q : Bor (List ℕ)) (w : Fit Lies) → PartIn s t w r → PartIn s t w q → (r.ref_ptr ≡ q.ref_ptr) × (r.now ≡ q.now)
+part_in_same s t r q (got (in_packet p)) a b = part_at_same a b
+part_in_same s t r q (got (in_table p)) a b = part_at_same a b
+part_in_same s t r q (bad k) a b = part_at_same a b

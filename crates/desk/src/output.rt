@@ -109,6 +109,9 @@ fn shown_as(to: Stdout, out: &mut [u8], at: usize, s: &[u8], text: bool) -> usiz
     let mut i: usize = 0;
     while i < s.len() {
         let from = room(to, &*out, next, 4);
+        if is_lost(&*out, from) {
+            return from;
+        }
         let step = desk_text::put_text(&mut *out, from, s, i, text);
         if step.taken == 0 {
             return LOST;

@@ -4,95 +4,99 @@
 
 use inflight::{InFlight, code};
 use journal::{Found, look, recover};
-use std::io::{Print, Stdout};
+use std::io::{Error, Print, Stdout};
+use std::process::ExitCode;
 
-// What standard output does not take is lost.
-fn say(to: Stdout, s: &[u8]) {
-    let _ = Print::write_all(&to, s);
+// The system's number where nobody takes any more what is written.
+const BROKEN_PIPE: i32 = 32;
+
+fn say(to: Stdout, s: &[u8]) -> Result<(), Error> {
+    Print::write_all(&to, s)
 }
 
-fn number(to: Stdout, n: u64) {
-    let _ = to.print(n);
+fn number(to: Stdout, n: u64) -> Result<(), Error> {
+    to.print(n)
 }
 
-fn state(to: Stdout, x: u8) {
-    if x == 1 {
-        say(to, b" PubAck");
-    }
-    if x == 2 {
-        say(to, b" PubRec");
-    }
-    if x == 3 {
-        say(to, b" PubComp");
+fn state(to: Stdout, x: u8) -> Result<(), Error> {
+    match x {
+        1 => say(to, b" PubAck"),
+        2 => say(to, b" PubRec"),
+        3 => say(to, b" PubComp"),
+        0 | 4..=255 => Ok(()),
     }
 }
 
 // An identifier that waits.
-fn identifier(to: Stdout, id: u16, x: u8) {
-    if x != 0 {
-        say(to, b" ");
-        number(to, id as u64);
-        state(to, x);
+fn identifier(to: Stdout, id: u16, x: u8) -> Result<(), Error> {
+    if x == 0 {
+        return Ok(());
     }
+    say(to, b" ")?;
+    number(to, id as u64)?;
+    state(to, x)
 }
 
 // What waits, in one line.
-fn waits(to: Stdout, table: InFlight) {
+fn waits(to: Stdout, table: InFlight) -> Result<(), Error> {
     let mut id: u16 = 1;
     while id <= 1024 {
         let w = table.waits_for(id);
-        identifier(to, id, code(w));
+        identifier(to, id, code(w))?;
         id += 1;
     }
-    say(to, b"\n");
+    say(to, b"\n")
 }
 
 // `empty` is said where there is no table.
-fn found(to: Stdout, f: Found, table: InFlight, empty: &[u8]) {
+fn found(to: Stdout, f: Found, table: InFlight, empty: &[u8]) -> Result<(), Error> {
     match f {
         Found::Number(n) => {
-            say(to, b"number ");
-            number(to, n);
-            say(to, b" waiting ");
-            number(to, table.waiting() as u64);
-            waits(to, table);
+            say(to, b"number ")?;
+            number(to, n)?;
+            say(to, b" waiting ")?;
+            number(to, table.waiting() as u64)?;
+            waits(to, table)
         }
         Found::BadArea => say(to, b"32 BadArea\n"),
         Found::JournalEmpty => say(to, empty),
     }
 }
 
-fn one(to: Stdout, area: &[u8], i: usize) {
-    say(to, b"block ");
-    number(to, i as u64);
-    say(to, b": ");
+fn one(to: Stdout, area: &[u8], i: usize) -> Result<(), Error> {
+    say(to, b"block ")?;
+    number(to, i as u64)?;
+    say(to, b": ")?;
     let r = look(area, i);
     let f = r.found;
     let table = r.table;
-    found(to, f, table, b"not good\n");
+    found(to, f, table, b"not good\n")
 }
 
-fn show(to: Stdout, area: &[u8]) {
+fn show(to: Stdout, area: &[u8]) -> Result<(), Error> {
     let mut i: usize = 0;
     while i < area.len() / 512 {
-        one(to, area, i);
+        one(to, area, i)?;
         i += 1;
     }
-    say(to, b"recovered: ");
+    say(to, b"recovered: ")?;
     let r = recover(area);
     let f = r.found;
     let table = r.table;
-    found(to, f, table, b"33 JournalEmpty\n");
+    found(to, f, table, b"33 JournalEmpty\n")
 }
 
-// The file's first 65,536 bytes.
-fn file(rt: HostRuntime, name: &[u8]) {
+// The file's first 65,536 bytes. Only what standard output does not take is handed back.
+fn file(rt: HostRuntime, name: &[u8]) -> Result<(), Error> {
     match outside::open(&rt, name) {
-        Err(e) => outside::fail(rt.stderr(), name, outside::number_of(e)),
+        Err(e) => {
+            outside::fail(rt.stderr(), name, outside::number_of(e));
+            Ok(())
+        }
         Ok(mut file) => {
             let mut area = area_buffer();
             let n = outside::read_full(&mut file, &mut area);
-            show(rt.stdout(), &area[..n]);
+            show(rt.stdout(), &area[..n])
         }
     }
 }
@@ -103,15 +107,31 @@ fn area_buffer() -> [u8; 65536] {
 }
 
 // The file that is named by word i, if there is one.
-fn named(rt: HostRuntime, i: usize) {
-    if i < outside::word_count(&rt) {
-        let mut path = outside::word_buffer();
-        let n = outside::word(&rt, i, &mut path).unwrap_or(0);
-        file(rt, &path[..n]);
+fn named(rt: HostRuntime, i: usize) -> Result<(), Error> {
+    if outside::word_count(&rt) <= i {
+        return Ok(());
     }
+    let mut path = outside::word_buffer();
+    let n = outside::word(&rt, i, &mut path).unwrap_or(0);
+    file(rt, &path[..n])
 }
 
-fn main(rt: HostRuntime) {
-    named(rt, 1);
-    named(rt, 2);
+fn both(rt: HostRuntime) -> Result<(), Error> {
+    named(rt, 1)?;
+    named(rt, 2)
+}
+
+// Where nobody reads on, it ends as a program that the signal ends, and says nothing.
+fn main(rt: HostRuntime) -> ExitCode {
+    match both(rt) {
+        Ok(()) => ExitCode::SUCCESS,
+        Err(e) => {
+            let n = outside::number_of(e);
+            if n == BROKEN_PIPE {
+                return ExitCode::from(141);
+            }
+            outside::fail(rt.stderr(), b"desk: standard output", n);
+            ExitCode::FAILURE
+        }
+    }
 }

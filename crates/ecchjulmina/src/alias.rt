@@ -1,4 +1,5 @@
 // What C and Rust call for topics by alias (02's P6): a message is learnt, and the topic in force is found. The layout of the array that is
+// filled is in bindings/c/ecchjulmina.h.
 ghost use Rattle.std.specs.Prelude.{◌≡◌};
 ghost use Rattle.std.proofs.lemmas.List.Edits.{sets};
 ghost use Rattle.reading.specs.Place.{held_of};

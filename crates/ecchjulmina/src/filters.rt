@@ -1,4 +1,5 @@
 // The filters of a Subscribe in a table that C lends as an array of numbers, three for an entry (02, P7); bindings/c/ecchjulmina.h has the
+// words.
 ghost use Rattle.std.specs.Prelude.{◌≡◌};
 ghost use Rattle.std.proofs.Math.Option.{none};
 ghost use Rattle.std.proofs.lemmas.List.Edits.{sets};

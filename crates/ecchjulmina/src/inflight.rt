@@ -1,4 +1,6 @@
 // What C calls for P4: the table as lent bytes, one for each identifier from 1 upward, 0 if it is free, 1, 2 or 3 if it waits for PubAck,
+// PubRec or PubComp. A start clears every byte, whatever it was; any other call tests every byte, and changes at most one.
+// bindings/c/ecchjulmina.h says the rest.
 ghost use Rattle.std.specs.Prelude.{◌≡◌, ◌∷◌, []};
 ghost use Rattle.std.proofs.lemmas.List.Edits.{sets};
 ghost use Rattle.c_inflight.specs.Given.{start_given, claim_given, ack_given, waiting_number, waiting_value, value_of, Ends};

@@ -1,4 +1,5 @@
 // The property, filter or topic at an index of a block or run of the stream, and the index after it: a list walked item by item costs each
+// byte once.
 ghost use Rattle.std.specs.Prelude.{◌≡◌};
 ghost use Rattle.std.proofs.lemmas.List.Edits.{sets};
 ghost use Rattle.c_layout.specs.Value.{fit_number};

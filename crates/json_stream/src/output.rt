@@ -52,12 +52,18 @@ fn room(to: Stdout, out: &[u8], at: usize, n: usize) -> usize {
 
 pub fn word(to: Stdout, out: &mut [u8], at: usize, w: &[u8]) -> usize {
     let from = room(to, &*out, at, w.len());
+    if is_lost(&*out, from) {
+        return from;
+    }
     put_word(&mut *out, from, w)
 }
 
 // Words of less than 80 bytes, and a number behind them.
 pub fn number(to: Stdout, out: &mut [u8], at: usize, w: &[u8], n: u64) -> usize {
     let from = room(to, &*out, at, 100);
+    if is_lost(&*out, from) {
+        return from;
+    }
     put_number(&mut *out, from, w, n)
 }
 
@@ -74,6 +80,9 @@ fn piece(left: usize) -> usize
 // A piece: of a text, or in hexadecimal. No byte of a text is put in more than six.
 fn put_piece(to: Stdout, out: &mut [u8], at: usize, s: &[u8], is_text: bool) -> usize {
     let from = room(to, &*out, at, 24576);
+    if is_lost(&*out, from) {
+        return from;
+    }
     if is_text {
         return put_text(&mut *out, from, s);
     }
@@ -104,6 +113,9 @@ pub fn head(
     taken: u64,
 ) -> usize {
     let from = room(to, &*out, at, 256);
+    if is_lost(&*out, from) {
+        return from;
+    }
     json_lines::put_head(&mut *out, from, index, offset, kind, taken)
 }
 
@@ -118,6 +130,9 @@ pub fn refused(
     taken: usize,
 ) -> usize {
     let from = room(to, &*out, at, 256);
+    if is_lost(&*out, from) {
+        return from;
+    }
     json_lines::put_refused(&mut *out, from, index, offset, e, taken)
 }
 
@@ -132,6 +147,9 @@ pub fn skipped(
     kind: u8,
 ) -> usize {
     let from = room(to, &*out, at, 256);
+    if is_lost(&*out, from) {
+        return from;
+    }
     json_lines::put_skipped(&mut *out, from, index, offset, taken, kind)
 }
 

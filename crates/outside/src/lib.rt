@@ -37,12 +37,13 @@ pub fn word_count(rt: &impl Env) -> usize {
     usize::MAX
 }
 
-// Word i at the start of the buffer, and its length; `None` where the buffer does not hold it, or there is none.
+// Word i at the start of the buffer, and its length; `None` where the buffer does not hold it and a byte more, or there is none.
 pub fn word(rt: &impl Env, i: usize, buf: &mut [u8]) -> Option<usize>
     ensures { IfSome result (λ n. IsPrefixLen n buf.new) }
 {
     match rt.arg(i, buf) {
-        Ok(n) => Some(n),
+        Ok(n) if n < buf.len() => Some(n),
+        Ok(_) => None,
         Err(_) => None,
     }
 }

@@ -1,4 +1,4 @@
--- `c_inflight::all_states` is right since ``|`` of bytes is below 4 just where each of them is. Assumes nothing.
+-- `c_inflight::all_states` is right since `|` of bytes is below 4 just where each of them is. Assumes nothing.
 use Prim.Native.Nat.{◌-◌}
 use native.Mathlib.Omega.{arith}
 use Rattle.c_inflight.proofs.Laws.{gathered_more, gathered_all}
