@@ -1,17 +1,17 @@
 // What C calls: each function of the crates c_ROOM under its own name, with its clauses. bindings/c/ecchjulmina.h declares them.
 #![tactic(auto)]
 
-mod alias;
-mod filters;
-mod inflight;
-mod journal;
-mod pieces;
+mod aliases;
+mod filter_list;
+mod matching;
+mod messages_out;
+mod next_frame;
+mod read;
 mod read_item;
 mod read_name;
 mod read_next;
-mod read;
+mod saved_table;
 mod tidy;
-mod topics;
 mod walk_next;
 mod write_ack;
 mod write_ping;
