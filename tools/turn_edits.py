@@ -8,9 +8,11 @@ in the line `for:` too. It looks for the old text in today's file, with the edit
 that stands beside the landed one (the lines of both files are set beside one another), and that line must read as the landed one does in today's
 spelling. Where it doesn't, the pair is unsure, and the script says so. What it can't turn stands in tools/turn_edits.json: `edits` has pairs of an edit
 by their place (0 is the first), as they are to be written; `names` has the names that are not the old ones in snake case (the table of
-tools/respell.py, what edits use of it), `crates` crates that have another name today. --check writes nothing; --review FILE sets all pairs beside one another.
+tools/respell.py, what edits use of it), `crates` crates that have another name today. Pairs of proofs/ that an edit has behind the landed ones are kept.
+--check writes nothing; --review FILE sets all pairs beside one another.
 """
 import difflib
+import glob
 import json
 import os
 import re
@@ -159,6 +161,13 @@ def main():
     check = "--check" in sys.argv
     review = sys.argv[sys.argv.index("--review") + 1] if "--review" in sys.argv else None
     shown, unsure, hand, total = [], [], [], 0
+    # what lets the answers follow the names of the wrong program is no landed pair: it stays as it stands
+    carried = {}
+    for f in glob.glob("crates/*/must-fail/*.edit"):
+        with open(f, encoding="utf-8") as h:
+            text = h.read()
+        if "\nfile: proofs/" in text:
+            carried[f] = text[text.index("\nfile: proofs/") + 1 :]
     listed = subprocess.run(["git", "ls-tree", "-r", "--name-only", LANDED, "crates"], capture_output=True, text=True, check=True).stdout.split("\n")
     edits = sorted(p for p in listed if re.fullmatch(r"crates/[^/]*/must-fail/[^/]*\.edit", p))
     used = set()
@@ -233,8 +242,9 @@ def main():
         if not check:
             to = f"crates/{home}/must-fail"
             os.makedirs(to, exist_ok=True)
-            with open(os.path.join(to, os.path.basename(edit)), "w", encoding="utf-8") as f:
-                f.write("\n".join(out) + "\n")
+            to = os.path.join(to, os.path.basename(edit))
+            with open(to, "w", encoding="utf-8") as f:
+                f.write("\n".join(out) + "\n" + carried.get(to, ""))
     if review:
         with open(review, "w", encoding="utf-8") as f:
             f.write("\n".join(shown) + "\n")
