@@ -1,7 +1,10 @@
 #!/usr/bin/env python3
 """Turns the must-fail edits of the last landed commit so that they fit today's sources, with the same wrong meaning.
 
-usage: tools/turn_edits.py [--check] [--review FILE]     at the top of the repository; it can be run again when the sources have changed
+usage: tools/turn_edits.py [--check] [--review FILE]     at the top of the repository
+
+Of the port alone: the design pass (docs/DESIGN-PASS.md) wrote edits anew for other sources, and this would take them back. It stops where that page is,
+but for --check.
 
 It reads each crates/NAME/must-fail/*.edit of the landed commit and writes it anew: the old and the new text in today's spelling, names in comments and
 in the line `for:` too. It looks for the old text in today's file, with the edit's earlier pairs applied: it must stand there exactly once, in the line
@@ -159,6 +162,8 @@ def main():
     spelling = Spelling(data["names"], dashed_names())
     by_hand = data["edits"]
     check = "--check" in sys.argv
+    if not check and os.path.exists(os.path.join(HERE, "..", "docs", "DESIGN-PASS.md")):
+        sys.exit("turn_edits: the design pass wrote edits anew; --check alone")
     review = sys.argv[sys.argv.index("--review") + 1] if "--review" in sys.argv else None
     shown, unsure, hand, total = [], [], [], 0
     # what lets the answers follow the names of the wrong program is no landed pair: it stays as it stands

@@ -13,106 +13,78 @@ ghost use Rattle.wire.specs.Part.{PartAt, place_if};
 ghost use Rattle.ack.specs.AckRead.{told_got_ack, told_last_block, behind_reason, after_ident, reason};
 
 use numbers::fixed;
-use numbers::got::GotU16;
 use properties::row_block;
-use properties::row_block::GotBlock;
 use records::ack_record::{Ack, AckKind};
 use records::error::Error;
-use records::properties_record::MaybeProperties;
-use records::span::MaybeSpan;
+use records::properties_record::Properties;
+use records::span::Span;
 use tables::property::OtherRow;
 use tables::reason::is_ack_reason;
 use wire::string;
 
-#[derive(Clone, Copy)]
-pub enum GotAck {
-    Value(Ack),
-    Refused(Error),
-}
-
-// What follows the reason, to the end of the frame.
-#[derive(Clone, Copy)]
-enum GotLastBlock {
-    Value(MaybeProperties),
-    Refused(Error),
-}
-
 // What follows the reason: nothing at R = 3, else a block that ends the frame.
-fn read_last_block(s: &[u8], at: usize) -> GotLastBlock
+fn read_last_block(s: &[u8], at: usize) -> Result<Option<Properties>, Error>
     ensures { told_last_block result ≡ ack_block_fit as_places ack_row (length s.now) (drop at s.now) }
 {
     if s.len() <= at {
-        return GotLastBlock::Value(MaybeProperties::Absent);
+        return Ok(None);
     }
-    match row_block::read_block(OtherRow::Ack, s, at) {
-        GotBlock::Refused(e) => GotLastBlock::Refused(e),
-        GotBlock::Value(properties, next) => {
-            if next < s.len() {
-                return GotLastBlock::Refused(Error::MalformedPacket);
-            }
-            GotLastBlock::Value(properties)
-        }
+    let (properties, next) = row_block::read_block(OtherRow::Ack, s, at)?;
+    if next < s.len() {
+        return Err(Error::MalformedPacket);
     }
+    Ok(properties)
 }
 
 // The record of an identifier and a reason, with what follows them.
-fn read_behind(s: &[u8], at: usize, pkid: u16, reason: u8) -> GotAck
+fn read_behind(s: &[u8], at: usize, pkid: u16, reason: u8) -> Result<Ack, Error>
     ensures { told_got_ack result ≡ behind_reason pkid reason (length s.now) (drop at s.now) }
 {
-    match read_last_block(s, at) {
-        GotLastBlock::Refused(e) => GotAck::Refused(e),
-        GotLastBlock::Value(properties) => GotAck::Value(Ack {
-            pkid,
-            reason,
-            properties,
-        }),
-    }
+    let properties = read_last_block(s, at)?;
+    Ok(Ack {
+        pkid,
+        reason,
+        properties,
+    })
 }
 
 // What follows the identifier: nothing at R = 2, else a reason, which is tested before what follows it.
-fn read_reason(kind: AckKind, s: &[u8], at: usize, pkid: u16) -> GotAck
+fn read_reason(kind: AckKind, s: &[u8], at: usize, pkid: u16) -> Result<Ack, Error>
     ensures { told_got_ack result ≡ after_ident (reasons_of (told_ack_kind kind)) pkid (length s.now) (drop at s.now) }
 {
     if s.len() <= at {
-        return GotAck::Value(Ack {
+        return Ok(Ack {
             pkid,
             reason: 0,
-            properties: MaybeProperties::Absent,
+            properties: None,
         });
     }
     let reason = s[at];
     if is_ack_reason(kind, reason) {
         return read_behind(s, at + 1, pkid, reason);
     }
-    GotAck::Refused(Error::InvalidReason(reason))
+    Err(Error::InvalidReason(reason))
 }
 
 // The acknowledgement of the kind in the fields from index `at` to the end of the frame, or the first refusal from the left.
-pub fn read(kind: AckKind, s: &[u8], at: usize) -> GotAck
+pub fn read(kind: AckKind, s: &[u8], at: usize) -> Result<Ack, Error>
     ensures { (x : ℕ) → kind_of x ≡ told_ack_kind kind → on_got (record_of.ack (told_ack_kind kind)) (told_got_ack result)
         ≡ fields_fit as_places (an_ack (reasons_of (told_ack_kind kind))) x (length s.now) (drop at s.now) }
 {
-    match fixed::read_u16(s, at) {
-        GotU16::Refused(e) => GotAck::Refused(e),
-        GotU16::Value(pkid, next) => read_reason(kind, s, next, pkid),
-    }
+    let (pkid, next) = fixed::read_u16(s, at)?;
+    read_reason(kind, s, next, pkid)
 }
 
 // Where the reason string stands; absent where there is no block.
-fn reason_place(properties: MaybeProperties) -> MaybeSpan
+fn reason_place(properties: Option<Properties>) -> Option<Span>
     ensures { told_string result ≡ reason properties }
 {
-    match properties {
-        MaybeProperties::Absent => MaybeSpan::Absent,
-        MaybeProperties::Present(p) => {
-            let place = p.reason_string;
-            place
-        }
-    }
+    let p = properties?;
+    p.reason_string
 }
 
 // The reason string of an acknowledgement or reply with these properties, which was read from `s`; the empty part if it is absent or lies outside.
-pub fn reason_string<'a>(s: &'a [u8], properties: MaybeProperties) -> &'a [u8]
+pub fn reason_string<'a>(s: &'a [u8], properties: Option<Properties>) -> &'a [u8]
     ensures { PartAt s.entry (place_if (reason properties)) result }
 {
     string::part_if(s, reason_place(properties))

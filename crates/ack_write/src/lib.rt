@@ -13,7 +13,7 @@ ghost use Rattle.writing.specs.Order.{judge, code, field_tests, props_fields};
 ghost use Rattle.writing.specs.Refuse.{Writable};
 ghost use Rattle.writing.specs.Write.{size_of, Written as WrittenOf};
 ghost use Rattle.records.specs.AsNumbers.{limit_of, told_ack_kind};
-ghost use Rattle.records.specs.Answered.{told_sized, told_written};
+ghost use Rattle.records.specs.Answered.{told_size};
 ghost use Rattle.write_tests.specs.Tested.{told_tested};
 ghost use Rattle.write_order.specs.Found.{before_size, Stored};
 ghost use Rattle.ack_write.specs.Handed.{handed, given_for};
@@ -21,12 +21,10 @@ ghost use Rattle.ack_write.specs.Handed.{handed, given_for};
 use kinds;
 use kinds::{Kind, number_of};
 use records::ack_record::AckKind;
-use records::answer::{Limit, Sized, Written};
 use records::error::Error;
 use tables::reason::is_ack_reason;
-use write_numbers::fixed;
+use write_numbers::fixed::Fixed;
 use write_runs::run;
-use write_tests::Tested;
 
 // What is handed over by value; the reason string and the user properties are lent beside it.
 #[derive(Clone, Copy)]
@@ -68,8 +66,13 @@ fn rest(m: AckHead, reason_string: &[u8], user: &[u8], user_lengths: &[usize]) -
 }
 
 // How many bytes the frame is: refused with 20, then 17 for R.
-pub fn size(m: AckHead, reason_string: &[u8], user: &[u8], user_lengths: &[usize]) -> Sized
-    ensures { told_sized result ≡ size_of (ack (told_ack_kind m.kind) (handed m reason_string.now user.now user_lengths.now)) }
+pub fn size(
+    m: AckHead,
+    reason_string: &[u8],
+    user: &[u8],
+    user_lengths: &[usize],
+) -> Result<usize, Error>
+    ensures { told_size result ≡ size_of (ack (told_ack_kind m.kind) (handed m reason_string.now user.now user_lengths.now)) }
 {
     write_order::size(
         belongs(m, reason_string, user, user_lengths),
@@ -78,13 +81,13 @@ pub fn size(m: AckHead, reason_string: &[u8], user: &[u8], user_lengths: &[usize
 }
 
 // 15: a reason that its kind does not list.
-fn test_reason(kind: AckKind, reason: u8) -> Tested
+fn test_reason(kind: AckKind, reason: u8) -> Result<(), Error>
     ensures { told_tested result ≡ judge (field_tests (code (reasons_of (told_ack_kind kind)) reason)) }
 {
     if is_ack_reason(kind, reason) {
-        return Tested::Fine;
+        return Ok(());
     }
-    Tested::Refused(Error::InvalidReason(reason))
+    Err(Error::InvalidReason(reason))
 }
 
 // The first byte of a kind.
@@ -95,24 +98,26 @@ fn first_byte(kind: AckKind) -> u8
 }
 
 // 20, then the fields.
-fn before_size(m: AckHead, reason_string: &[u8], user: &[u8], user_lengths: &[usize]) -> Tested
+fn before_size(
+    m: AckHead,
+    reason_string: &[u8],
+    user: &[u8],
+    user_lengths: &[usize],
+) -> Result<(), Error>
     ensures { told_tested result ≡ before_size (ack (told_ack_kind m.kind) (handed m reason_string.now user.now user_lengths.now)) }
 {
     if !belongs(m, reason_string, user, user_lengths) {
-        return Tested::Refused(Error::ListMismatch);
+        return Err(Error::ListMismatch);
     }
-    let kind = m.kind;
-    write_tests::then(
-        test_reason(kind, m.reason),
-        write_ack_properties::test_rows(m.reason_string, reason_string, user, user_lengths),
-    )
+    test_reason(m.kind, m.reason)?;
+    write_ack_properties::test_rows(m.reason_string, reason_string, user, user_lengths)
 }
 
 // The reason, as it stands.
 fn put_reason(out: &mut [u8], at: usize, reason: u8)
     ensures { out.new ≡ sets out.old at (reason ∷ []) }
 {
-    fixed::put_u8(&mut *out, at, reason);
+    reason.put(&mut *out, at);
 }
 
 // The reason, L and the properties, where they can be written.
@@ -147,7 +152,7 @@ fn put(out: &mut [u8], m: AckHead, reason_string: &[u8], user: &[u8], user_lengt
     let byte1 = first_byte(kind);
     let n = write_properties::put_header(&mut *out, byte1, len);
     let first = run::after(out.len(), 0, n);
-    fixed::put_u16(&mut *out, first, m.pkid);
+    m.pkid.put(&mut *out, first);
     if !is_plain(m) {
         let second = run::after(out.len(), first, 2);
         put_block(&mut *out, second, m, reason_string, user, user_lengths);
@@ -160,18 +165,14 @@ pub fn write(
     reason_string: &[u8],
     user: &[u8],
     user_lengths: &[usize],
-    limit: Limit,
+    limit: Option<usize>,
     out: &mut [u8],
-) -> Written
-    ensures { WrittenOf (limit_of limit) (ack (told_ack_kind m.kind) (handed m reason_string.now user.now user_lengths.now)) out.old out.new (told_written result) }
+) -> Result<usize, Error>
+    ensures { WrittenOf (limit_of limit) (ack (told_ack_kind m.kind) (handed m reason_string.now user.now user_lengths.now)) out.old out.new (told_size result) }
 {
     let fields = before_size(m, reason_string, user, user_lengths);
     let len = rest(m, reason_string, user, user_lengths);
-    match write_order::settle(fields, len, limit, Tested::Fine, out.len()) {
-        Written::Refused(e) => Written::Refused(e),
-        Written::Size(n) => {
-            put(&mut *out, m, reason_string, user, user_lengths);
-            Written::Size(n)
-        }
-    }
+    let n = write_order::settle(fields, len, limit, Ok(()), out.len())?;
+    put(&mut *out, m, reason_string, user, user_lengths);
+    Ok(n)
 }

@@ -1,5 +1,6 @@
 -- Inputs admit one answer only: each answer comes back from what it tells, and two parts that are said alike are the same address and bytes.
 -- Assumes nothing.
+use Rattle.std.specs.Prelude.{Result, Ok, Err}
 use mathlib.Core.Path.{◌≡◌, refl, sym, ap, ◌∙◌}
 use mathlib.Core.Option.{Option, none, some}
 use mathlib.Core.List.{List, [], ◌∷◌}
@@ -12,9 +13,8 @@ use Rattle.records.specs.AsNumbers.{back_span}
 use Rattle.records.proofs.Laws.{injective_by}
 use Rattle.wire.proofs.Laws.{part_at_same}
 use Rattle.alias.specs.Alias.{Lies, in_packet, in_table}
-use Rattle.alias.specs.AliasAnswer.{told_alias, told_judged, told_placed, PartIn}
+use Rattle.alias.specs.AliasAnswer.{told_alias, alias_by, told_judged, told_lies, told_placed, PartIn}
 use Rattle.alias.specs.declared.AliasError.{AliasError}
-use Rattle.alias.specs.declared.Judged.{Judged}
 use Rattle.alias.specs.declared.Placed.{Placed}
 
 -- the refusal of each number
@@ -45,31 +45,34 @@ back_alias_lem AliasError.AliasNoRoom = refl
 pub alias_same : {e d : AliasError} → told_alias e ≡ told_alias d → e ≡ d
 alias_same = injective_by told_alias back_alias back_alias_lem
 
-abbrev back_judged : Fit (Unit {0}) → Judged
-back_judged (got u) = Judged.Permitted
-back_judged (bad k) = Judged.Refused (back_alias k)
+-- what an answer tells leads back to it, if what its value tells does
+module _ {T B : Type 0} (f : T → B) (back : B → T) (from : (x : T) → back (f x) ≡ x) where
+  abbrev back_by : Fit B → Result T AliasError
+  back_by (got y) = Ok (back y)
+  back_by (bad k) = Err (back_alias k)
 
-back_judged_lem : (r : Judged) → back_judged (told_judged r) ≡ r
-back_judged_lem Judged.Permitted = refl
-back_judged_lem (Judged.Refused e) = ap Judged.Refused (back_alias_lem e)
+  back_by_lem : (r : Result T AliasError) → back_by (alias_by f r) ≡ r
+  back_by_lem (Ok x) = ap Ok (from x)
+  back_by_lem (Err e) = ap Err (back_alias_lem e)
+
+  answer_same : (d : Fit B) (r q : Result T AliasError) → alias_by f r ≡ d → alias_by f q ≡ d → r ≡ q
+  answer_same d r q e g = injective_by (alias_by f) back_by back_by_lem (e ∙ sym g)
 
 -- demand 1, of `judge`, `learn_topic` and `learn`
-pub judged_same : (d : Fit (Unit {0})) (r q : Judged) → told_judged r ≡ d → told_judged q ≡ d → r ≡ q
-judged_same d r q e f = injective_by told_judged back_judged back_judged_lem (e ∙ sym f)
+pub judged_same : (d : Fit (Unit {0})) (r q : Result (Unit {0}) AliasError) → told_judged r ≡ d → told_judged q ≡ d → r ≡ q
+judged_same = answer_same (λ u. u) (λ u. u) (λ u. refl)
 
-abbrev back_placed : Fit Lies → Placed
-back_placed (got (in_packet p)) = Placed.InPacket (back_span p)
-back_placed (got (in_table p)) = Placed.InTable (back_span p)
-back_placed (bad k) = Placed.Refused (back_alias k)
+abbrev back_lies : Lies → Placed
+back_lies (in_packet p) = Placed.InPacket (back_span p)
+back_lies (in_table p) = Placed.InTable (back_span p)
 
-back_placed_lem : (r : Placed) → back_placed (told_placed r) ≡ r
-back_placed_lem (Placed.InPacket p) = refl
-back_placed_lem (Placed.InTable p) = refl
-back_placed_lem (Placed.Refused e) = ap Placed.Refused (back_alias_lem e)
+back_lies_lem : (p : Placed) → back_lies (told_lies p) ≡ p
+back_lies_lem (Placed.InPacket p) = refl
+back_lies_lem (Placed.InTable p) = refl
 
 -- demand 1, of `place_in_force`
-pub placed_same : (d : Fit Lies) (r q : Placed) → told_placed r ≡ d → told_placed q ≡ d → r ≡ q
-placed_same d r q e f = injective_by told_placed back_placed back_placed_lem (e ∙ sym f)
+pub placed_same : (d : Fit Lies) (r q : Result Placed AliasError) → told_placed r ≡ d → told_placed q ≡ d → r ≡ q
+placed_same = answer_same told_lies back_lies back_lies_lem
 
 -- demand 1, of `topic_in_force`
 pub part_in_same : (s t r q : Bor (List ℕ)) (w : Fit Lies) → PartIn s t w r → PartIn s t w q → (r.ref_ptr ≡ q.ref_ptr) × (r.now ≡ q.now)

@@ -1,9 +1,14 @@
 -- The table's tests, the order of the refusals, what is set, and where the topic in force lies. Assumes nothing.
-use mathlib.Core.Path.{◌≡◌, refl, sym}
+use Rattle.std.specs.Prelude as std
+use Rattle.std.specs.Prelude.{Some, None}
+use Rattle.std.specs.Prelude.{Result, Err, IsErrAnd}
+use Rattle.std.proofs.lemmas.Result.{err_from_is_err_and}
+use mathlib.Core.Path.{◌≡◌, refl, sym, ap, ◌∙◌}
 use mathlib.Core.Bool.{Bool, true, false, not, ◌&&◌, ◌||◌, false≢true, or-true}
 use mathlib.Core.Option.{Option, none, some}
 use mathlib.Core.List.{List, [], ◌∷◌}
-use Prim.Native.Nat.{ℕ, zero, suc, ◌-◌, ◌*◌, ◌≤◌, ◌<◌}
+use Prim.Native.Nat.{ℕ, zero, suc, ◌+◌, ◌-◌, ◌*◌, ◌≤◌, ◌<◌}
+use native.Mathlib.Numerals.{add-one}
 use native.Mathlib.Omega.{arith}
 use lib.Dec.{leb, eqb}
 use lib.ListN.{length, get_or}
@@ -12,10 +17,10 @@ use Rattle.reading.specs.Refusal.{Refusal}
 use Rattle.reading.specs.Reader.{Fit, got, bad, ◌>>◌, guard}
 use Rattle.reading.specs.Place.{Span, held_of}
 use Rattle.reading.proofs.Reading.{bad_got}
-use Rattle.records.specs.AsNumbers.{number_u16, told_u16}
-use Rattle.records.specs.declared.span.MaybeU16.{MaybeU16}
-use Rattle.alias.specs.AliasAnswer.{number_if, Learnt}
-use Rattle.alias.specs.declared.Judged.{Judged}
+use Rattle.records.specs.AsNumbers.{told_number_if}
+use Rattle.records.specs.AsNumbers.{number_if as given_if}
+use Rattle.alias.specs.AliasAnswer.{number_if, told_alias, alias_by, Learnt}
+use Rattle.alias.specs.declared.AliasError.{AliasError}
 use Rattle.alias.specs.Table.{stored_len, lengths_good, table_good, set_alias}
 use Rattle.alias.specs.Alias.{alias_table_bad, alias_invalid, topic_missing, alias_unknown, alias_no_room, is_alias, of_alias, empty, permit, set_by, table_after, in_packet, stored_at, in_force}
 
@@ -53,16 +58,19 @@ module _ (t : List ℕ) where
       go true e p ih = rw (eqb-true a (suc n) e) (leb-true (stored_len t (suc n)) 128 p)
       go false e p ih = ih (omega (arith, eqb-false a (suc n) e))
 
-  -- the loop from 16 down
-  pub lengths_next : (n : ℕ) → 0 < n → lengths_good n t ≡ (leb (get_or t ((n - 1) * 129) 0) 128 && lengths_good (n - 1) t)
+  -- the loop over them
+  pub lengths_next : (n : ℕ) → lengths_good n t ≡ true → get_or t (n * 129) 0 ≤ 128 → lengths_good (n + 1) t ≡ true
   unfolding lengths_good
-  lengths_next zero h = absurd (omega arith)
-  lengths_next (suc n) h = let e : suc n - 1 ≡ n = omega arith in rw e
+  lengths_next n g h = let e : suc n - 1 ≡ n = omega arith in rw (add-one n, e, le-leb (get_or t (n * 129) 0) 128 h) g
 
-  pub lengths_none : (n : ℕ) → n ≤ 0 → lengths_good n t ≡ true
-  unfolding lengths_good
-  lengths_none zero h = refl
-  lengths_none (suc n) h = absurd (omega arith)
+  pub lengths_bad : (n m : ℕ) → n < m → 128 < get_or t (n * 129) 0 → false ≡ lengths_good m t
+  lengths_bad n m l h = go (lengths_good m t) refl
+    where
+      go : (b : Bool) → lengths_good m t ≡ b → false ≡ b
+      go true g =
+          let e : suc n - 1 ≡ n = omega arith in
+          absurd (omega (arith, h, rw e at (length_good m (suc n) g (omega arith) (omega arith))))
+      go false g = refl
 
 -- ---- the order of the refusals
 
@@ -117,9 +125,13 @@ module _ (t topic : List ℕ) where
         unfolding permit
         permit_new e l = rw (g, valid, not_empty topic e, le-leb (length topic) 128 l)
 
-pub number_told : (m : MaybeU16) → number_u16 m ≡ number_if (told_u16 m)
-number_told MaybeU16.Absent = refl
-number_told (MaybeU16.Present n) = refl
+-- the refusal e leaves by a `?`, as the answer r, which tells what e tells
+pub handed_on : {T B : Type 0} (f : T → B) (r : Result T AliasError) (e : AliasError) {x : Fit B} → IsErrAnd r (λ y. y ≡ e) → bad (told_alias e) ≡ x → alias_by f r ≡ x
+handed_on f r e i h = let p = err_from_is_err_and r i in ap (alias_by f) (p.1 ∙ ap Err p.2) ∙ h
+
+pub number_told : (m : std.Option ℕ) → given_if m ≡ number_if (told_number_if m)
+number_told None = refl
+number_told (Some n) = refl
 
 -- ---- what a message that is not refused has
 
@@ -181,7 +193,7 @@ module _ (t topic : List ℕ) where
     after_got e = rw (sym e)
 
 -- what is learnt of a topic k and an alias n, as they were taken, is learnt of the message's
-pub learnt_as : {t k u : List ℕ} {n : Option ℕ} {r : Judged} (topic : List ℕ) (a : Option ℕ) → k ≡ topic → n ≡ a → Learnt t k n u r → Learnt t topic a u r
+pub learnt_as : {t k u : List ℕ} {n : Option ℕ} {r : Result (Unit {0}) AliasError} (topic : List ℕ) (a : Option ℕ) → k ≡ topic → n ≡ a → Learnt t k n u r → Learnt t topic a u r
 learnt_as topic a e f l = rw (sym e, sym f) l
 
 -- ---- where the topic in force lies; k is the packet's own topic as it was taken

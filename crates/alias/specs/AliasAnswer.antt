@@ -1,5 +1,5 @@
 -- What a message hands over, what the code's answers tell, and which part is handed back. Assumes nothing.
-use Rattle.std.specs.Prelude.{◌≡◌, List, ℕ}
+use Rattle.std.specs.Prelude.{◌≡◌, List, ℕ, Result, Ok, Err}
 use Rattle.std.proofs.Math.Option.{Option, none, some}
 use Rattle.std.specs.Borrow.{Bor}
 use Rattle.grammar.specs.Record.{Val, num, str, duo}
@@ -14,7 +14,6 @@ use Rattle.wire.specs.Part.{PartAt}
 use Rattle.alias.specs.Alias.{alias_table_bad, alias_invalid, topic_missing, alias_unknown, alias_no_room, permit, table_after, Lies, in_packet, in_table}
 use Rattle.alias.specs.declared.AliasError.{AliasError}
 use Rattle.alias.specs.declared.Placed.{Placed}
-use Rattle.alias.specs.declared.Judged.{Judged}
 
 -- a value that is a number
 abbrev pub number_if : {S : Type 0} → Option (Val S) → Option ℕ
@@ -39,19 +38,26 @@ told_alias AliasError.TopicMissing = topic_missing
 told_alias AliasError.AliasUnknown = alias_unknown
 told_alias AliasError.AliasNoRoom = alias_no_room
 
+-- what an answer tells: what f tells of its value, or P6's refusal
+abbrev pub alias_by : {T B : Type 0} → (T → B) → Result T AliasError → Fit B
+alias_by f (Ok x) = got (f x)
+alias_by f (Err e) = bad (told_alias e)
+
 -- the answer on a message
-abbrev pub told_judged : Judged → Fit (Unit {0})
-told_judged Judged.Permitted = got tt
-told_judged (Judged.Refused e) = bad (told_alias e)
+abbrev pub told_judged : Result (Unit {0}) AliasError → Fit (Unit {0})
+told_judged = alias_by (λ u. u)
+
+-- where a topic lies
+abbrev pub told_lies : Placed → Lies
+told_lies (Placed.InPacket p) = in_packet (told_span p)
+told_lies (Placed.InTable p) = in_table (told_span p)
 
 -- where the topic in force lies
-abbrev pub told_placed : Placed → Fit Lies
-told_placed (Placed.InPacket p) = got (in_packet (told_span p))
-told_placed (Placed.InTable p) = got (in_table (told_span p))
-told_placed (Placed.Refused e) = bad (told_alias e)
+abbrev pub told_placed : Result Placed AliasError → Fit Lies
+told_placed = alias_by told_lies
 
 -- P6: the answer, and the table t as it is afterwards, u
-pub record Learnt (t topic : List ℕ) (a : Option ℕ) (u : List ℕ) (r : Judged) : Type 0 where
+pub record Learnt (t topic : List ℕ) (a : Option ℕ) (u : List ℕ) (r : Result (Unit {0}) AliasError) : Type 0 where
   pub told : told_judged r ≡ permit t topic a
   pub after : u ≡ table_after t topic a
 

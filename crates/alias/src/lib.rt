@@ -5,14 +5,14 @@
 ghost use Rattle.std.specs.Prelude.{◌≡◌, true, ◌≤◌, length};
 ghost use Rattle.std.proofs.Math.Option.{none, some};
 ghost use Rattle.reading.specs.Reader.{got};
-ghost use Rattle.records.specs.AsNumbers.{told_span, told_u16, number_u16, row_of};
+ghost use Rattle.records.specs.AsNumbers.{told_span, told_number_if, number_if, row_of};
 ghost use Rattle.publish_parts.specs.Parts.{topic_in};
 ghost use Rattle.alias.specs.Table.{lengths_good, table_good, set_alias};
 ghost use Rattle.alias.specs.Alias.{permit, is_alias, of_alias, set_by, stored_at, in_force};
-ghost use Rattle.alias.specs.AliasAnswer.{alias_told, alias_in, told_alias, told_judged, told_placed, Learnt, PartIn};
+ghost use Rattle.alias.specs.AliasAnswer.{alias_told, alias_in, told_alias, told_judged, told_lies, told_placed, Learnt, PartIn};
 
-use records::publish_record::{MaybePublishProperties, Publish};
-use records::span::{MaybeU16, Span};
+use records::publish_record::Publish;
+use records::span::Span;
 use wire::string;
 
 // The refusals of P6, in its order: 24 to 28.
@@ -31,6 +31,7 @@ pub enum AliasError {
 }
 
 // The number of a refusal, 24 to 28; none has values.
+// No discriminants: two alike would not compile, and the edit missing_as_unknown plants them.
 pub fn number(e: AliasError) -> u8
     ensures { result ≡ row_of (told_alias e) }
 {
@@ -45,20 +46,12 @@ pub fn number(e: AliasError) -> u8
 
 // ---- which messages are refused
 
-#[derive(Clone, Copy)]
-pub enum Judged {
-    Permitted,
-    Refused(AliasError),
-}
-
 // Is no stored length above 128?
 fn lengths_good(table: &[u8]) -> bool
     requires { length table.now ≡ 2064 }
     ensures { result ≡ lengths_good 16 table.now }
 {
-    let mut n: usize = 16;
-    while 0 < n {
-        n = n - 1;
+    for n in 0..16 {
         if 128 < table[n * 129] {
             return false;
         }
@@ -67,68 +60,55 @@ fn lengths_good(table: &[u8]) -> bool
 }
 
 // A message without an alias.
-fn judge_plain(table: &[u8], topic: &[u8]) -> Judged
+fn judge_plain(table: &[u8], topic: &[u8]) -> Result<(), AliasError>
     requires { table_good table.now ≡ true }
     ensures { told_judged result ≡ permit table.now topic.now none }
 {
-    if topic.len() == 0 {
-        return Judged::Refused(AliasError::TopicMissing);
+    if topic.is_empty() {
+        return Err(AliasError::TopicMissing);
     }
-    Judged::Permitted
+    Ok(())
 }
 
 // A message with an alias.
-fn judge_alias(table: &[u8], topic: &[u8], alias: u16) -> Judged
+fn judge_alias(table: &[u8], topic: &[u8], alias: u16) -> Result<(), AliasError>
     requires { table_good table.now ≡ true }
     ensures { told_judged result ≡ permit table.now topic.now (some alias) }
 {
-    if alias == 0 {
-        return Judged::Refused(AliasError::AliasInvalid);
+    if alias == 0 || 16 < alias {
+        return Err(AliasError::AliasInvalid);
     }
-    if 16 < alias {
-        return Judged::Refused(AliasError::AliasInvalid);
-    }
-    if topic.len() == 0 {
+    if topic.is_empty() {
         let at = (alias as usize - 1) * 129;
         if table[at] == 0 {
-            return Judged::Refused(AliasError::AliasUnknown);
+            return Err(AliasError::AliasUnknown);
         }
-        return Judged::Permitted;
+        return Ok(());
     }
     if 128 < topic.len() {
-        return Judged::Refused(AliasError::AliasNoRoom);
+        return Err(AliasError::AliasNoRoom);
     }
-    Judged::Permitted
+    Ok(())
 }
 
 // Is a message with this topic, and perhaps an alias, refused on this table? 24 to 28, in P6's order.
-pub fn judge(table: &[u8], topic: &[u8], alias: MaybeU16) -> Judged
-    ensures { told_judged result ≡ permit table.now topic.now (number_u16 alias) }
+pub fn judge(table: &[u8], topic: &[u8], alias: Option<u16>) -> Result<(), AliasError>
+    ensures { told_judged result ≡ permit table.now topic.now (number_if alias) }
 {
-    if table.len() != 2064 {
-        return Judged::Refused(AliasError::AliasTableBad);
+    if table.len() != 2064 || !lengths_good(table) {
+        return Err(AliasError::AliasTableBad);
     }
-    if lengths_good(table) {
-        match alias {
-            MaybeU16::Absent => return judge_plain(table, topic),
-            MaybeU16::Present(a) => return judge_alias(table, topic, a),
-        }
+    match alias {
+        None => judge_plain(table, topic),
+        Some(a) => judge_alias(table, topic, a),
     }
-    Judged::Refused(AliasError::AliasTableBad)
 }
 
 // The alias of a message.
-fn alias_of(m: Publish) -> MaybeU16
-    ensures { told_u16 result ≡ alias_told m }
+fn alias_of(m: Publish) -> Option<u16>
+    ensures { told_number_if result ≡ alias_told m }
 {
-    let properties = m.properties;
-    match properties {
-        MaybePublishProperties::Absent => MaybeU16::Absent,
-        MaybePublishProperties::Present(p) => {
-            let alias = p.topic_alias;
-            alias
-        }
-    }
+    m.properties?.topic_alias
 }
 
 // ---- setting
@@ -141,44 +121,35 @@ fn set(table: &mut [u8], alias: u16, topic: &[u8])
     let at = (alias as usize - 1) * 129;
     let len = topic.len() as u8;
     table[at] = len;
-    write_bytes::put_bytes(&mut *table, at + 1, topic);
+    write_bytes::put_bytes(table, at + 1, topic);
 }
 
 // Sets the alias of a message that has a topic and an alias.
-fn set_by(table: &mut [u8], topic: &[u8], alias: MaybeU16)
-    requires { permit table.old topic.now (number_u16 alias) ≡ got tt }
-    ensures { table.new ≡ set_by table.old topic.now (number_u16 alias) }
+fn set_by(table: &mut [u8], topic: &[u8], alias: Option<u16>)
+    requires { permit table.old topic.now (number_if alias) ≡ got tt }
+    ensures { table.new ≡ set_by table.old topic.now (number_if alias) }
 {
-    match alias {
-        MaybeU16::Absent => {}
-        MaybeU16::Present(a) => {
-            if 0 < topic.len() {
-                set(&mut *table, a, topic);
-            }
+    if let Some(a) = alias {
+        if 0 < topic.len() {
+            set(table, a, topic);
         }
     }
 }
 
 // A message with this topic, and perhaps an alias: the answer, and the alias set. A refusal leaves the table alone.
-pub fn learn_topic(table: &mut [u8], topic: &[u8], alias: MaybeU16) -> Judged
-    ensures { Learnt table.old topic.now (number_u16 alias) table.new result }
+pub fn learn_topic(table: &mut [u8], topic: &[u8], alias: Option<u16>) -> Result<(), AliasError>
+    ensures { Learnt table.old topic.now (number_if alias) table.new result }
 {
-    match judge(&table[..], topic, alias) {
-        Judged::Refused(e) => Judged::Refused(e),
-        Judged::Permitted => {
-            set_by(&mut *table, topic, alias);
-            Judged::Permitted
-        }
-    }
+    judge(table, topic, alias)?;
+    set_by(table, topic, alias);
+    Ok(())
 }
 
 // The same of a Publish that was read from `stream`.
-pub fn learn(table: &mut [u8], stream: &[u8], m: Publish) -> Judged
+pub fn learn(table: &mut [u8], stream: &[u8], m: Publish) -> Result<(), AliasError>
     ensures { Learnt table.old (topic_in stream.now m) (alias_in m) table.new result }
 {
-    let alias = alias_of(m);
-    let topic = publish_parts::topic(stream, m);
-    learn_topic(&mut *table, topic, alias)
+    learn_topic(table, publish_parts::topic(stream, m), alias_of(m))
 }
 
 // ---- the topic in force
@@ -188,17 +159,16 @@ pub fn learn(table: &mut [u8], stream: &[u8], m: Publish) -> Judged
 pub enum Placed {
     InPacket(Span),
     InTable(Span),
-    Refused(AliasError),
 }
 
 // Where the topic lies that is stored for an alias; without one, where the packet's own does.
-fn stored_place(table: &[u8], own: Span, alias: MaybeU16) -> Placed
-    requires { (table_good table.now ≡ true) × (of_alias true is_alias (number_u16 alias) ≡ true) }
-    ensures { told_placed result ≡ got (stored_at table.now (told_span own) (number_u16 alias)) }
+fn stored_place(table: &[u8], own: Span, alias: Option<u16>) -> Placed
+    requires { (table_good table.now ≡ true) × (of_alias true is_alias (number_if alias) ≡ true) }
+    ensures { told_lies result ≡ stored_at table.now (told_span own) (number_if alias) }
 {
     match alias {
-        MaybeU16::Absent => Placed::InPacket(own),
-        MaybeU16::Present(a) => {
+        None => Placed::InPacket(own),
+        Some(a) => {
             let at = (a as usize - 1) * 129;
             let len = table[at] as usize;
             Placed::InTable(Span { start: at + 1, len })
@@ -208,28 +178,27 @@ fn stored_place(table: &[u8], own: Span, alias: MaybeU16) -> Placed
 
 // Where the topic in force lies of a message whose own topic stands at `own` of `stream`. It may be asked before the message is learnt or
 // after.
-pub fn find_topic(stream: &[u8], table: &[u8], own: Span, alias: MaybeU16) -> Placed
-    ensures { told_placed result ≡ in_force stream.now table.now (told_span own) (number_u16 alias) }
+pub fn find_topic(
+    stream: &[u8],
+    table: &[u8],
+    own: Span,
+    alias: Option<u16>,
+) -> Result<Placed, AliasError>
+    ensures { told_placed result ≡ in_force stream.now table.now (told_span own) (number_if alias) }
 {
     let topic = string::part(stream, own);
-    match judge(table, topic, alias) {
-        Judged::Refused(e) => Placed::Refused(e),
-        Judged::Permitted => {
-            if 0 < topic.len() {
-                return Placed::InPacket(own);
-            }
-            stored_place(table, own, alias)
-        }
+    judge(table, topic, alias)?;
+    if 0 < topic.len() {
+        return Ok(Placed::InPacket(own));
     }
+    Ok(stored_place(table, own, alias))
 }
 
 // The same of a Publish that was read from `stream`.
-pub fn place_in_force(stream: &[u8], table: &[u8], m: Publish) -> Placed
+pub fn place_in_force(stream: &[u8], table: &[u8], m: Publish) -> Result<Placed, AliasError>
     ensures { told_placed result ≡ in_force stream.now table.now (told_span m.topic) (alias_in m) }
 {
-    let own = m.topic;
-    let alias = alias_of(m);
-    find_topic(stream, table, own, alias)
+    find_topic(stream, table, m.topic, alias_of(m))
 }
 
 // The topic in force of a Publish: a part of the stream that it was read from, or of the table; the empty part of the stream where it is
@@ -238,8 +207,8 @@ pub fn topic_in_force<'a>(stream: &'a [u8], table: &'a [u8], m: Publish) -> &'a 
     ensures { PartIn stream.entry table.entry (in_force stream.now table.now (told_span m.topic) (alias_in m)) result }
 {
     match place_in_force(stream, table, m) {
-        Placed::InPacket(p) => string::part(stream, p),
-        Placed::InTable(p) => string::part(table, p),
-        Placed::Refused(e) => string::part(stream, Span { start: 0, len: 0 }),
+        Ok(Placed::InPacket(p)) => string::part(stream, p),
+        Ok(Placed::InTable(p)) => string::part(table, p),
+        Err(_) => string::part(stream, Span { start: 0, len: 0 }),
     }
 }

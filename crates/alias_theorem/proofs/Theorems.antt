@@ -2,6 +2,7 @@
 -- **reached-agrees**: whatever was sent before, the table is good and says the last topic of each alias. **in-force-is**: the part in force has
 -- that topic, or the packet's own. **in-force-again**: it may be asked before or after learning. **in-force-within**: it lies within its slice,
 -- and is not empty. Assumes nothing.
+use Rattle.std.specs.Prelude.{Result, Ok, Err}
 use mathlib.Core.Path.{◌≡◌, refl, sym, ap, ◌∙◌}
 use mathlib.Core.Bool.{Bool, true, false, cond, false≢true}
 use mathlib.Core.Option.{Option, none, some}
@@ -22,7 +23,7 @@ use Rattle.alias.specs.Table.{slot, stored_len, stored_topic, lengths_good, tabl
 use Rattle.alias.specs.Alias.{empty, permit, table_after, Lies, in_packet, in_table, stored_at, in_force, bytes_at}
 use Rattle.alias_theorem.specs.Known.{Known, known_after, known_by, forced, force_bytes, Agrees, Reached, fresh, learnt}
 use Rattle.alias.specs.AliasAnswer.{told_alias, Learnt, PartIn}
-use Rattle.alias.specs.declared.Judged.{Judged}
+use Rattle.alias.specs.declared.AliasError.{AliasError}
 use Rattle.alias.proofs.Laws.{good_length, good_lengths, good_is, length_good, in_range_lem, has_room, permits, after_bad, after_got, permit_new, force_own}
 
 -- ---- where each alias stands
@@ -180,10 +181,10 @@ unfolding lengths_good
 fresh_good = refl
 
 -- what is left behind any answer
-answered : (t u : List ℕ) (f : Known) (topic : List ℕ) (a : Option ℕ) (r : Judged) → Learnt t topic a u r → (table_good t ≡ true) × Agrees t f
+answered : (t u : List ℕ) (f : Known) (topic : List ℕ) (a : Option ℕ) (r : Result (Unit {0}) AliasError) → Learnt t topic a u r → (table_good t ≡ true) × Agrees t f
     → (table_good u ≡ true) × Agrees u (known_by r f topic a)
-answered t u f topic a Judged.Permitted l i = rw l.after (sent_agrees t f topic a (sym l.told) i.1)
-answered t u f topic a (Judged.Refused e) l i = rw (l.after, sym (after_bad t topic a (told_alias e) l.told)) i
+answered t u f topic a (Ok v) l i = rw l.after (sent_agrees t f topic a (sym l.told) i.1)
+answered t u f topic a (Err e) l i = rw (l.after, sym (after_bad t topic a (told_alias e) l.told)) i
 
 -- P6: whatever was sent before, from a fresh table on
 pub reached_agrees : {t : List ℕ} {f : Known} → Reached t f → (table_good t ≡ true) × Agrees t f

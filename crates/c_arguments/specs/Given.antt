@@ -1,5 +1,6 @@
 -- What the numbers of C stand for. Assumes nothing.
-use Rattle.std.specs.Prelude.{Bool, not, cond, ℕ, eqb}
+use Rattle.std.specs.Prelude as std
+use Rattle.std.specs.Prelude.{Bool, not, cond, ℕ, eqb, Some, None}
 use Rattle.std.proofs.Math.Option.{Option, none, some}
 
 -- header: "A flag that is handed over is false if it is 0, else true"
@@ -13,3 +14,7 @@ limit_given l n = cond (eqb l 0) none (some n)
 -- header: "`.._on` says whether the value behind it is present", of a number
 abbrev pub maybe : ℕ → ℕ → Option ℕ
 maybe on n = cond (is_on on) (some n) none
+
+-- the same of a value of any type
+abbrev pub given : {T : Type 0} → ℕ → T → std.Option T
+given on x = cond (is_on on) (Some x) None

@@ -1,5 +1,5 @@
 -- What C asks by the number of a kind. Assumes nothing.
-use Rattle.std.specs.Prelude.{◌≡◌, List, ℕ, length}
+use Rattle.std.specs.Prelude.{◌≡◌, List, ℕ, length, Result}
 use Rattle.std.proofs.Math.Option.{Option, none, some}
 use Rattle.grammar.specs.Choice.{lookup}
 use Rattle.grammar.specs.Tables.{Form, Row, form_at, Layout, a_publish, an_ack, a_subscribe, a_reply, an_unsubscribe, a_ping, kinds, row_of_kind}
@@ -9,7 +9,8 @@ use Rattle.reading.specs.Read.{property_of}
 use Rattle.reading.specs.Place.{Span, as_places, no_item, user_at, reason_at}
 use Rattle.positions.specs.Position.{from_at}
 use Rattle.property_value.specs.OneProperty.{told_property, OfForm}
-use Rattle.property_value.specs.declared.GotProperty.{GotProperty}
+use Rattle.property_value.specs.declared.Value.{Value}
+use Rattle.records.specs.declared.error.Error.{Error}
 
 -- of the kind's row, if it has one
 abbrev pub user_in : Option Row → List ℕ → Span → ℕ → Fit (Val Span)
@@ -35,7 +36,7 @@ form_in none k = none
 form_in (some row) k = form_at row k
 
 -- the contract of `property_at`: as `PropertyRead`, in the row of the kind
-pub record PropertyGiven (kind : ℕ) (s : List ℕ) (at : ℕ) (r : GotProperty) : Type 0 where
+pub record PropertyGiven (kind : ℕ) (s : List ℕ) (at : ℕ) (r : Result (ℕ × Value × ℕ) Error) : Type 0 where
   pub says : told_property r ≡ property_at kind s at
   pub typed : OfForm (form_in (row_of_kind kind)) r
 

@@ -4,33 +4,23 @@ ghost use Rattle.records.specs.AsNumbers.{told_span};
 ghost use Rattle.records.specs.Answered.{told_user, told_reason_item};
 ghost use Rattle.c_arguments.specs.Kind.{user_of, reason_given};
 
-use kinds::{Kind, KindRow, kind_of, row_of};
-use records::answer::{ReasonItem, UserItem};
+use kinds::{Kind, kind_of, row_of};
 use records::span::Span;
 
 // The n-th user property of a kind's block; 21 for a kind without properties.
-pub fn user_item(stream: &[u8], kind: u8, p: Span, n: usize) -> UserItem
+pub fn user_item(stream: &[u8], kind: u8, p: Span, n: usize) -> Option<(Span, Span)>
     ensures { told_user result ≡ user_of kind stream.now (told_span p) n }
 {
-    match row_of(kind) {
-        KindRow::Of(row) => items::user_property(row, stream, p, n),
-        KindRow::NoBlock => UserItem::NoItem,
-    }
+    let row = row_of(kind)?;
+    items::user_property(row, stream, p, n)
 }
 
 // The n-th reason of a SubAck or UnsubAck; 21 for another kind.
-pub fn reason_item(stream: &[u8], kind: u8, p: Span, n: usize) -> ReasonItem
+pub fn reason_item(stream: &[u8], kind: u8, p: Span, n: usize) -> Option<u8>
     ensures { told_reason_item result ≡ reason_given kind stream.now (told_span p) n }
 {
     match kind_of(kind) {
         Kind::Reply(k) => entry_runs::reason(k, stream, p, n),
-        Kind::Publish => ReasonItem::NoItem,
-        Kind::Ack(_) => ReasonItem::NoItem,
-        Kind::Subscribe => ReasonItem::NoItem,
-        Kind::Unsubscribe => ReasonItem::NoItem,
-        Kind::PingReq => ReasonItem::NoItem,
-        Kind::PingResp => ReasonItem::NoItem,
-        Kind::Reserved(_) => ReasonItem::NoItem,
-        Kind::NotCarried(_) => ReasonItem::NoItem,
+        _ => None,
     }
 }

@@ -1,6 +1,6 @@
-// The size of what a head and the lists beside it hand over.
+// The size of what a head and the lists beside it hand over: the lists are those of the writer of the kind, in its order.
 ghost use Rattle.std.specs.Prelude.{◌≡◌};
-ghost use Rattle.records.specs.Answered.{told_written};
+ghost use Rattle.records.specs.Answered.{told_size};
 ghost use Rattle.c_heads.specs.By.{behind};
 ghost use Rattle.c_heads.specs.Head.{publish_handed, subscribe_handed};
 ghost use Rattle.writing.specs.Write.{sized_behind};
@@ -8,10 +8,7 @@ ghost use Rattle.writing.specs.Write.{sized_behind};
 use crate::first::mismatch_or;
 use c_heads::publish_by::PublishBy;
 use c_heads::subscribe_by::SubscribeBy;
-use c_layout::answer::as_written;
-use records::answer::Written;
 use records::error::Error;
-use write_tests::Tested;
 
 // The size of what the head and the lists hand over, after 20 and 11.
 pub fn size_publish(
@@ -24,16 +21,16 @@ pub fn size_publish(
     identifiers: &[u32],
     content: &[u8],
     payload: &[u8],
-) -> Written
-    ensures { told_written result ≡ sized_behind (behind (publish_handed by topic.now response.now correlation.now user.now user_lengths.now identifiers.now content.now payload.now)) }
+) -> Result<usize, Error>
+    ensures { told_size result ≡ sized_behind (behind (publish_handed by topic.now response.now correlation.now user.now user_lengths.now identifiers.now content.now payload.now)) }
 {
     let head = by.head;
     let quality = by.quality;
     if !by.zeros {
-        return Written::Refused(Error::ListMismatch);
+        return Err(Error::ListMismatch);
     }
     match quality {
-        Tested::Refused(e) => Written::Refused(mismatch_or(
+        Err(e) => Err(mismatch_or(
             e,
             head,
             response,
@@ -43,7 +40,7 @@ pub fn size_publish(
             identifiers,
             content,
         )),
-        Tested::Fine => as_written(publish_write::size(
+        Ok(()) => publish_write::size(
             head,
             topic,
             response,
@@ -53,7 +50,7 @@ pub fn size_publish(
             identifiers,
             content,
             payload,
-        )),
+        ),
     }
 }
 
@@ -65,12 +62,12 @@ pub fn size_subscribe(
     filters: &[u8],
     filter_lengths: &[usize],
     options: &[u8],
-) -> Written
-    ensures { told_written result ≡ sized_behind (behind (subscribe_handed by user.now user_lengths.now filters.now filter_lengths.now options.now)) }
+) -> Result<usize, Error>
+    ensures { told_size result ≡ sized_behind (behind (subscribe_handed by user.now user_lengths.now filters.now filter_lengths.now options.now)) }
 {
     let head = by.head;
     if !by.zeros {
-        return Written::Refused(Error::ListMismatch);
+        return Err(Error::ListMismatch);
     }
-    as_written(subscribe_write::size(head, user, user_lengths, filters, filter_lengths, options))
+    subscribe_write::size(head, user, user_lengths, filters, filter_lengths, options)
 }

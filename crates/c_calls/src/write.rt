@@ -1,6 +1,6 @@
 // What a head and the lists beside it hand over, written; what is refused touches nothing.
 ghost use Rattle.records.specs.AsNumbers.{limit_of};
-ghost use Rattle.records.specs.Answered.{told_written};
+ghost use Rattle.records.specs.Answered.{told_size};
 ghost use Rattle.c_heads.specs.By.{behind};
 ghost use Rattle.c_heads.specs.Head.{publish_handed, subscribe_handed};
 ghost use Rattle.writing.specs.Write.{WrittenBehind};
@@ -8,9 +8,7 @@ ghost use Rattle.writing.specs.Write.{WrittenBehind};
 use crate::first::mismatch_or;
 use c_heads::publish_by::PublishBy;
 use c_heads::subscribe_by::SubscribeBy;
-use records::answer::{Limit, Written};
 use records::error::Error;
-use write_tests::Tested;
 
 // The same written: the answer and every byte of the output.
 pub fn write_publish(
@@ -23,18 +21,18 @@ pub fn write_publish(
     identifiers: &[u32],
     content: &[u8],
     payload: &[u8],
-    limit: Limit,
+    limit: Option<usize>,
     out: &mut [u8],
-) -> Written
-    ensures { WrittenBehind (limit_of limit) (behind (publish_handed by topic.now response.now correlation.now user.now user_lengths.now identifiers.now content.now payload.now)) out.old out.new (told_written result) }
+) -> Result<usize, Error>
+    ensures { WrittenBehind (limit_of limit) (behind (publish_handed by topic.now response.now correlation.now user.now user_lengths.now identifiers.now content.now payload.now)) out.old out.new (told_size result) }
 {
     let head = by.head;
     let quality = by.quality;
     if !by.zeros {
-        return Written::Refused(Error::ListMismatch);
+        return Err(Error::ListMismatch);
     }
     match quality {
-        Tested::Refused(e) => Written::Refused(mismatch_or(
+        Err(e) => Err(mismatch_or(
             e,
             head,
             response,
@@ -44,7 +42,7 @@ pub fn write_publish(
             identifiers,
             content,
         )),
-        Tested::Fine => publish_write::write(
+        Ok(()) => publish_write::write(
             head,
             topic,
             response,
@@ -68,14 +66,14 @@ pub fn write_subscribe(
     filters: &[u8],
     filter_lengths: &[usize],
     options: &[u8],
-    limit: Limit,
+    limit: Option<usize>,
     out: &mut [u8],
-) -> Written
-    ensures { WrittenBehind (limit_of limit) (behind (subscribe_handed by user.now user_lengths.now filters.now filter_lengths.now options.now)) out.old out.new (told_written result) }
+) -> Result<usize, Error>
+    ensures { WrittenBehind (limit_of limit) (behind (subscribe_handed by user.now user_lengths.now filters.now filter_lengths.now options.now)) out.old out.new (told_size result) }
 {
     let head = by.head;
     if !by.zeros {
-        return Written::Refused(Error::ListMismatch);
+        return Err(Error::ListMismatch);
     }
     subscribe_write::write(
         head,

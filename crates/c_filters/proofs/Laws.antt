@@ -22,33 +22,33 @@ put_all s end (suc n) at k t =
     let m : k + 3 ≡ suc (suc (suc k)) = omega arith in
     put_all s end n e.1 (k + 3) (sets t k (entry_numbers e.0)) ∙ ap (λ (i : ℕ). sets (sets t k (entry_numbers e.0)) i (numbers_of (entries_from s end n e.1))) m
 
--- after i of n entries the walk stands at j and the table t at k; what is put from there on makes of t what is put in all makes of t₀
-pub record Put (s : List ℕ) (end n at : ℕ) (t₀ t : List ℕ) (i j k : ℕ) : Type 0 where
-  pub rest : put_from s end (n - i) j k t ≡ put_from s end n at 0 t₀
+-- after i of n entries, three numbers each, the walk stands at j; what is put from there on makes of t what is put in all makes of t₀
+pub record Put (s : List ℕ) (end n at : ℕ) (t₀ t : List ℕ) (i j : ℕ) : Type 0 where
+  pub rest : put_from s end (n - i) j (3 * i) t ≡ put_from s end n at 0 t₀
   pub same : length t ≡ length t₀
-  pub place : k ≡ 3 * i
 
 module _ {s : List ℕ} {end n at : ℕ} {t₀ : List ℕ} where
-  pub put_start : Put s end n at t₀ t₀ 0 at 0
-  put_start = let e : n - 0 ≡ n = omega arith in record { rest = rw e; same = refl; place = omega arith }
+  pub put_start : Put s end n at t₀ t₀ 0 at
+  put_start = let e : n - 0 ≡ n = omega arith in record { rest = rw e; same = refl }
 
-  module _ {t : List ℕ} {i j k : ℕ} (P : Put s end n at t₀ t i j k) where
-    pub put_next : {u : List ℕ} {e : FilterEntry} {m : ℕ} → i < n → (e, m) ≡ entry_at s j end → u ≡ sets t k (entry_numbers e) → length u ≡ length t → Put s end n at t₀ u (i + 1) m (k + 3)
+  module _ {t : List ℕ} {i j : ℕ} (P : Put s end n at t₀ t i j) where
+    pub put_next : {u : List ℕ} {e : FilterEntry} {m : ℕ} → i < n → (e, m) ≡ entry_at s j end → u ≡ sets t (3 * i) (entry_numbers e) → length u ≡ length t → Put s end n at t₀ u (i + 1) m
     put_next {u = u} {e = e} {m = m} h a b l =
         let d : n - i ≡ suc (n - (i + 1)) = omega (arith, h) in
         let x : (entry_at s j end).0 ≡ e = ap (λ (z : FilterEntry × ℕ). z.0) (sym a) in
         let y : (entry_at s j end).1 ≡ m = ap (λ (z : FilterEntry × ℕ). z.1) (sym a) in
+        let k = 3 * i in
+        let w : 3 * (i + 1) ≡ k + 3 = omega arith in
         let r : put_from s end (suc (n - (i + 1))) j k t ≡ put_from s end n at 0 t₀ = sym (ap (λ (c : ℕ). put_from s end c j k t) d) ∙ P.rest in
         record {
-          rest = rw b (sym (ap (λ (z : ℕ). put_from s end (n - (i + 1)) z (k + 3) (sets t k (entry_numbers e))) y) ∙ sym (ap (λ (z : FilterEntry). put_from s end (n - (i + 1)) (entry_at s j end).1 (k + 3) (sets t k (entry_numbers z))) x) ∙ r);
+          rest = rw (b, w) (sym (ap (λ (z : ℕ). put_from s end (n - (i + 1)) z (k + 3) (sets t k (entry_numbers e))) y) ∙ sym (ap (λ (z : FilterEntry). put_from s end (n - (i + 1)) (entry_at s j end).1 (k + 3) (sets t k (entry_numbers z))) x) ∙ r);
           same = l ∙ P.same;
-          place = omega (arith, P.place);
         }
 
     pub put_end : n ≤ i → t ≡ sets t₀ 0 (numbers_of (entries_from s end n at))
     put_end h =
         let z : n - i ≡ 0 = omega (arith, h) in
-        sym (ap (λ (c : ℕ). put_from s end c j k t) z) ∙ P.rest ∙ put_all s end n at 0 t₀
+        sym (ap (λ (c : ℕ). put_from s end c j (3 * i) t) z) ∙ P.rest ∙ put_all s end n at 0 t₀
 
 -- ---- a part of the table
 

@@ -12,7 +12,7 @@ ghost use Rattle.c_filters.specs.Numbers.{entry_numbers, numbers_of, places_in, 
 
 use c_layout::store::store;
 use c_layout::value::{first_value, second_value};
-use filter_table::{FilterEntry, FilterTable, entry_at, plan_of};
+use filter_table::{FilterEntry, FilterTableError, entry_at, plan_of};
 use refusal_numbers::{number, values};
 
 fn entry_numbers(e: FilterEntry) -> [u64; 3]
@@ -35,46 +35,42 @@ fn put_entries(s: &[u8], at: usize, end: usize, n: usize, table: &mut [u64])
     requires { 3 * n ≤ length table.old }
     ensures { table.new ≡ sets table.old 0 (numbers_of (entries_from s.now end n at)) }
 {
-    let mut i: usize = 0;
     let mut j = at;
-    let mut k: usize = 0;
-    while i < n {
+    for i in 0..n {
         let e = entry_at(s, j, end);
-        put_entry(&mut *table, k, e.entry);
+        put_entry(&mut *table, 3 * i, e.entry);
         j = e.next;
-        i = i + 1;
-        k = k + 3;
     }
 }
 
 // 0, or the refusal's number.
-fn table_number(found: FilterTable) -> u32
+fn table_number(found: Result<usize, FilterTableError>) -> u32
     ensures { result ≡ table_number (told_table found) }
 {
     match found {
-        FilterTable::Filled(_) => return 0,
-        FilterTable::FilterTableFull(_) => return 37,
-        FilterTable::NotSubscribe => return 38,
-        FilterTable::Refused(e) => return number(e) as u32,
+        Ok(_) => 0,
+        Err(FilterTableError::FilterTableFull(_)) => 37,
+        Err(FilterTableError::NotSubscribe) => 38,
+        Err(FilterTableError::Refused(e)) => number(e) as u32,
     }
 }
 
 // The bytes taken, the refusal's values, and how many entries were filled.
-fn table_numbers(found: FilterTable, taken: u64) -> [u64; 4]
+fn table_numbers(found: Result<usize, FilterTableError>, taken: u64) -> [u64; 4]
     ensures { result ≡ answer_numbers taken (told_table found) }
 {
     match found {
-        FilterTable::Filled(n) => return [taken, 0, 0, n as u64],
-        FilterTable::FilterTableFull(needed) => return [taken, needed as u64, 0, 0],
-        FilterTable::NotSubscribe => return [taken, 0, 0, 0],
-        FilterTable::Refused(e) => {
+        Ok(n) => [taken, 0, 0, n as u64],
+        Err(FilterTableError::FilterTableFull(needed)) => [taken, needed as u64, 0, 0],
+        Err(FilterTableError::NotSubscribe) => [taken, 0, 0, 0],
+        Err(FilterTableError::Refused(e)) => {
             let v = values(e);
-            return [taken, first_value(v), second_value(v), 0];
+            [taken, first_value(v), second_value(v), 0]
         }
     }
 }
 
-fn store_answer(found: FilterTable, taken: usize, answer: &mut [u64]) -> u32
+fn store_answer(found: Result<usize, FilterTableError>, taken: usize, answer: &mut [u64]) -> u32
     ensures number { result ≡ table_number (told_table found) }
     ensures stored { answer.new ≡ sets answer.old 0 (answer_numbers taken (told_table found)) }
 {

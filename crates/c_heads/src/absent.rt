@@ -8,8 +8,5 @@ use c_arguments::number::is_on;
 pub fn zero_if_off(on: u8, n: u32) -> bool
     ensures { result ≡ zero_if_off (on, n) }
 {
-    if is_on(on) {
-        return true;
-    }
-    n == 0
+    is_on(on) || n == 0
 }

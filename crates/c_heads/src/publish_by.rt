@@ -9,19 +9,19 @@ ghost use Rattle.c_heads.specs.By.{zero_if_off, qos_test, known_qos, tests_of, p
 ghost use Rattle.c_heads.specs.Head.{publish_handed};
 
 use crate::absent::zero_if_off;
-use c_arguments::number::{is_on, maybe_u8, maybe_u16, maybe_u32};
+use c_arguments::number::{given, is_on};
 use publish_plan::head::PublishHead;
+use records::error::Error;
 use records::qos::QoS;
 use tables::qos;
-use tables::qos::GotQos;
-use write_tests::Tested;
 
+// A record and no `Result`: the head is told beside a refusal too (publish_head, **publish_head_same** of promises).
 #[derive(Clone, Copy)]
 pub struct PublishBy {
     // whether each number whose flag is off is 0, else 20
     pub zeros: bool,
     // 11 for a QoS that is none
-    pub quality: Tested,
+    pub quality: Result<(), Error>,
     pub head: PublishHead,
 }
 
@@ -36,38 +36,27 @@ fn zeros_if_off(
 ) -> bool
     ensures { result ≡ all zero_if_off ((format_on, format) ∷ (expiry_on, expiry) ∷ (alias_on, alias) ∷ []) }
 {
-    if !zero_if_off(format_on, format as u32) {
-        return false;
-    }
-    if !zero_if_off(expiry_on, expiry) {
-        return false;
-    }
-    if !zero_if_off(alias_on, alias as u32) {
-        return false;
-    }
-    true
+    zero_if_off(format_on, format as u32)
+        && zero_if_off(expiry_on, expiry)
+        && zero_if_off(alias_on, alias as u32)
 }
 
 // 11.
-fn test_qos(num: u8) -> Tested
+fn test_qos(num: u8) -> Result<(), Error>
     ensures { told_tested result ≡ qos_test num }
 {
-    match qos::qos(num) {
-        GotQos::Refused(e) => Tested::Refused(e),
-        GotQos::Value(_) => Tested::Fine,
-    }
+    qos::qos(num)?;
+    Ok(())
 }
 
 // That of a record; 0 where it is refused.
 fn known_qos(num: u8) -> QoS
     ensures { told_qos result ≡ known_qos num }
 {
-    match qos::qos(num) {
-        GotQos::Refused(_) => QoS::AtMostOnce,
-        GotQos::Value(q) => q,
-    }
+    qos::qos(num).unwrap_or(QoS::AtMostOnce)
 }
 
+// The list of C's header in its order: the exported callers have each number by its own name, and a struct would name each of them twice more.
 fn numbers(
     dup: u8,
     qos: u8,
@@ -86,19 +75,15 @@ fn numbers(
 ) -> PublishHead
     ensures { (topic response correlation user lengths ids content payload : List ℕ) → publish (handed result topic response correlation user lengths ids content payload) ≡ (publish_by dup qos retain pkid topic block format_on format expiry_on expiry alias_on alias response_on response correlation_on correlation user lengths ids content_on content payload).handed }
 {
-    let qos = known_qos(qos);
-    let payload_format_indicator = maybe_u8(format_on, format);
-    let message_expiry_interval = maybe_u32(expiry_on, expiry);
-    let topic_alias = maybe_u16(alias_on, alias);
     PublishHead {
         dup: is_on(dup),
-        qos,
+        qos: known_qos(qos),
         retain: is_on(retain),
         pkid,
         block: is_on(block),
-        payload_format_indicator,
-        message_expiry_interval,
-        topic_alias,
+        payload_format_indicator: given(format_on, format),
+        message_expiry_interval: given(expiry_on, expiry),
+        topic_alias: given(alias_on, alias),
         response_topic: is_on(response_on),
         correlation_data: is_on(correlation_on),
         content_type: is_on(content_on),

@@ -2,21 +2,23 @@
 -- Assumes nothing.
 use mathlib.Core.Path.{◌≡◌, refl, sym, ap, ◌∙◌}
 use mathlib.Core.Bool.{Bool, true, false, not, ◌&&◌, cond, false≢true}
-use mathlib.Core.List.{List, [], ◌∷◌, ◌++◌, append-nil}
-use Prim.Native.Nat.{ℕ, zero, suc, ◌+◌, ◌^◌, ◌≤◌, ◌<◌}
+use mathlib.Core.List.{List, [], ◌∷◌, ◌++◌}
+use Prim.Native.Nat.{ℕ, zero, suc, ◌+◌, ◌-◌, ◌^◌, ◌≤◌, ◌<◌}
 use native.Mathlib.Numerals.{add-one}
 use native.Mathlib.Omega.{arith}
-use borrow.Author.Fill.{fill_none, fill_more}
-use borrow.Author.Tests.{eq-eqb, ne_eqb, eqb-true, eqb-false, lt-ltb, le-ltb, le-leb, lt-leb, leb-true, leb-false, not-true}
+use borrow.Author.Tests.{eq-eqb, ne_eqb, eqb-false, lt-ltb, le-ltb, le-leb, lt-leb, leb-true, leb-false, ltb-true, ltb-false, not-true}
 use lib.Bits.{bit_or, or_lt, or_add_and, and_le_l, and_le_r}
 use lib.Dec.{eqb, ltb}
-use lib.ListN.{length, get_or, drop, set, replicate, length-set, drop_of_length-le}
-use lib.Seq.{drop-cons}
+use lib.ListN.{length, get_or, take, drop, set, replicate, length-drop, take-append-drop, drop_of_length-le}
+use lib.Seq.{drop-cons, drop-drop}
+use Rattle.std.specs.Prelude.{Some, None}
+use Rattle.std.specs.List.{position, position_or_len}
+use Rattle.std.proofs.lemmas.List.Recursion.{is_position_or_len}
 use Rattle.reading.specs.Refusal.{nr}
 use Rattle.inflight.specs.Rules.{limit, free, all_states, is_table, first_free, claimed, claim_for, wait_of, put, settled, became_of, after_pub_rec, call, answer_by, waiting, refused, left, Left, not_waiting}
 use Rattle.inflight.specs.TableAnswer.{Ahead}
-use Rattle.inflight.proofs.Laws.{first_taken, wait_zero, wait_above}
-use Rattle.c_inflight.specs.Given.{bad_table, start_given, claim_given, due_of, next_of, ack_given, waiting_number, waiting_value, number_of, value_of, Ends, Outcomes}
+use Rattle.inflight.proofs.Laws.{first_taken, free_or_next, wait_zero, wait_above}
+use Rattle.c_inflight.specs.Given.{bad_table, start_given, claim_given, ack_given, waiting_number, waiting_value, number_of, value_of, Ends, Outcomes}
 
 -- ---- bytes gathered by `|`
 
@@ -70,56 +72,71 @@ pub as_states : (s : List ℕ) {r : Bool} → length s ≡ limit → r ≡ all_s
 unfolding is_table
 as_states s h e = rw (eq-eqb (length s) limit h) e
 
--- ---- every byte free
-
-pub record Cleared (d out : List ℕ) (i : ℕ) : Type 0 where
-  pub within : i ≤ length d
-  pub long : length out ≡ length d
-  pub is : out ≡ replicate i 0 ++ drop i d
-
-pub cleared_none : (d : List ℕ) → Cleared d d 0
-cleared_none d = record { within = omega arith; long = refl; is = fill_none d 0 }
-
-pub cleared_more : {d out : List ℕ} {i : ℕ} → Cleared d out i → i < length d → Cleared d (set out i 0) (i + 1)
-cleared_more {d} {out} {i} p h = record {
-  within = omega arith;
-  long = length-set out i 0 ∙ p.long;
-  is = ap (λ (o : List ℕ). set o i 0) p.is ∙ fill_more i 0 d h;
-}
-
-pub cleared_all : {d out : List ℕ} {i : ℕ} → Cleared d out i → length d ≤ i → out ≡ replicate (length d) 0
-cleared_all {d} {out} {i} p g =
-    p.is ∙ ap (λ (s : List ℕ). replicate i 0 ++ s) (drop_of_length-le d g) ∙ append-nil (replicate i 0)
-    ∙ (let q : i ≡ length d = omega (arith, p.within) in ap (λ (n : ℕ). replicate {A = ℕ} n 0) q)
-
 -- ---- the first free one
 
--- no byte from `at` to i is free, if no mark was gathered
-pub record Passed (s : List ℕ) (at any i : ℕ) : Type 0 where
-  pub low : at ≤ i
-  pub rest : ltb any 128 ≡ true → at + first_free (drop at s) ≡ i + first_free (drop i s)
+-- no byte before i is free, if no mark was gathered
+pub record Passed (s : List ℕ) (any i : ℕ) : Type 0 where
+  pub within : i ≤ length s
+  pub rest : ltb any 128 ≡ true → (t : List ℕ) → first_free (s ++ t) ≡ i + first_free (drop i s ++ t)
 
-pub passed_none : (s : List ℕ) (at : ℕ) → Passed s at 0 at
-passed_none s at = record { low = omega arith; rest = λ e. refl }
+pub passed_none : (s : List ℕ) → Passed s 0 0
+passed_none s = record { within = omega arith; rest = λ e t. omega arith }
 
-pub passed_more : {s : List ℕ} {at any i : ℕ} (m : ℕ) → Passed s at any i → i < length s → ltb m 128 ≡ not (eqb (get_or s i 0) 0) → Passed s at (bit_or any m) (i + 1)
-passed_more {s} {at} {any} {i} m p h f = record {
-  low = omega (arith, p.low);
-  rest = λ e.
+pub passed_more : {s : List ℕ} {any i : ℕ} (m : ℕ) → Passed s any i → i < length s → ltb m 128 ≡ not (eqb (get_or s i 0) 0) → Passed s (bit_or any m) (i + 1)
+passed_more {s} {any} {i} m p h f = record {
+  within = omega arith;
+  rest = λ e t.
       let b = both (ltb any 128) (ltb m 128) (sym (or_below 7 any m) ∙ e) in
-      let t : first_free (get_or s i 0 ∷ drop (suc i) s) ≡ suc (first_free (drop (suc i) s)) =
-      first_taken (get_or s i 0) (drop (suc i) s) (eqb-false (get_or s i 0) 0 (not-true (eqb (get_or s i 0) 0) (sym f ∙ b.1))) in
-      let q : first_free (drop i s) ≡ suc (first_free (drop (suc i) s)) = rw (drop-cons s i 0 h) t in
-      rw (add-one i) (omega (arith, p.rest b.0, q));
+      let n : first_free (get_or s i 0 ∷ (drop (suc i) s ++ t)) ≡ suc (first_free (drop (suc i) s ++ t)) =
+      first_taken (get_or s i 0) (drop (suc i) s ++ t) (eqb-false (get_or s i 0) 0 (not-true (eqb (get_or s i 0) 0) (sym f ∙ b.1))) in
+      let q : first_free (drop i s ++ t) ≡ suc (first_free (drop (suc i) s ++ t)) = rw (drop-cons s i 0 h) n in
+      rw (add-one i) (omega (arith, p.rest b.0 t, q));
 }
 
-pub passed_all : {s : List ℕ} {at any i : ℕ} → Passed s at any i → i ≡ at + 16 → ltb any 128 ≡ true → first_free (drop at s) ≡ 16 + first_free (drop (at + 16) s)
-passed_all {s} {at} {any} {i} p e t =
-    let q : at + first_free (drop at s) ≡ (at + 16) + first_free (drop (at + 16) s) = rw (← e) (p.rest t) in
-    omega (arith, q)
+pub passed_all : {s : List ℕ} {any i k : ℕ} → Passed s any i → length s ≤ i → length s ≡ k → ltb any 128 ≡ true → (t : List ℕ) → first_free (s ++ t) ≡ k + first_free t
+passed_all {s} {any} {i} {k} p h l e t =
+    let q : first_free (drop i s ++ t) ≡ first_free t = rw (drop_of_length-le s h) in
+    omega (arith, p.rest e t, q, p.within, h, l)
 
-pub sixteen_on : {s : List ℕ} {i : ℕ} → Ahead s i → i + 16 ≤ length s → first_free (drop i s) ≡ 16 + first_free (drop (i + 16) s) → Ahead s (i + 16)
-sixteen_on {s} {i} a h e = record { within = h; rest = omega (arith, a.rest, e) }
+-- sixteen bytes that are taken are passed
+pub sixteen_on : {s u : List ℕ} {i : ℕ} → Ahead s i → i + 16 ≤ length s → u ≡ take 16 (drop i s) → ((t : List ℕ) → first_free (u ++ t) ≡ 16 + first_free t) → Ahead s (i + 16)
+sixteen_on {s} {u} {i} a h e f =
+    let q : first_free (drop i s) ≡ 16 + first_free (drop (i + 16) s) =
+    ap first_free (sym (take-append-drop 16 (drop i s)) ∙ ap (λ (x : List ℕ). x ++ drop 16 (drop i s)) (sym e)) ∙ f (drop 16 (drop i s))
+    ∙ ap (λ (x : List ℕ). 16 + first_free x) (drop-drop 16 i s) in
+    record { within = h; rest = omega (arith, a.rest, q) }
+
+zero_is : (s : List ℕ) → first_free s ≡ position_or_len (λ (b : ℕ). eqb b 0) s
+unfolding first_free
+zero_is = is_position_or_len first_free (λ (b : ℕ). eqb b 0) refl free_or_next
+
+-- the first zero of what is left
+pub zero_at : {s u : List ℕ} {from i : ℕ} → Ahead s from → u ≡ drop from s → Some i ≡ position (λ (b : ℕ). eqb b 0) u → (from + i ≡ first_free s) × (from + i < length s)
+zero_at {s} {u} {from} {i} a w e = go (ltb n (length u)) refl
+  where
+    n : ℕ
+    n = position_or_len (λ (b : ℕ). eqb b 0) u
+
+    go : (b : Bool) → ltb n (length u) ≡ b → (from + i ≡ first_free s) × (from + i < length s)
+    go true q =
+        let p : Some i ≡ Some n = e ∙ rw q in
+        let p' : i ≡ n = cc in
+        let l : n < length u = ltb-true n (length u) q in
+        let f : length u ≡ length s - from = ap length w ∙ length-drop from s in
+        (omega (arith, p', zero_is u, ap first_free w, a.rest), omega (arith, p', l, f))
+    go false q = let p : Some i ≡ None = e ∙ rw q in absurd (let z : ◌≡◌ {A = ℕ} 0 1 = cc in omega (arith, z))
+
+pub zero_none : {s u : List ℕ} {from : ℕ} → Ahead s from → u ≡ drop from s → None ≡ position (λ (b : ℕ). eqb b 0) u → length s ≤ first_free s
+zero_none {s} {u} {from} a w e = go (ltb n (length u)) refl
+  where
+    n : ℕ
+    n = position_or_len (λ (b : ℕ). eqb b 0) u
+
+    go : (b : Bool) → ltb n (length u) ≡ b → length s ≤ first_free s
+    go true q = let p : None ≡ Some n = e ∙ rw q in absurd (let z : ◌≡◌ {A = ℕ} 0 1 = cc in omega (arith, z))
+    go false q =
+        let f : length u ≡ length s - from = ap length w ∙ length-drop from s in
+        omega (arith, ltb-false n (length u) q, f, zero_is u, ap first_free w, a.rest)
 
 -- ---- the ways to end
 
@@ -149,9 +166,9 @@ claims_for (suc zero) b h g = refl
 claims_for (suc (suc zero)) b h g = refl
 claims_for (suc (suc (suc q))) b h g = absurd (omega arith)
 
-pub claim_some : (q : ℕ) (b : List ℕ) → is_table b ≡ true → (q ≡ 0 → ⊥) → q < 3 → claim_for q b ≡ claim_given q b
+pub claim_some : (q : ℕ) (b : List ℕ) {w : ℕ} → is_table b ≡ true → (q ≡ 0 → ⊥) → q < 3 → w ≡ q → claim_for w b ≡ claim_given q b
 unfolding claim_given
-claim_some q b e h g = rw (e, lt-ltb q 3 g) (sym (claims_for q b h g))
+claim_some q b e h g f = rw (f, e, lt-ltb q 3 g) (sym (claims_for q b h g))
 
 pub granted_ends : (w : ℕ) (b : List ℕ) {i v : ℕ} {c : List ℕ} → i ≡ first_free b → i < length b → v ≡ i + 1 → c ≡ set b i w → Outcomes (claim_for w b) 0 v c
 unfolding claim_for
@@ -188,77 +205,33 @@ pub ack_none : (k n r : ℕ) (b : List ℕ) → is_table b ≡ false → ack_giv
 unfolding ack_given
 ack_none k n r b e = rw e
 
-byte_below : (b : List ℕ) (i : ℕ) → all_states b ≡ true → get_or b i 0 < 4
-unfolding all_states
-byte_below [] i e = omega arith
-byte_below (w ∷ b) zero e = leb-true (suc w) 4 (both (ltb w 4) (all_states b) e).0
-byte_below (w ∷ b) (suc i) e = byte_below b i (both (ltb w 4) (all_states b) e).1
+pub ack_ack : (k n r : ℕ) (b : List ℕ) → is_table b ≡ true → k ≡ 4 → settled 1 0 b n ≡ ack_given k n r b
+unfolding ack_given answer_by call
+ack_ack k n r b e f = rw (e, f)
 
-wait_below : (b : List ℕ) (n : ℕ) → all_states b ≡ true → wait_of b n < 4
-unfolding wait_of
-wait_below b zero e = omega arith
-wait_below b (suc i) e = byte_below b i e
+pub ack_rec : (k n r : ℕ) (b : List ℕ) {to : ℕ} → is_table b ≡ true → k ≡ 5 → to ≡ after_pub_rec r → settled 2 to b n ≡ ack_given k n r b
+unfolding ack_given answer_by call
+ack_rec k n r b e f g = rw (e, f, g)
 
-no_answer : (b : List ℕ) (n to : ℕ) → is_table b ≡ true → settled 4 to b n ≡ left b not_waiting
-unfolding settled is_table
-no_answer b n to e =
-    let h : wait_of b n < 4 = wait_below b n (both (eqb (length b) limit) (all_states b) e).1 in
-    rw (ne_eqb (wait_of b n) 4 (λ g. omega (arith, g, h)))
+pub ack_comp : (k n r : ℕ) (b : List ℕ) → is_table b ≡ true → k ≡ 7 → settled 3 0 b n ≡ ack_given k n r b
+unfolding ack_given answer_by call
+ack_comp k n r b e f = rw (e, f)
 
-by_four : (k n r : ℕ) (b : List ℕ) → k ≡ 4 → settled (due_of k) (next_of k r) b n ≡ call (answer_by k n r) b
-unfolding due_of next_of answer_by call
-by_four k n r b e = rw e
+pub ack_other : (k n r : ℕ) (b : List ℕ) → is_table b ≡ true → (k ≡ 4 → ⊥) → (k ≡ 5 → ⊥) → (k ≡ 7 → ⊥) → ack_given k n r b ≡ left b not_waiting
+unfolding ack_given answer_by call
+ack_other k n r b e f g h = rw (e, ne_eqb k 4 f, ne_eqb k 5 g, ne_eqb k 7 h)
 
-by_five : (k n r : ℕ) (b : List ℕ) → k ≡ 5 → settled (due_of k) (next_of k r) b n ≡ call (answer_by k n r) b
-unfolding due_of next_of answer_by call
-by_five k n r b e = rw e
-
-by_seven : (k n r : ℕ) (b : List ℕ) → k ≡ 7 → settled (due_of k) (next_of k r) b n ≡ call (answer_by k n r) b
-unfolding due_of next_of answer_by call
-by_seven k n r b e = rw e
-
-by_none : (k n r : ℕ) (b : List ℕ) → is_table b ≡ true → eqb k 4 ≡ false → eqb k 5 ≡ false → eqb k 7 ≡ false
-    → settled (due_of k) (next_of k r) b n ≡ call (answer_by k n r) b
-unfolding due_of next_of answer_by call
-by_none k n r b e f g h = rw (f, g, h) (no_answer b n free e)
-
-above : (k : ℕ) → 0 < due_of k
-unfolding due_of
-above k = go (eqb k 4) (eqb k 5) (eqb k 7)
+-- what a PubRec goes on to is what it stores
+rec_told : (r : ℕ) → after_pub_rec r ≡ value_of (became_of (after_pub_rec r))
+unfolding after_pub_rec became_of
+rec_told r = go (ltb r 0x80)
   where
-    go : (x y z : Bool) → 0 < cond x 1 (cond y 2 (cond z 3 4))
-    go true y z = omega arith
-    go false true z = omega arith
-    go false false true = omega arith
-    go false false false = omega arith
+    go : (x : Bool) → cond x 3 0 ≡ value_of (became_of (cond x 3 0))
+    go true = refl
+    go false = refl
 
-told : (k r : ℕ) → next_of k r ≡ value_of (became_of (next_of k r))
-unfolding next_of after_pub_rec became_of
-told k r = go (eqb k 5) (ltb r 0x80)
-  where
-    go : (x y : Bool) → cond x (cond y 3 0) 0 ≡ value_of (became_of (cond x (cond y 3 0) 0))
-    go true true = refl
-    go true false = refl
-    go false y = refl
-
-settles : (k n r : ℕ) (b : List ℕ) → is_table b ≡ true → settled (due_of k) (next_of k r) b n ≡ call (answer_by k n r) b
-settles k n r b e = go (eqb k 4) refl (eqb k 5) refl (eqb k 7) refl
-  where
-    go : (x : Bool) → eqb k 4 ≡ x → (y : Bool) → eqb k 5 ≡ y → (z : Bool) → eqb k 7 ≡ z → settled (due_of k) (next_of k r) b n ≡ call (answer_by k n r) b
-    go true f y g z h = by_four k n r b (eqb-true k 4 f)
-    go false f true g z h = by_five k n r b (eqb-true k 5 g)
-    go false f false g true h = by_seven k n r b (eqb-true k 7 h)
-    go false f false g false h = by_none k n r b e f g h
-
-pub due_above : (k : ℕ) {d : ℕ} → d ≡ due_of k → 0 < d
-due_above k {d} e = rw e (above k)
-
-pub next_told : (k r : ℕ) {to : ℕ} → to ≡ next_of k r → to ≡ value_of (became_of to)
-next_told k r e = rw e (told k r)
-
-pub ack_some : (k n r : ℕ) (b : List ℕ) {due to : ℕ} → is_table b ≡ true → due ≡ due_of k → to ≡ next_of k r → settled due to b n ≡ ack_given k n r b
-unfolding ack_given
-ack_some k n r b e f g = rw (f, g, e) (settles k n r b e)
+pub rec_due : (r : ℕ) {to : ℕ} → to ≡ after_pub_rec r → to ≡ value_of (became_of to)
+rec_due r e = rw e (rec_told r)
 
 -- the same call by another name
 pub named : {l m : Left} {number value : ℕ} {b : List ℕ} → Outcomes l number value b → l ≡ m → Outcomes m number value b

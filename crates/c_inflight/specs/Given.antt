@@ -1,7 +1,8 @@
 -- What C hands over of P4, the bytes of a table, and what it is answered. Bytes that are no table are refused, and left as they are.
-use Rattle.std.specs.Prelude.{◌≡◌, cond, List, [], ◌∷◌, ℕ, eqb, ltb, length, replicate}
+use Rattle.std.specs.Prelude.{◌≡◌, cond, List, [], ◌∷◌, ℕ, eqb, ltb, length, replicate, Result, Ok, Err}
 use Rattle.reading.specs.Refusal.{nr}
-use Rattle.inflight.specs.Rules.{limit, free, puback, pubrec, pubcomp, after_pub_rec, is_table, claimed, call, answer_by, waiting, Says, granted, freed, moved, refused, Left, left}
+use Rattle.inflight.specs.Rules.{limit, free, pubcomp, is_table, claimed, call, answer_by, waiting, Says, granted, freed, moved, refused, Left, left}
+use Rattle.c_inflight.specs.declared.Refused.{Refused}
 
 -- 39: not a state for each identifier
 abbrev pub bad_table : List ℕ → Left
@@ -18,14 +19,6 @@ claim_given q b = cond (is_table b) (cond (ltb q 3) (claimed q b) (left b (refus
 -- an acknowledgement, by the number of its kind
 unfoldable pub ack_given : ℕ → ℕ → ℕ → List ℕ → Left
 ack_given kind n reason b = cond (is_table b) (call (answer_by kind n reason) b) (bad_table b)
-
--- what the identifier of an answer waits for, "PubAck", "PubRec", "PubComp"; 4, which is no state, for "any other answer"
-unfoldable pub due_of : ℕ → ℕ
-due_of kind = cond (eqb kind 4) puback (cond (eqb kind 5) pubrec (cond (eqb kind 7) pubcomp 4))
-
--- and what it goes on to
-unfoldable pub next_of : ℕ → ℕ → ℕ
-next_of kind reason = cond (eqb kind 5) (after_pub_rec reason) free
 
 -- 0, or 39 for what is no table
 unfoldable pub waiting_number : List ℕ → ℕ
@@ -59,3 +52,21 @@ pub record Outcomes (l : Left) (number value : ℕ) (b : List ℕ) : Type 0 wher
   pub returned : number ≡ number_of l.says
   pub stores : value ≡ value_of l.says
   pub table : b ≡ l.table
+
+-- 01, row 11, then "InFlightFull", "NoClaim", "NotWaiting", and 39
+abbrev pub refused_number : Refused → ℕ
+refused_number Refused.InvalidQoS = 11
+refused_number Refused.InFlightFull = 29
+refused_number Refused.NoClaim = 30
+refused_number Refused.NotWaiting = 31
+refused_number Refused.BadTable = 39
+
+-- what is returned of an outcome
+abbrev pub told_number : Result ℕ Refused → ℕ
+told_number (Ok v) = 0
+told_number (Err e) = refused_number e
+
+-- what is stored of it
+abbrev pub told_value : Result ℕ Refused → ℕ
+told_value (Ok v) = v
+told_value (Err e) = 0

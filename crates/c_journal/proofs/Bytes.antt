@@ -1,7 +1,7 @@
 -- A table taken from bytes, and a table stored.
 -- Assumes nothing.
 use mathlib.Core.Path.{◌≡◌, refl, sym, ap, ap₂, ◌∙◌, subst}
-use mathlib.Core.Bool.{true, false, false≢true}
+use mathlib.Core.Bool.{true, false}
 use mathlib.Core.List.{List, [], ◌∷◌, ◌++◌}
 use Prim.Native.Nat.{ℕ, suc, ◌+◌, ◌<◌, ◌≤◌}
 use native.Mathlib.Numerals.{add-one}
@@ -15,7 +15,7 @@ use Rattle.inflight.specs.declared.Wait.{Wait}
 use Rattle.inflight.specs.declared.InFlight.{InFlight}
 use Rattle.inflight.proofs.Laws.{waits_length, wait_set}
 use Rattle.journal.proofs.Stores.{Put, put_more}
-use Rattle.c_journal.specs.Bytes.{TakenFrom, stored}
+use Rattle.c_journal.specs.Bytes.{stored}
 
 -- ---- a table from bytes
 
@@ -49,31 +49,27 @@ not_state s t i p h l g =
     p.rest ∙ (let q : drop i s ≡ get_or s i 0 ∷ drop (suc i) s = drop-cons s i 0 (omega (arith, l)) in ap all_states q)
     ∙ rw (le-ltb (get_or s i 0) 4 g)
 
-no_length : (s : List ℕ) → (length s ≡ limit → ⊥) → is_table s ≡ false
+pub not_long : (s : List ℕ) → (length s ≡ limit → ⊥) → is_table s ≡ false
 unfolding is_table
-no_length s h = rw (ne_eqb (length s) limit h)
+not_long s h = rw (ne_eqb (length s) limit h)
 
 no_state : (s : List ℕ) (t : InFlight) (i : ℕ) → Taken s t i → i < limit → length s ≡ limit → 4 ≤ get_or s i 0 → is_table s ≡ false
 unfolding is_table
 no_state s t i p h l g = rw (eq-eqb (length s) limit l, not_state s t i p h l g)
 
-pub not_long : {s : List ℕ} {t : InFlight} → (length s ≡ limit → ⊥) → TakenFrom s record { fine = false; table = t }
-not_long {s} {t} h = let e = no_length s h in record { fine = sym e; table = λ f. absurd (false≢true (sym e ∙ f)) }
-
-pub not_states : {s : List ℕ} {t u : InFlight} {i : ℕ} → Taken s t i → i < limit → length s ≡ limit → 4 ≤ get_or s i 0 → TakenFrom s record { fine = false; table = u }
-not_states {s} {t} {u} {i} p h l g = let e = no_state s t i p h l g in record { fine = sym e; table = λ f. absurd (false≢true (sym e ∙ f)) }
+pub not_states : {s : List ℕ} {t : InFlight} {i : ℕ} → Taken s t i → i < limit → length s ≡ limit → 4 ≤ get_or s i 0 → is_table s ≡ false
+not_states {s} {t} {i} p h l g = no_state s t i p h l g
 
 all_states_lem : (s : List ℕ) (t : InFlight) (i : ℕ) → Taken s t i → length s ≡ limit → limit ≤ i → all_states s ≡ true
 unfolding all_states
 all_states_lem s t i p l h = p.rest ∙ (let e : length s ≤ i = omega (arith, l) in rw (drop_of_length-le s e))
 
-pub taken_all : {s : List ℕ} {t : InFlight} {i : ℕ} → Taken s t i → length s ≡ limit → limit ≤ i → TakenFrom s record { fine = true; table = t }
+pub taken_all : {s : List ℕ} {t : InFlight} {i : ℕ} → Taken s t i → length s ≡ limit → limit ≤ i → (is_table s ≡ true) × (waits_of t ≡ s)
 unfolding is_table
-taken_all {s} {t} {i} p l h =
-    record {
-      fine = rw (eq-eqb (length s) limit l, all_states_lem s t i p l h);
-      table = λ _. (sym (take_all i (waits_of t) (omega (arith, waits_length t, p.long))) ∙ p.is ∙ take_all i s (omega (arith, l)));
-    }
+taken_all {s} {t} {i} p l h = (
+  rw (eq-eqb (length s) limit l, all_states_lem s t i p l h),
+  sym (take_all i (waits_of t) (omega (arith, waits_length t, p.long))) ∙ p.is ∙ take_all i s (omega (arith, l)),
+)
 
 -- ---- a table stored
 

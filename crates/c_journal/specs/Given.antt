@@ -1,8 +1,11 @@
 -- What C hands over of P11 and what it is answered: the journal's calls with the bytes of a table.
-use Rattle.std.specs.Prelude.{◌≡◌, Bool, true, false, cond, List, [], ◌∷◌, ℕ, eqb, ltb, length, replicate}
+use Rattle.std.specs.Prelude.{◌≡◌, cond, List, [], ℕ, eqb, ltb, replicate, Result, Ok, Err}
 use Rattle.reading.specs.Refusal.{nr}
 use Rattle.inflight.specs.Rules.{limit, free, is_table}
 use Rattle.journal.specs.Area.{whole, save, Says, started, saved, recovered, refused, bad_area, Left, left}
+use Rattle.journal.specs.JournalAnswer.{save_of}
+use Rattle.journal.specs.declared.Stored.{Stored}
+use Rattle.c_journal.specs.declared.SaveRefused.{SaveRefused}
 
 -- what is returned: 0, or the refusal's number
 abbrev pub number_of : Says → ℕ
@@ -10,6 +13,12 @@ number_of started = 0
 number_of (saved n i) = 0
 number_of (recovered n t) = 0
 number_of (refused (nr k vs)) = k
+
+-- what a save of lent bytes says: what the journal says, or 39
+abbrev pub says_of : Result Stored SaveRefused → Says
+says_of (Ok s) = save_of (Ok s)
+says_of (Err (SaveRefused.Journal e)) = save_of (Err e)
+says_of (Err SaveRefused.BadTable) = refused (nr 39 [])
 
 -- the number of the save that was made or found, or 0
 abbrev pub first_of : Says → ℕ
@@ -49,10 +58,4 @@ recover_number s room = room_number (number_of s) room
 
 pub record Ends (l : Left) (number : ℕ) (a : List ℕ) : Type 0 where
   pub returned : number ≡ number_of l.says
-  pub area : a ≡ l.area
-
-pub record Done (l : Left) (number first block : ℕ) (a : List ℕ) : Type 0 where
-  pub returned : number ≡ number_of l.says
-  pub told : first ≡ first_of l.says
-  pub stands : block ≡ block_of l.says
   pub area : a ≡ l.area

@@ -5,48 +5,44 @@ ghost use Rattle.std.specs.Prelude.{◌≡◌, ◌∷◌, [], ◌≤◌, length}
 ghost use Rattle.std.proofs.lemmas.List.Edits.{sets};
 ghost use Rattle.inflight.specs.Rules.{limit};
 ghost use Rattle.inflight.specs.TableAnswer.{waits_of};
-ghost use Rattle.journal.specs.Area.{start as start_of, recover as recoverOf};
-ghost use Rattle.journal.specs.JournalAnswer.{save_of, found_of};
+ghost use Rattle.journal.specs.Area.{left, start as start_of, recover as recoverOf};
+ghost use Rattle.journal.specs.JournalAnswer.{found_of};
 ghost use Rattle.c_journal.specs.Bytes.{TakenFrom, stored};
-ghost use Rattle.c_journal.specs.Given.{number_of, first_of, block_of, table_of, save_given, unless_bad_area, recover_number, room_number, Ends, Done};
+ghost use Rattle.c_journal.specs.Given.{number_of, first_of, block_of, table_of, says_of, save_given, unless_bad_area, recover_number, room_number, Ends};
 
 use c_layout::store::store;
 use inflight::{InFlight, LIMIT, Place, code, wait_of};
-use journal::{Found, Saved, Started, is_whole, recover, save, start};
+use journal::{BadArea, FindError, SaveError, Stored, is_whole, recover, save, start};
 
 pub const BAD_AREA: u32 = 32;
 
 pub const JOURNAL_EMPTY: u32 = 33;
 
 pub const JOURNAL_ENDED: u32 = 34;
+// the bytes are no table, or it does not fit
+const BAD_TABLE: u32 = 39;
 
 // ---- a table as the lent bytes of c_inflight, one for each identifier
 
-// The table of those bytes, if they are one.
+// The bytes are no table.
 #[derive(Clone, Copy)]
-struct FromCodes {
-    fine: bool,
-    table: InFlight,
-}
+struct BadTable;
 
-fn from_codes(codes: &[u8]) -> FromCodes
+// The table of those bytes.
+fn from_codes(codes: &[u8]) -> Result<InFlight, BadTable>
     ensures { TakenFrom codes.now result }
 {
-    let mut table = InFlight::new();
     if codes.len() != LIMIT {
-        return FromCodes { fine: false, table };
+        return Err(BadTable);
     }
-    let mut i: usize = 0;
-    while i < LIMIT {
-        let x = codes[i];
-        if 3 < x {
-            return FromCodes { fine: false, table };
+    let mut table = InFlight::new();
+    for (i, x) in codes.iter().enumerate() {
+        if 3 < *x {
+            return Err(BadTable);
         }
-        let p = Place { wait: wait_of(x) };
-        table.places[i] = p;
-        i += 1;
+        table.places[i] = Place { wait: wait_of(*x) };
     }
-    FromCodes { fine: true, table }
+    Ok(table)
 }
 
 // What each identifier waits for, from index 0 on; nothing is stored if not all fit.
@@ -62,105 +58,81 @@ fn put_all(table: InFlight, out: &mut [u8])
     requires { limit ≤ length out.old }
     ensures { out.new ≡ sets out.old 0 (waits_of table) }
 {
-    let mut i: usize = 0;
-    while i < LIMIT {
-        let p = table.places[i];
-        let w = p.wait;
-        out[i] = code(w);
-        i += 1;
+    for (i, p) in table.places.iter().enumerate() {
+        out[i] = code(p.wait);
     }
 }
 
 // ---- saving and recovering
 
-// What a save returns and stores.
+// Why a save is refused.
 #[derive(Clone, Copy)]
-struct Outcome {
-    number: u32,
-    first: u64,
-    block: u64,
+enum SaveRefused {
+    Journal(SaveError),
+    BadTable,
 }
 
-fn saved(s: Saved) -> Outcome
-    ensures number { result.number ≡ number_of (save_of s) }
-    ensures first { result.first ≡ first_of (save_of s) }
-    ensures block { result.block ≡ block_of (save_of s) }
+impl From<SaveError> for SaveRefused {
+    ghost use Rattle.c_journal.specs.declared.SaveRefused.{SaveRefused};
+
+    ghost from_gives = { λ e r. r ≡ SaveRefused.Journal e };
+
+    fn from(e: SaveError) -> SaveRefused {
+        SaveRefused::Journal(e)
+    }
+}
+
+impl From<BadTable> for SaveRefused {
+    ghost use Rattle.c_journal.specs.declared.SaveRefused.{SaveRefused};
+
+    ghost from_gives = { λ _ r. r ≡ SaveRefused.BadTable };
+
+    fn from(_e: BadTable) -> SaveRefused {
+        SaveRefused::BadTable
+    }
+}
+
+fn saves(codes: &[u8], area: &mut [u8]) -> Result<Stored, SaveRefused>
+    ensures { left area.new (says_of result) ≡ save_given codes.now area.old }
+{
+    if !is_whole(&*area) {
+        return Err(SaveRefused::Journal(SaveError::BadArea));
+    }
+    let table = from_codes(codes)?;
+    let stored = save(&mut *area, table)?;
+    Ok(stored)
+}
+
+// What a save returns.
+fn saved(s: Result<Stored, SaveRefused>) -> u32
+    ensures { result ≡ number_of (says_of s) }
 {
     match s {
-        Saved::Stored { number, block } => {
-            return Outcome {
-                number: 0,
-                first: number,
-                block: block as u64,
-            };
-        }
-        Saved::BadArea => {
-            return Outcome {
-                number: BAD_AREA,
-                first: 0,
-                block: 0,
-            };
-        }
-        Saved::JournalEnded => {
-            return Outcome {
-                number: JOURNAL_ENDED,
-                first: 0,
-                block: 0,
-            };
-        }
+        Ok(_) => 0,
+        Err(SaveRefused::Journal(SaveError::BadArea)) => BAD_AREA,
+        Err(SaveRefused::Journal(SaveError::JournalEnded)) => JOURNAL_ENDED,
+        Err(SaveRefused::BadTable) => BAD_TABLE,
     }
 }
 
-fn saves(codes: &[u8], area: &mut [u8]) -> Outcome
-    ensures { Done (save_given codes.now area.old) result.number result.first result.block area.new }
+// What it stores: its number and its block, or zeros.
+fn numbers(s: Result<Stored, SaveRefused>) -> [u64; 2]
+    ensures { result ≡ first_of (says_of s) ∷ block_of (says_of s) ∷ [] }
 {
-    let given = from_codes(codes);
-    let table = given.table;
-    if given.fine {
-        let s = save(&mut *area, table);
-        return saved(s);
-    }
-    if is_whole(&*area) {
-        return Outcome {
-            number: 39,
-            first: 0,
-            block: 0,
-        };
-    }
-    Outcome {
-        number: BAD_AREA,
-        first: 0,
-        block: 0,
+    match s {
+        Ok(stored) => [stored.number, stored.block as u64],
+        Err(_) => [0, 0],
     }
 }
 
-// What a recovery returns and stores; it stores no block.
-fn found(f: Found) -> Outcome
-    ensures number { result.number ≡ number_of (found_of f []) }
-    ensures first { result.first ≡ first_of (found_of f []) }
+// What a recovery returns.
+fn found(f: Result<u64, FindError>) -> u32
+    ensures { result ≡ number_of (found_of f []) }
 {
     match f {
-        Found::Number(n) => {
-            return Outcome {
-                number: 0,
-                first: n,
-                block: 0,
-            };
-        }
-        Found::BadArea => {
-            return Outcome {
-                number: BAD_AREA,
-                first: 0,
-                block: 0,
-            };
-        }
-        Found::JournalEmpty => {
-            return Outcome {
-                number: JOURNAL_EMPTY,
-                first: 0,
-                block: 0,
-            };
-        }
+        Ok(_) => 0,
+        Err(FindError::BadArea) => BAD_AREA,
+        Err(FindError::JournalEmpty) => JOURNAL_EMPTY,
     }
 }
 
@@ -168,10 +140,9 @@ fn found(f: Found) -> Outcome
 pub fn ecch_journal_start(area: &mut [u8]) -> u32
     ensures { Ends (start_of area.old) result area.new }
 {
-    let s = start(&mut *area);
-    match s {
-        Started::Zeroed => 0,
-        Started::BadArea => BAD_AREA,
+    match start(&mut *area) {
+        Ok(()) => 0,
+        Err(BadArea) => BAD_AREA,
     }
 }
 
@@ -180,10 +151,9 @@ pub fn ecch_journal_save(table: &[u8], area: &mut [u8], answer: &mut [u64]) -> u
     ensures left { Ends (save_given table.now area.old) result area.new }
     ensures stored { answer.new ≡ sets answer.old 0 (first_of (save_given table.now area.old).says ∷ block_of (save_given table.now area.old).says ∷ []) }
 {
-    let o = saves(table, &mut *area);
-    let numbers = [o.first, o.block];
-    store(&mut *answer, &numbers);
-    o.number
+    let s = saves(table, &mut *area);
+    store(&mut *answer, &numbers(s));
+    saved(s)
 }
 
 // The table of the latest save, and its number. 39 if the table has no room for a byte of each identifier, unless the area is bad: then the
@@ -195,13 +165,10 @@ pub fn ecch_journal_recover(area: &[u8], table: &mut [u8], answer: &mut [u64]) -
 {
     let room = table.len();
     let r = recover(area);
-    let f = r.found;
-    let t = r.table;
-    let o = found(f);
-    put_found(o.number, t, &mut *table);
-    let numbers = [o.first];
-    store(&mut *answer, &numbers);
-    with_room(o.number, room)
+    let number = found(r.found);
+    put_found(number, r.table, &mut *table);
+    store(&mut *answer, &[r.found.unwrap_or(0)]);
+    with_room(number, room)
 }
 
 // The table that was found, put into the lent bytes; a bad area leaves them as they were.
@@ -220,7 +187,7 @@ fn with_room(number: u32, room: usize) -> u32
         return BAD_AREA;
     }
     if room < LIMIT {
-        return 39;
+        return BAD_TABLE;
     }
     number
 }

@@ -1,6 +1,6 @@
 -- What is stored of an item: bindings/c/ecchjulmina.h, enums ecch_user_layout, ecch_identifier_layout, ecch_filter_layout,
 -- ecch_reason_layout and ecch_topic_layout. Assumes nothing.
-use Rattle.std.specs.Prelude.{List, [], ◌∷◌, ℕ}
+use Rattle.std.specs.Prelude.{List, [], ◌∷◌, ℕ, replicate, Option, Some, None}
 use Rattle.grammar.specs.Record.{Val, num, str, duo, Filter}
 use Rattle.reading.specs.Reader.{Fit, got, bad}
 use Rattle.reading.specs.Place.{Span}
@@ -33,3 +33,8 @@ reason_numbers (bad k) = 0 ∷ []
 abbrev pub topic_numbers : Fit Span → List ℕ
 topic_numbers (got p) = p.start ∷ p.len ∷ []
 topic_numbers (bad k) = 0 ∷ 0 ∷ []
+
+-- header: "there are zeros" where there is no item: as many as an item has numbers
+abbrev pub item_numbers : ℕ → Option (List ℕ) → List ℕ
+item_numbers n (Some xs) = xs
+item_numbers n None = replicate n 0

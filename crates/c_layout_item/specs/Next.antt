@@ -1,10 +1,12 @@
 -- What is stored of the property, filter or topic at an index: bindings/c/ecchjulmina.h, enums ecch_property_layout, ecch_next_filter_layout and
 -- ecch_next_topic_layout. Assumes nothing.
-use Rattle.std.specs.Prelude.{List, [], ◌∷◌, ℕ}
+use Rattle.std.specs.Prelude.{List, [], ◌∷◌, ℕ, Result, Ok, Err}
 use Rattle.grammar.specs.Record.{Val, num, str, duo, PropOf, Filter}
 use Rattle.reading.specs.Refusal.{Refusal, nr}
 use Rattle.reading.specs.Reader.{Fit, got, bad}
 use Rattle.reading.specs.Place.{Span}
+use Rattle.records.specs.AsNumbers.{told_error}
+use Rattle.records.specs.declared.error.Error.{Error}
 use Rattle.c_layout.specs.Value.{value_or_zero}
 
 -- header: "or the refusal's value"; of all three enums
@@ -31,3 +33,8 @@ next_filter_numbers (bad k) = bad_numbers k
 abbrev pub next_topic_numbers : Fit (Span × ℕ) → List ℕ
 next_topic_numbers (got z) = z.1 ∷ z.0.start ∷ z.0.len ∷ 0 ∷ 0 ∷ 0 ∷ 0 ∷ []
 next_topic_numbers (bad k) = bad_numbers k
+
+-- header: the numbers of what was found, "or the refusal's value"
+abbrev pub found_numbers : Result (List ℕ) Error → List ℕ
+found_numbers (Ok xs) = xs
+found_numbers (Err e) = bad_numbers (told_error e)

@@ -1,21 +1,24 @@
 // What is returned and stored of the property, filter or topic at an index: with it the index after it, at which the next one begins.
 ghost use Rattle.std.specs.Prelude.{◌≡◌};
 ghost use Rattle.std.proofs.lemmas.List.Edits.{sets};
-ghost use Rattle.records.specs.AsNumbers.{told_error};
+ghost use Rattle.reading.specs.Reader.{got};
+ghost use Rattle.records.specs.AsNumbers.{told_error, told_span};
+ghost use Rattle.records.specs.Said.{told_filter};
 ghost use Rattle.property_value.specs.OneProperty.{told_value, told_property};
 ghost use Rattle.filters.specs.FilterRead.{told_got_filter};
-ghost use Rattle.c_layout.specs.Value.{fit_number};
-ghost use Rattle.c_layout_item.specs.Next.{bad_numbers, property_row, property_numbers, next_filter_numbers, next_topic_numbers};
+ghost use Rattle.c_layout.specs.Value.{fit_number, answered_number};
+ghost use Rattle.c_layout_item.specs.Next.{bad_numbers, property_row, property_numbers, next_filter_numbers, next_topic_numbers, found_numbers};
 ghost use Rattle.wire.specs.StringRead.{told_part};
 
+use c_layout::answer::answered_number;
 use c_layout::store::store;
 use c_layout::value::first_value;
-use filters::GotFilter;
-use property_value::{GotProperty, Value};
+use property_value::Value;
 use qos_numbers::{bit, qos_number, rule_number};
 use records::error::Error;
-use refusal_numbers::{number, values};
-use wire::got::GotSpan;
+use records::span::Span;
+use records::subscribe_record::Filter;
+use refusal_numbers::values;
 
 // The refusal's value.
 fn bad_numbers(e: Error) -> [u64; 7]
@@ -48,98 +51,67 @@ fn value_numbers(next: usize, k: u8, v: Value) -> [u64; 7]
     }
 }
 
-fn property_number(property: GotProperty) -> u32
-    ensures { result ≡ fit_number (told_property property) }
+fn property_numbers(property: (u8, Value, usize)) -> [u64; 7]
+    ensures { result ≡ property_row property.2 property.0 (told_value property.1) }
 {
-    match property {
-        GotProperty::Found(_, _, _) => 0,
-        GotProperty::Refused(e) => number(e) as u32,
-    }
+    let (k, v, next) = property;
+    value_numbers(next, k, v)
 }
 
-fn property_numbers(property: GotProperty) -> [u64; 7]
-    ensures { result ≡ property_numbers (told_property property) }
+fn next_filter_numbers(found: (Filter, usize)) -> [u64; 7]
+    ensures { result ≡ next_filter_numbers (got (told_filter found.0, found.1)) }
 {
-    match property {
-        GotProperty::Found(k, v, next) => value_numbers(next, k, v),
-        GotProperty::Refused(e) => bad_numbers(e),
-    }
+    let (f, next) = found;
+    let qos = f.qos;
+    let rule = f.retain_forward_rule;
+    [
+        next as u64,
+        f.path.start as u64,
+        f.path.len as u64,
+        qos_number(qos) as u64,
+        bit(f.nolocal) as u64,
+        bit(f.preserve_retain) as u64,
+        rule_number(rule) as u64,
+    ]
 }
 
-fn next_filter_number(filter: GotFilter) -> u32
-    ensures { result ≡ fit_number (told_got_filter filter) }
+fn next_topic_numbers(found: (Span, usize)) -> [u64; 7]
+    ensures { result ≡ next_topic_numbers (got (told_span found.0, found.1)) }
 {
-    match filter {
-        GotFilter::Value(_, _) => 0,
-        GotFilter::Refused(e) => number(e) as u32,
-    }
+    let (p, next) = found;
+    [next as u64, p.start as u64, p.len as u64, 0, 0, 0, 0]
 }
 
-fn next_filter_numbers(filter: GotFilter) -> [u64; 7]
-    ensures { result ≡ next_filter_numbers (told_got_filter filter) }
+// 0, or the refusal's number; the numbers of what was found are stored, or the refusal's value.
+fn store_next(found: Result<[u64; 7], Error>, into: &mut [u64]) -> u32
+    ensures number { result ≡ answered_number found }
+    ensures stored { into.new ≡ sets into.old 0 (found_numbers found) }
 {
-    match filter {
-        GotFilter::Value(f, next) => {
-            let qos = f.qos;
-            let rule = f.retain_forward_rule;
-            [
-                next as u64,
-                f.path.start as u64,
-                f.path.len as u64,
-                qos_number(qos) as u64,
-                bit(f.nolocal) as u64,
-                bit(f.preserve_retain) as u64,
-                rule_number(rule) as u64,
-            ]
-        }
-        GotFilter::Refused(e) => bad_numbers(e),
-    }
+    let numbers = found.unwrap_or_else(bad_numbers);
+    store(&mut *into, &numbers);
+    answered_number(found)
 }
 
 // 0, or the refusal's number; the index after it, identifier and value are stored.
-pub fn store_property(property: GotProperty, into: &mut [u64]) -> u32
+pub fn store_property(property: Result<(u8, Value, usize), Error>, into: &mut [u64]) -> u32
     ensures number { result ≡ fit_number (told_property property) }
     ensures stored { into.new ≡ sets into.old 0 (property_numbers (told_property property)) }
 {
-    let numbers = property_numbers(property);
-    store(&mut *into, &numbers);
-    property_number(property)
+    store_next(property.map(property_numbers), &mut *into)
 }
 
 // The same of a filter: its text and options.
-pub fn store_next_filter(filter: GotFilter, into: &mut [u64]) -> u32
+pub fn store_next_filter(filter: Result<(Filter, usize), Error>, into: &mut [u64]) -> u32
     ensures number { result ≡ fit_number (told_got_filter filter) }
     ensures stored { into.new ≡ sets into.old 0 (next_filter_numbers (told_got_filter filter)) }
 {
-    let numbers = next_filter_numbers(filter);
-    store(&mut *into, &numbers);
-    next_filter_number(filter)
-}
-
-fn next_topic_number(topic: GotSpan) -> u32
-    ensures { result ≡ fit_number (told_part topic) }
-{
-    match topic {
-        GotSpan::Value(_, _) => 0,
-        GotSpan::Refused(e) => number(e) as u32,
-    }
-}
-
-fn next_topic_numbers(topic: GotSpan) -> [u64; 7]
-    ensures { result ≡ next_topic_numbers (told_part topic) }
-{
-    match topic {
-        GotSpan::Value(p, next) => [next as u64, p.start as u64, p.len as u64, 0, 0, 0, 0],
-        GotSpan::Refused(e) => bad_numbers(e),
-    }
+    store_next(filter.map(next_filter_numbers), &mut *into)
 }
 
 // The same of a topic: where it stands.
-pub fn store_next_topic(topic: GotSpan, into: &mut [u64]) -> u32
+pub fn store_next_topic(topic: Result<(Span, usize), Error>, into: &mut [u64]) -> u32
     ensures number { result ≡ fit_number (told_part topic) }
     ensures stored { into.new ≡ sets into.old 0 (next_topic_numbers (told_part topic)) }
 {
-    let numbers = next_topic_numbers(topic);
-    store(&mut *into, &numbers);
-    next_topic_number(topic)
+    store_next(topic.map(next_topic_numbers), &mut *into)
 }

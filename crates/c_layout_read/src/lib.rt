@@ -8,13 +8,13 @@ ghost use Rattle.std.proofs.lemmas.List.Edits.{sets};
 ghost use Rattle.grammar.specs.Record.{publish, ack, subscribe, reply, unsubscribe, ping};
 ghost use Rattle.reading.specs.Refusal.{refused_as};
 ghost use Rattle.reading.specs.Reader.{bad};
-ghost use Rattle.records.specs.AsNumbers.{told_error, told_ack_kind, told_reply_kind, told_u8, told_u16, told_u32, told_string, told_span};
+ghost use Rattle.records.specs.AsNumbers.{told_error, told_ack_kind, told_reply_kind, told_number_if, told_string, told_span};
 ghost use Rattle.records.specs.Said.{told_publish, told_subscribe, told_ack, told_reply, told_unsubscribe, told_packet, told_publish_block, told_block};
 ghost use Rattle.records.specs.Answered.{told, carried};
 ghost use Rattle.kinds.specs.Kinds.{number_of};
 ghost use Rattle.c_layout_read.specs.Layout.{laid_out};
-ghost use Rattle.c_layout_read.specs.Block.{no_block, plain_block, texted, numbered, lettered, publish_block, props_block};
-ghost use Rattle.c_layout_read.specs.Record.{no_span, refused_head, plain_head, head_of, packet_numbers, read_number, encoded};
+ghost use Rattle.c_layout_read.specs.Block.{texted, numbered, lettered, publish_block, props_block};
+ghost use Rattle.c_layout_read.specs.Record.{no_span, plain_head, packet_numbers, read_number, encoded};
 
 use crate::place::{Block, Head, Number, Text};
 use c_layout::store::store;
@@ -25,10 +25,10 @@ use records::ack_record::{Ack, AckKind};
 use records::answer::Read;
 use records::error::Error;
 use records::packet_record::Packet;
-use records::properties_record::MaybeProperties;
-use records::publish_record::{MaybePublishProperties, Publish};
+use records::properties_record::Properties;
+use records::publish_record::{Publish, PublishProperties};
 use records::reply_record::{Reply, ReplyKind};
-use records::span::{Bounds, MaybeSpan, MaybeU8, MaybeU16, MaybeU32, Span};
+use records::span::{Bounds, Span};
 use records::subscribe_record::Subscribe;
 use records::unsubscribe_record::Unsubscribe;
 use refusal_numbers::{number, values};
@@ -53,218 +53,103 @@ fn place_text(p: Span) -> Text
     }
 }
 
-fn u8_number(m: MaybeU8) -> Number
-    ensures { result ≡ numbered (told_u8 m) }
+// A number of any width, widened by its caller.
+fn number_if(m: Option<u64>) -> Number
+    ensures { result ≡ numbered (told_number_if m) }
 {
     match m {
-        MaybeU8::Absent => NO_NUMBER,
-        MaybeU8::Present(n) => Number {
-            on: 1,
-            value: n as u64,
-        },
+        None => NO_NUMBER,
+        Some(value) => Number { on: 1, value },
     }
 }
 
-fn u16_number(m: MaybeU16) -> Number
-    ensures { result ≡ numbered (told_u16 m) }
-{
-    match m {
-        MaybeU16::Absent => NO_NUMBER,
-        MaybeU16::Present(n) => Number {
-            on: 1,
-            value: n as u64,
-        },
-    }
-}
-
-fn u32_number(m: MaybeU32) -> Number
-    ensures { result ≡ numbered (told_u32 m) }
-{
-    match m {
-        MaybeU32::Absent => NO_NUMBER,
-        MaybeU32::Present(n) => Number {
-            on: 1,
-            value: n as u64,
-        },
-    }
-}
-
-fn span_text(m: MaybeSpan) -> Text
+fn span_text(m: Option<Span>) -> Text
     ensures { result ≡ lettered (told_string m) }
 {
     match m {
-        MaybeSpan::Absent => NO_TEXT,
-        MaybeSpan::Present(p) => place_text(p),
+        None => NO_TEXT,
+        Some(p) => place_text(p),
     }
 }
 
 // ---- the properties of each kind
 
-// Of a kind other than Publish.
-fn plain_block(place: Text, reason: Text, subscription: Number) -> Block
-    ensures { result ≡ plain_block place reason subscription }
-{
-    Block {
-        place,
-        format: NO_NUMBER,
-        expiry: NO_NUMBER,
-        alias: NO_NUMBER,
-        response: NO_TEXT,
-        correlation: NO_TEXT,
-        content: NO_TEXT,
-        reason,
-        subscription,
-    }
-}
+const NO_BLOCK: Block = Block {
+    place: NO_TEXT,
+    format: NO_NUMBER,
+    expiry: NO_NUMBER,
+    alias: NO_NUMBER,
+    response: NO_TEXT,
+    correlation: NO_TEXT,
+    content: NO_TEXT,
+    reason: NO_TEXT,
+    subscription: NO_NUMBER,
+};
 
-fn no_block() -> Block
-    ensures { result ≡ no_block }
-{
-    plain_block(NO_TEXT, NO_TEXT, NO_NUMBER)
-}
-
-fn publish_block(m: MaybePublishProperties) -> Block
+fn publish_block(m: Option<PublishProperties>) -> Block
     ensures { result ≡ publish_block (told_publish_block m) }
 {
-    match m {
-        MaybePublishProperties::Absent => no_block(),
-        MaybePublishProperties::Present(p) => {
-            let place = place_text(p.block);
-            let format = p.payload_format_indicator;
-            let format = u8_number(format);
-            let expiry = p.message_expiry_interval;
-            let expiry = u32_number(expiry);
-            let alias = p.topic_alias;
-            let alias = u16_number(alias);
-            let response = p.response_topic;
-            let response = span_text(response);
-            let correlation = p.correlation_data;
-            let correlation = span_text(correlation);
-            let content = p.content_type;
-            let content = span_text(content);
-            Block {
-                place,
-                format,
-                expiry,
-                alias,
-                response,
-                correlation,
-                content,
-                reason: NO_TEXT,
-                subscription: NO_NUMBER,
-            }
-        }
+    let Some(p) = m else {
+        return NO_BLOCK;
+    };
+    Block {
+        place: place_text(p.block),
+        format: number_if(p.payload_format_indicator.map(u64::from)),
+        expiry: number_if(p.message_expiry_interval.map(u64::from)),
+        alias: number_if(p.topic_alias.map(u64::from)),
+        response: span_text(p.response_topic),
+        correlation: span_text(p.correlation_data),
+        content: span_text(p.content_type),
+        ..NO_BLOCK
     }
 }
 
 // Of every kind but Publish.
-fn props_block(m: MaybeProperties) -> Block
+fn props_block(m: Option<Properties>) -> Block
     ensures { result ≡ props_block (told_block m) }
 {
-    match m {
-        MaybeProperties::Absent => no_block(),
-        MaybeProperties::Present(p) => {
-            let reason = p.reason_string;
-            let id = p.id;
-            plain_block(place_text(p.block), span_text(reason), u32_number(id))
-        }
+    let Some(p) = m else {
+        return NO_BLOCK;
+    };
+    Block {
+        place: place_text(p.block),
+        reason: span_text(p.reason_string),
+        subscription: number_if(p.id.map(u64::from)),
+        ..NO_BLOCK
     }
 }
 
 // ---- all but the properties
 
-fn no_span() -> Span
-    ensures { result ≡ no_span }
-{
-    Span { start: 0, len: 0 }
-}
+const NOWHERE: Span = Span { start: 0, len: 0 };
 
-fn refused_head(taken: usize, first: u64, second: u64) -> Head
-    ensures { result ≡ refused_head taken first second }
+const NO_HEAD: Head = Head {
+    taken: 0,
+    first: 0,
+    second: 0,
+    kind: 0,
+    pkid: 0,
+    dup: 0,
+    qos: 0,
+    retain: 0,
+    reason: 0,
+    topic: NOWHERE,
+    payload: NOWHERE,
+    filters: NOWHERE,
+    reasons: NOWHERE,
+    topics: NOWHERE,
+    properties: Bounds { start: 0, end: 0 },
+};
+
+// What every kind has; a ping has no more.
+fn kind_head(taken: usize, kind: Kind, properties: Bounds) -> Head
+    ensures { result ≡ plain_head taken (number_of kind) 0 0 no_span no_span no_span properties }
 {
-    let nowhere = no_span();
-    let properties = Bounds { start: 0, end: 0 };
     Head {
         taken: taken as u64,
-        first,
-        second,
-        kind: 0,
-        pkid: 0,
-        dup: 0,
-        qos: 0,
-        retain: 0,
-        reason: 0,
-        topic: nowhere,
-        payload: nowhere,
-        filters: nowhere,
-        reasons: nowhere,
-        topics: nowhere,
+        kind: number_of(kind) as u64,
         properties,
-    }
-}
-
-fn kind_number(kind: Kind) -> u64
-    ensures { result ≡ number_of kind }
-{
-    number_of(kind) as u64
-}
-
-fn publish_head(taken: usize, properties: Bounds, m: Publish) -> Head
-    ensures { result ≡ head_of taken properties (publish (told_publish m)) }
-{
-    let nowhere = no_span();
-    let qos = m.qos;
-    let topic = m.topic;
-    let payload = m.payload;
-    Head {
-        taken: taken as u64,
-        first: 0,
-        second: 0,
-        kind: kind_number(Kind::Publish),
-        pkid: m.pkid as u64,
-        dup: bit(m.dup) as u64,
-        qos: qos_number(qos) as u64,
-        retain: bit(m.retain) as u64,
-        reason: 0,
-        topic,
-        payload,
-        filters: nowhere,
-        reasons: nowhere,
-        topics: nowhere,
-        properties,
-    }
-}
-
-// Of a kind other than Publish.
-fn plain_head(
-    taken: usize,
-    kind: Kind,
-    pkid: u64,
-    reason: u64,
-    filters: Span,
-    reasons: Span,
-    topics: Span,
-    properties: Bounds,
-) -> Head
-    ensures { result ≡ plain_head taken (number_of kind) pkid reason filters reasons topics properties }
-{
-    let nowhere = no_span();
-    Head {
-        taken: taken as u64,
-        first: 0,
-        second: 0,
-        kind: kind_number(kind),
-        pkid,
-        dup: 0,
-        qos: 0,
-        retain: 0,
-        reason,
-        topic: nowhere,
-        payload: nowhere,
-        filters,
-        reasons,
-        topics,
-        properties,
+        ..NO_HEAD
     }
 }
 
@@ -325,93 +210,66 @@ fn numbers(h: Head, b: Block) -> [u64; 44]
 fn publish_numbers(taken: usize, place: Bounds, m: Publish) -> [u64; 44]
     ensures { result ≡ packet_numbers taken place (publish (told_publish m)) }
 {
-    let properties = m.properties;
-    numbers(publish_head(taken, place, m), publish_block(properties))
+    let head = Head {
+        pkid: m.pkid as u64,
+        dup: bit(m.dup) as u64,
+        qos: qos_number(m.qos) as u64,
+        retain: bit(m.retain) as u64,
+        topic: m.topic,
+        payload: m.payload,
+        ..kind_head(taken, Kind::Publish, place)
+    };
+    numbers(head, publish_block(m.properties))
 }
 
 fn ack_numbers(taken: usize, place: Bounds, kind: AckKind, m: Ack) -> [u64; 44]
     ensures { result ≡ packet_numbers taken place (ack (told_ack_kind kind) (told_ack m)) }
 {
-    let properties = m.properties;
-    let nowhere = no_span();
-    let head = plain_head(
-        taken,
-        Kind::Ack(kind),
-        m.pkid as u64,
-        m.reason as u64,
-        nowhere,
-        nowhere,
-        nowhere,
-        place,
-    );
-    numbers(head, props_block(properties))
+    let head = Head {
+        pkid: m.pkid as u64,
+        reason: m.reason as u64,
+        ..kind_head(taken, Kind::Ack(kind), place)
+    };
+    numbers(head, props_block(m.properties))
 }
 
 fn subscribe_numbers(taken: usize, place: Bounds, m: Subscribe) -> [u64; 44]
     ensures { result ≡ packet_numbers taken place (subscribe (told_subscribe m)) }
 {
-    let filters = m.filters;
-    let properties = m.properties;
-    let nowhere = no_span();
-    let head = plain_head(
-        taken,
-        Kind::Subscribe,
-        m.pkid as u64,
-        0,
-        filters,
-        nowhere,
-        nowhere,
-        place,
-    );
-    numbers(head, props_block(properties))
+    let head = Head {
+        pkid: m.pkid as u64,
+        filters: m.filters,
+        ..kind_head(taken, Kind::Subscribe, place)
+    };
+    numbers(head, props_block(m.properties))
 }
 
 fn reply_numbers(taken: usize, place: Bounds, kind: ReplyKind, m: Reply) -> [u64; 44]
     ensures { result ≡ packet_numbers taken place (reply (told_reply_kind kind) (told_reply m)) }
 {
-    let reasons = m.reasons;
-    let properties = m.properties;
-    let nowhere = no_span();
-    let head = plain_head(
-        taken,
-        Kind::Reply(kind),
-        m.pkid as u64,
-        0,
-        nowhere,
-        reasons,
-        nowhere,
-        place,
-    );
-    numbers(head, props_block(properties))
+    let head = Head {
+        pkid: m.pkid as u64,
+        reasons: m.reasons,
+        ..kind_head(taken, Kind::Reply(kind), place)
+    };
+    numbers(head, props_block(m.properties))
 }
 
 fn unsubscribe_numbers(taken: usize, place: Bounds, m: Unsubscribe) -> [u64; 44]
     ensures { result ≡ packet_numbers taken place (unsubscribe (told_unsubscribe m)) }
 {
-    let topics = m.topics;
-    let properties = m.properties;
-    let nowhere = no_span();
-    let head = plain_head(
-        taken,
-        Kind::Unsubscribe,
-        m.pkid as u64,
-        0,
-        nowhere,
-        nowhere,
-        topics,
-        place,
-    );
-    numbers(head, props_block(properties))
+    let head = Head {
+        pkid: m.pkid as u64,
+        topics: m.topics,
+        ..kind_head(taken, Kind::Unsubscribe, place)
+    };
+    numbers(head, props_block(m.properties))
 }
 
 fn ping_numbers(taken: usize, place: Bounds, kind: Kind) -> [u64; 44]
     ensures { result ≡ packet_numbers taken place (ping (number_of kind)) }
 {
-    let nowhere = no_span();
-    numbers(
-        plain_head(taken, kind, 0, 0, nowhere, nowhere, nowhere, place),
-        no_block(),
-    )
+    numbers(kind_head(taken, kind, place), NO_BLOCK)
 }
 
 fn packet_numbers(taken: usize, place: Bounds, p: Packet) -> [u64; 44]
@@ -434,18 +292,21 @@ fn error_numbers(taken: usize, e: Error) -> [u64; 44]
     ensures { result ≡ encoded (refused_as (told_error e) taken) (bad (told_error e)) }
 {
     let v = values(e);
-    numbers(
-        refused_head(taken, first_value(v), second_value(v)),
-        no_block(),
-    )
+    let head = Head {
+        taken: taken as u64,
+        first: first_value(v),
+        second: second_value(v),
+        ..NO_HEAD
+    };
+    numbers(head, NO_BLOCK)
 }
 
 fn read_numbers(read: Read) -> [u64; 44]
     ensures { result ≡ encoded (told read) (carried read) }
 {
     match read {
-        Read::Packet(p, place, taken) => packet_numbers(taken, place, p),
-        Read::Refused(e, taken) => error_numbers(taken, e),
+        Ok((p, place, taken)) => packet_numbers(taken, place, p),
+        Err((e, taken)) => error_numbers(taken, e),
     }
 }
 
@@ -453,8 +314,8 @@ fn read_number(read: Read) -> u32
     ensures { result ≡ read_number (told read) }
 {
     match read {
-        Read::Packet(_, _, _) => 0,
-        Read::Refused(e, _) => number(e) as u32,
+        Ok(_) => 0,
+        Err((e, _)) => number(e) as u32,
     }
 }
 

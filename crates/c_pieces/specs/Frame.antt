@@ -1,5 +1,6 @@
 -- What C hands over as a state, and what it is handed back: bindings/c/ecchjulmina.h, enum ecch_state_layout and enum ecch_frame_layout. Assumes nothing.
-use Rattle.std.specs.Prelude.{cond, List, [], ◌∷◌, ℕ, eqb, leb, length, get_or}
+use Rattle.std.specs.Prelude as std
+use Rattle.std.specs.Prelude.{cond, List, [], ◌∷◌, ℕ, eqb, leb, length, get_or, Some, None}
 use Rattle.std.proofs.Math.Option.{Option, none, some}
 use Rattle.std.proofs.lemmas.List.Edits.{sets}
 use Rattle.reading.specs.Refusal.{Refusal, nr}
@@ -8,8 +9,8 @@ use Rattle.c_layout.specs.Value.{value_or_zero}
 use Rattle.pieces_rules.specs.Whole.{frame_too_long}
 use Rattle.pieces_rules.specs.Step.{bad_buffer, State, fresh, Gives, more, inPiece, inBuffer, stops, Step, refuses, found_of}
 use Rattle.pieces.specs.PieceAnswer.{told_end, told_state}
-use Rattle.c_pieces.specs.declared.GotEnd.{GotEnd}
-use Rattle.c_pieces.specs.declared.GotState.{GotState}
+use Rattle.pieces.specs.declared.State as piece
+use Rattle.pieces.specs.declared.Stop.{Stop}
 
 -- header, ECCH_STATE_ENDED: "0 while the stream goes on, else the refusal that ended it: 2, 3 or 36"
 abbrev pub end_given : ℕ → ℕ → ℕ → Option (Option Refusal)
@@ -19,9 +20,9 @@ end_given k m n =
     (cond (eqb k 3) (some (some (nr 3 (m ∷ n ∷ []))))
     (cond (eqb k 36) (some (some frame_too_long)) none)))
 
-abbrev pub told_got_end : GotEnd → Option (Option Refusal)
-told_got_end GotEnd.Bad = none
-told_got_end (GotEnd.End e) = some (told_end e)
+abbrev pub told_got_end : std.Option (std.Option Stop) → Option (Option Refusal)
+told_got_end None = none
+told_got_end (Some e) = some (told_end e)
 
 -- so many bytes held, where it is known how the stream stands
 abbrev pub holding : ℕ → Option (Option Refusal) → Option State
@@ -32,9 +33,9 @@ holding i (some e) = some (record { held = i; end = e })
 abbrev pub state_given : List ℕ → Option State
 state_given s = cond (leb 4 (length s)) (holding (get_or s 0 0) (end_given (get_or s 1 0) (get_or s 2 0) (get_or s 3 0))) none
 
-abbrev pub told_got_state : GotState → Option State
-told_got_state GotState.Bad = none
-told_got_state (GotState.State s) = some (told_state s)
+abbrev pub told_got_state : std.Option piece.State → Option State
+told_got_state None = none
+told_got_state (Some s) = some (told_state s)
 
 -- the numbers behind the bytes held: what ended the stream, and its values
 abbrev pub end_numbers : Option Refusal → List ℕ

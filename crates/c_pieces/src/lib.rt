@@ -13,58 +13,43 @@ use c_arguments::number::bound;
 use c_layout::store::store;
 use c_layout::value::{first_value, second_value};
 use pieces;
-use pieces::{End, Given, State, Step, Stop};
-use records::answer::Limit;
+use pieces::{Given, State, Step, Stop};
 use records::error::Error;
 
-#[derive(Clone, Copy)]
-enum GotEnd {
-    Bad,
-    End(End),
-}
-
-#[derive(Clone, Copy)]
-enum GotState {
-    Bad,
-    State(State),
-}
-
 // What has ended the stream, by the refusal's number and values, if it is one that does.
-fn end_of(number: u64, first: u64, second: u64) -> GotEnd
+fn end_of(number: u64, first: u64, second: u64) -> Option<Option<Stop>>
     ensures { told_got_end result ≡ end_given number first second }
 {
     if number == 0 {
-        return GotEnd::End(End::Open);
+        return Some(None);
     }
     if number == 2 {
-        return GotEnd::End(End::Ended(Stop::Header(Error::MalformedRemainingLength)));
+        return Some(Some(Stop::Header(Error::MalformedRemainingLength)));
     }
     if number == 3 {
         let size = first as usize;
         let most = second as usize;
-        return GotEnd::End(End::Ended(Stop::Header(Error::PayloadSizeLimitExceeded(size, most))));
+        return Some(Some(Stop::Header(Error::PayloadSizeLimitExceeded(size, most))));
     }
     if number == 36 {
-        return GotEnd::End(End::Ended(Stop::FrameTooLong));
+        return Some(Some(Stop::FrameTooLong));
     }
-    GotEnd::Bad
+    None
 }
 
 // The state that the numbers stand for.
-fn state_of(state: &[u64]) -> GotState
+fn state_of(state: &[u64]) -> Option<State>
     ensures { told_got_state result ≡ state_given state.now }
 {
     if state.len() < 4 {
-        return GotState::Bad;
+        return None;
     }
     let held = state[0];
-    match end_of(state[1], state[2], state[3]) {
-        GotEnd::Bad => return GotState::Bad,
-        GotEnd::End(end) => return GotState::State(State {
-            held: held as usize,
-            end,
-        }),
-    }
+    let end = end_of(state[1], state[2], state[3])?;
+    Some(State {
+        held: held as usize,
+        end,
+    })
 }
 
 // The numbers that a state is kept as.
@@ -74,44 +59,42 @@ fn state_numbers(state: State) -> [u64; 4]
     let held = state.held as u64;
     let end = state.end;
     match end {
-        End::Open => return [held, 0, 0, 0],
-        End::Ended(why) => {
+        None => [held, 0, 0, 0],
+        Some(why) => {
             let number = pieces::number(why) as u64;
             let v = pieces::values(why);
-            return [held, number, first_value(v), second_value(v)];
+            [held, number, first_value(v), second_value(v)]
         }
     }
 }
 
 // 0, or the refusal's number.
-fn frame_number(given: Given) -> u32
+fn frame_number(given: Result<Given, Stop>) -> u32
     ensures { result ≡ gave_number (told_given given) }
 {
     match given {
-        Given::More => return 0,
-        Given::InPiece(_) => return 0,
-        Given::InBuffer(_) => return 0,
-        Given::Stopped(why) => return pieces::number(why) as u32,
+        Ok(_) => 0,
+        Err(why) => pieces::number(why) as u32,
     }
 }
 
 // The bytes of the piece used up, the refusal's values, where the frame lies, and F.
-fn frame_numbers(given: Given, used: u64) -> [u64; 5]
+fn frame_numbers(given: Result<Given, Stop>, used: u64) -> [u64; 5]
     ensures { result ≡ frame_numbers (told_given given) used }
 {
     match given {
-        Given::More => return [used, 0, 0, 0, 0],
-        Given::InPiece(n) => return [used, 0, 0, 1, n as u64],
-        Given::InBuffer(n) => return [used, 0, 0, 2, n as u64],
-        Given::Stopped(why) => {
+        Ok(Given::More) => [used, 0, 0, 0, 0],
+        Ok(Given::InPiece(n)) => [used, 0, 0, 1, n as u64],
+        Ok(Given::InBuffer(n)) => [used, 0, 0, 2, n as u64],
+        Err(why) => {
             let v = pieces::values(why);
-            return [used, first_value(v), second_value(v), 0, 0];
+            [used, first_value(v), second_value(v), 0, 0]
         }
     }
 }
 
 // The answer's numbers are stored.
-fn store_frame(given: Given, used: usize, into: &mut [u64]) -> u32
+fn store_frame(given: Result<Given, Stop>, used: usize, into: &mut [u64]) -> u32
     ensures number { result ≡ gave_number (told_given given) }
     ensures stored { into.new ≡ sets into.old 0 (frame_numbers (told_given given) used) }
 {
@@ -131,7 +114,7 @@ fn store_state(after: State, state: &mut [u64])
 // The step from the state `before`.
 fn step_from(
     before: State,
-    limit: Limit,
+    limit: Option<usize>,
     state: &mut [u64],
     buffer: &mut [u8],
     piece: &[u8],
@@ -146,24 +129,18 @@ fn step_from(
 }
 
 // The step from the state that the numbers stand for; 35 if they stand for none, and nothing changes.
-fn step_of(limit: Limit, state: &mut [u64], buffer: &mut [u8], piece: &[u8]) -> Step
+fn step_of(limit: Option<usize>, state: &mut [u64], buffer: &mut [u8], piece: &[u8]) -> Step
     ensures step { told_step result buffer.new ≡ frame_for (limit_of limit) state.old buffer.old piece.now }
     ensures kept { state.new ≡ state_after state.old (told_state result.state) }
 {
-    match state_of(&*state) {
-        GotState::Bad => return Step {
-            given: Given::Stopped(Stop::BadBuffer),
+    let Some(before) = state_of(&*state) else {
+        return Step {
+            given: Err(Stop::BadBuffer),
             used: 0,
             state: pieces::start(),
-        },
-        GotState::State(before) => return step_from(
-            before,
-            limit,
-            &mut *state,
-            &mut *buffer,
-            piece,
-        ),
-    }
+        };
+    };
+    step_from(before, limit, &mut *state, &mut *buffer, piece)
 }
 
 // The next frame, of the bytes held and the piece behind them: 0, or the refusal's number; 35 too where the numbers stand for no state.

@@ -16,8 +16,8 @@ fn tidied_number(t: Tidied) -> u32
     ensures { result ≡ tidy_number (told_tidied t) }
 {
     match t {
-        Tidied::Put(_, _) => 0,
-        Tidied::Refused(e, _) => number(e) as u32,
+        Ok(_) => 0,
+        Err((e, _)) => number(e) as u32,
     }
 }
 
@@ -26,8 +26,8 @@ fn tidied_numbers(t: Tidied) -> [u64; 4]
     ensures { result ≡ tidy_numbers (told_tidied t) }
 {
     match t {
-        Tidied::Put(size, taken) => [size as u64, 0, 0, taken as u64],
-        Tidied::Refused(e, taken) => {
+        Ok((size, taken)) => [size as u64, 0, 0, taken as u64],
+        Err((e, taken)) => {
             let v = values(e);
             [0, first_value(v), second_value(v), taken as u64]
         }

@@ -9,10 +9,7 @@ ghost use Rattle.topics.specs.Match.{matches_of};
 fn flag(b: bool) -> u8
     ensures { result ≡ flag_of b }
 {
-    if b {
-        return 1;
-    }
-    0
+    u8::from(b)
 }
 
 // Does a topic or filter have wildcards? 1 or 0, here and below.

@@ -5,9 +5,10 @@ ghost use Rattle.records.specs.Answered.{told_user};
 ghost use Rattle.c_layout.specs.Value.{fit_number};
 ghost use Rattle.c_walk.specs.Next.{Steps, step_numbers, Stored};
 
+use c_layout::answer::item_number;
 use c_layout::store::store;
-use kinds::{KindRow, row_of};
-use records::answer::UserItem;
+use kinds::row_of;
+use records::span::Span;
 use walker::{Step, step_at};
 
 // In the row of a kind, if it has one.
@@ -15,35 +16,23 @@ fn step_given(frame: &[u8], kind: u8, at: usize, end: usize) -> Step
     ensures { Steps (row_of_kind kind) frame.now end at (told_user result.item) result.at }
 {
     match row_of(kind) {
-        KindRow::Of(place) => return step_at(frame, at, end, place),
-        KindRow::NoBlock => {
-            let item = UserItem::NoItem;
-            return Step { item, at };
-        }
+        Some(place) => step_at(frame, at, end, place),
+        None => Step { item: None, at },
     }
 }
 
-fn step_number(item: UserItem) -> u32
-    ensures { result ≡ fit_number (told_user item) }
-{
-    match item {
-        UserItem::Pair(_, _) => 0,
-        UserItem::NoItem => 21,
-    }
-}
-
-fn step_numbers(next: usize, item: UserItem) -> [u64; 5]
+fn step_numbers(next: usize, item: Option<(Span, Span)>) -> [u64; 5]
     ensures { result ≡ step_numbers next (told_user item) }
 {
     match item {
-        UserItem::Pair(k, v) => [
+        Some((k, v)) => [
             next as u64,
             k.start as u64,
             k.len as u64,
             v.start as u64,
             v.len as u64,
         ],
-        UserItem::NoItem => [next as u64, 0, 0, 0, 0],
+        None => [next as u64, 0, 0, 0, 0],
     }
 }
 
@@ -55,5 +44,5 @@ pub fn ecch_next_user(frame: &[u8], kind: u8, at: usize, end: usize, into: &mut 
     let item = t.item;
     let numbers = step_numbers(t.at, item);
     store(&mut *into, &numbers);
-    step_number(item)
+    item_number(item)
 }

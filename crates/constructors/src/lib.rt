@@ -4,7 +4,7 @@
 
 ghost use Rattle.std.specs.Prelude.{◌≡◌, List, ℕ};
 ghost use Rattle.writing.specs.Handed.{ack};
-ghost use Rattle.records.specs.AsNumbers.{told_ack_kind, number_u32};
+ghost use Rattle.records.specs.AsNumbers.{told_ack_kind, number_if};
 ghost use Rattle.ack_write.specs.Handed as acknowledging;
 ghost use Rattle.subscribe_write.specs.Handed as subscribing;
 ghost use Rattle.constructors.specs.New.{header_of, told_header, new_ack, new_subscribe};
@@ -12,7 +12,6 @@ ghost use Rattle.constructors.specs.New.{header_of, told_header, new_ack, new_su
 use ack_write::AckHead;
 use framing::header::FixedHeader;
 use records::ack_record::AckKind;
-use records::span::MaybeU32;
 use subscribe_write::SubscribeHead;
 
 // The first byte, one more than the bytes that spell R (the largest usize where there is no such number), and R.
@@ -48,8 +47,8 @@ pub fn new_ack(kind: AckKind, pkid: u16, block: bool, reason_string: bool) -> Ac
 }
 
 // The identifier is 0, as in the crate, until it is set.
-pub fn new_subscribe(block: bool, id: MaybeU32) -> SubscribeHead
-    ensures { (user lengths filters filterLengths options : List ℕ) → subscribing.handed result user lengths filters filterLengths options ≡ new_subscribe block (number_u32 id) user lengths filters filterLengths options }
+pub fn new_subscribe(block: bool, id: Option<u32>) -> SubscribeHead
+    ensures { (user lengths filters filterLengths options : List ℕ) → subscribing.handed result user lengths filters filterLengths options ≡ new_subscribe block (number_if id) user lengths filters filterLengths options }
 {
     SubscribeHead { pkid: 0, block, id }
 }

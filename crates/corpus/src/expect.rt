@@ -6,14 +6,9 @@ fn stored(f: &[u8], at: usize) -> [u64; 256] {
     let mut numbers = [0; 256];
     let n = file::byte(f, file::after(f, at, 1), 0);
     let mut next = file::after(f, at, 2);
-    let mut i: u8 = 0;
-    while i < n {
-        let k = file::byte(f, next, 0) as usize;
-        if k < 256 {
-            numbers[k] = file::number(f, file::after(f, next, 1), 4);
-        }
+    for _ in 0..n {
+        numbers[file::byte(f, next, 0) as usize] = file::number(f, file::after(f, next, 1), 4);
         next = file::after(f, next, 5);
-        i = i + 1;
     }
     numbers
 }
@@ -21,22 +16,15 @@ fn stored(f: &[u8], at: usize) -> [u64; 256] {
 // The k-th number from an index on.
 pub fn number(numbers: &[u64], from: usize, k: usize) -> u64 {
     let at = std::num::wrapping_add_usize(from, k);
-    if at < numbers.len() {
-        return numbers[at];
-    }
-    0
+    numbers.get(at).copied().unwrap_or(0)
 }
 
 // Are they the stored numbers, and is every stored number past their end 0?
 fn same_numbers(a: &[u64], stored: &[u64]) -> bool {
-    let mut k: usize = 0;
-    while k < stored.len() {
-        if number(a, 0, k) != stored[k] {
-            return false;
-        }
-        k = k + 1;
-    }
-    true
+    stored
+        .iter()
+        .enumerate()
+        .all(|(k, n)| number(a, 0, k) == *n)
 }
 
 // Is the answer as the k-th field says: the refusal's number or 0, and every number of the array? k if it is not.
@@ -70,26 +58,13 @@ pub fn answers(
 
 // An output before the call.
 pub fn filled(b: u8) -> [u8; 128] {
-    let mut out = [0; 128];
-    let mut k: usize = 0;
-    while k < 128 {
-        out[k] = b;
-        k = k + 1;
-    }
-    out
+    [b; 128]
 }
 
 // Has the output what is put, and b in every byte after it?
 pub fn is_output(out: &[u8], put: &[u8], b: u8) -> bool {
-    if out.len() < put.len() {
-        return false;
+    match out.split_at_checked(put.len()) {
+        None => false,
+        Some((front, rest)) => front == put && rest.iter().all(|x| *x == b),
     }
-    let mut k: usize = 0;
-    while k < out.len() {
-        if out[k] != file::byte(put, k, b) {
-            return false;
-        }
-        k = k + 1;
-    }
-    true
 }

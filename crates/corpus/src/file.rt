@@ -21,21 +21,16 @@ pub fn after(f: &[u8], at: usize, n: usize) -> usize {
 
 // The byte at the index; past the end, the one that is given.
 pub fn byte(s: &[u8], at: usize, past: u8) -> u8 {
-    if at < s.len() {
-        return s[at];
-    }
-    past
+    s.get(at).copied().unwrap_or(past)
 }
 
 // The number that n bytes make, or the last eight of them.
 pub fn number(f: &[u8], at: usize, n: u8) -> u64 {
     let mut value: u64 = 0;
     let mut next = at;
-    let mut i: u8 = 0;
-    while i < n {
+    for _ in 0..n {
         value = value % 72057594037927936 * 256 + byte(f, next, 0) as u64;
         next = after(f, next, 1);
-        i = i + 1;
     }
     value
 }
@@ -79,21 +74,12 @@ fn kept(f: &[u8], at: usize, letter: u8) -> usize {
     number(f, at, letter) as usize
 }
 
-fn keep(v: &mut [usize], k: usize, n: usize) {
-    if k < v.len() {
-        v[k] = n;
-    }
-}
-
 // Keeps each field, and gives the index after the last.
 pub fn walk(f: &[u8], at: usize, fields: &[u8], v: &mut [usize]) -> usize {
     let mut next = at;
-    let mut k: usize = 0;
-    while k < fields.len() {
-        let letter = fields[k];
-        keep(&mut *v, k, kept(f, next, letter));
-        next = after_field(f, next, letter);
-        k = k + 1;
+    for (letter, place) in fields.iter().zip(v) {
+        *place = kept(f, next, *letter);
+        next = after_field(f, next, *letter);
     }
     next
 }
@@ -101,10 +87,7 @@ pub fn walk(f: &[u8], at: usize, fields: &[u8], v: &mut [usize]) -> usize {
 // ---- what was kept
 
 pub fn value(v: &[usize], k: usize) -> usize {
-    if k < v.len() {
-        return v[k];
-    }
-    LOST
+    v.get(k).copied().unwrap_or(LOST)
 }
 
 // A number of one byte, of two, of four.
@@ -134,11 +117,9 @@ pub fn lengths(f: &[u8], v: &[usize], at: usize) -> [usize; 9] {
     let place = value(v, at);
     list[8] = number(f, place, 2) as usize;
     let mut next = after(f, place, 2);
-    let mut k: usize = 0;
-    while k < LIST {
-        list[k] = number(f, next, 4) as usize;
+    for n in &mut list[..LIST] {
+        *n = number(f, next, 4) as usize;
         next = after(f, next, 4);
-        k = k + 1;
     }
     list
 }
@@ -153,31 +134,19 @@ pub fn identifiers(f: &[u8], v: &[usize], at: usize) -> [u32; 9] {
     let place = value(v, at);
     list[8] = (number(f, place, 2) % 65536) as u32;
     let mut next = after(f, place, 2);
-    let mut k: usize = 0;
-    while k < LIST {
-        list[k] = four(f, next);
+    for n in &mut list[..LIST] {
+        *n = four(f, next);
         next = after(f, next, 4);
-        k = k + 1;
     }
     list
 }
 
 // The list alone.
-pub fn of_lengths<'a>(list: &'a [usize]) -> &'a [usize] {
-    let n = value(list, LIST);
-    if list.len() < n {
-        return &list[..0];
-    }
-    &list[..n]
+pub fn of_lengths(list: &[usize]) -> &[usize] {
+    list.get(..value(list, LIST)).unwrap_or(&[])
 }
 
-pub fn of_identifiers<'a>(list: &'a [u32]) -> &'a [u32] {
-    if list.len() <= LIST {
-        return &list[..0];
-    }
-    let n = list[LIST] as usize;
-    if list.len() < n {
-        return &list[..0];
-    }
-    &list[..n]
+pub fn of_identifiers(list: &[u32]) -> &[u32] {
+    let n = list.get(LIST).copied().unwrap_or(0) as usize;
+    list.get(..n).unwrap_or(&[])
 }

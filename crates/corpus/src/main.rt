@@ -62,9 +62,7 @@ fn damaged(to: Stdout, k: u64) {
 fn every_row(to: Stdout, f: &[u8], tally: &mut [u64]) -> usize {
     let n = file::number(f, 0, 4);
     let mut at = file::after(f, 0, 4);
-    let mut k: u64 = 0;
-    while k < n {
-        k = k + 1;
+    for k in 1..=n {
         let mut v = [LOST; 31];
         at = row::fields_at(f, at, &mut v);
         if at == LOST {
@@ -81,11 +79,9 @@ fn whole(to: Stdout, f: &[u8]) {
     let mut tally = [0; 1943];
     let end = every_row(to, f, &mut tally);
     tally::lines(to, &tally);
-    if end == f.len() {
-        if end < 2097152 {
-            tally::total(to, &tally);
-            return;
-        }
+    if end == f.len() && end < 2097152 {
+        tally::total(to, &tally);
+        return;
     }
     tally::put(to, b"DAMAGED: the file does not end with its last row\n");
 }

@@ -4,9 +4,7 @@
 // counted: the sizes of reads.
 use crate::expect::number;
 use crate::{file, row};
-use records::span::Span;
 use std::io::{Print, Stdout};
-use wire::string;
 
 // How many counts a group has.
 const GROUP: usize = 67;
@@ -28,8 +26,8 @@ const ALL: usize = 66;
 // So many more.
 pub fn add(tally: &mut [u64], group: usize, k: usize, n: u64) {
     let at = std::num::wrapping_add_usize(group, k);
-    if at < tally.len() {
-        tally[at] = std::num::wrapping_add_u64(tally[at], n);
+    if let Some(count) = tally.get_mut(at) {
+        *count = count.wrapping_add(n);
     }
 }
 
@@ -121,10 +119,8 @@ fn count(to: Stdout, tally: &[u64], words: &[u8], group: usize, k: usize) {
 // The rest of a line: the first count of the group, then each with its number.
 fn counts(to: Stdout, tally: &[u64], first: &[u8], words: &[u8], group: usize) {
     say(to, first, number(tally, group, 0));
-    let mut k: usize = 1;
-    while k < OTHERWISE {
+    for k in 1..OTHERWISE {
         count(to, tally, words, group, k);
-        k = k + 1;
     }
     put(to, b"\n");
 }
@@ -136,17 +132,10 @@ fn line(to: Stdout, tally: &[u64], words: &[u8], name: &[u8], group: usize) {
     counts(to, tally, b"; accepted: ", b"; refused ", group);
 }
 
-// A line for each group up to an end, by words and a name, which has its length before it.
+// A line for each group up to an end, by words and a name; a comma stands between two names.
 fn groups(to: Stdout, tally: &[u64], words: &[u8], names: &[u8], first: usize, end: usize) {
-    let mut at: usize = 0;
-    let mut k = first;
-    while k < end {
-        let from = file::after(names, at, 1);
-        let len = file::byte(names, at, 0) as usize;
-        let name = Span { start: from, len };
-        line(to, tally, words, string::part(names, name), start(k));
-        at = file::after(names, from, len);
-        k = k + 1;
+    for (k, name) in (first..end).zip(names.split(|b| *b == b',')) {
+        line(to, tally, words, name, start(k));
     }
 }
 
@@ -156,7 +145,7 @@ fn kinds(to: Stdout, tally: &[u64], words: &[u8], first: usize, end: usize) {
         to,
         tally,
         words,
-        b"\x07Publish\x06PubAck\x06PubRec\x06PubRel\x07PubComp\x09Subscribe\x06SubAck\x0BUnsubscribe\x08UnsubAck\x07PingReq\x08PingResp",
+        b"Publish,PubAck,PubRec,PubRel,PubComp,Subscribe,SubAck,Unsubscribe,UnsubAck,PingReq,PingResp",
         first,
         end,
     );
@@ -167,7 +156,7 @@ pub fn lines(to: Stdout, tally: &[u64]) {
         to,
         tally,
         b"",
-        b"\x05reads\x0Fuser properties\x18subscription identifiers\x07filters\x07reasons\x06topics",
+        b"reads,user properties,subscription identifiers,filters,reasons,topics",
         READ,
         GROUPS,
     );

@@ -10,6 +10,7 @@ use lib.Bits.{bit_and, and_mask, mask_lt, bit_xor, xor_step, xor_comm, xor_zero_
 use native.Mathlib.Numerals.{add-one}
 use lib.ListN.{length, get_or, take, drop, drop_of_length-le, take-append-drop}
 use lib.Seq.{drop-cons, drop-drop}
+use Rattle.std.specs.Simd.{first_chunks}
 use Rattle.crc32.specs.Crc.{shift, shifts, byte_in, bytes_in, crc_of, polynomial, all_ones}
 use Rattle.crc32.specs.Tables.{Tables}
 
@@ -255,6 +256,28 @@ eight_more {s} {start} {r} {x} {i} p e h = record {
       ∙ bytes_append r (take 8 (drop i s)) (drop 8 (drop i s))
       ∙ ap₂ (λ (n : ℕ) (t : List ℕ). bytes_in n t) (sym e) (drop-drop 8 i s);
 }
+
+-- chunk i of eight bytes
+pub chunk_at : (k : ℕ) (s : List ℕ) (i : ℕ) (d : List ℕ) → i < k → get_or (first_chunks 8 k s) i d ≡ take 8 (drop (8 * i) s)
+chunk_at zero s i d h = absurd (not-suc-le-zero h)
+chunk_at (suc k) s zero d h = refl
+chunk_at (suc k) s (suc i) d h =
+    chunk_at k (drop 8 s) i d (omega arith)
+    ∙ ap (take 8) (drop-drop (8 * i) 8 s ∙ (let e : 8 + 8 * i ≡ 8 * suc i = omega arith in ap (λ (n : ℕ). drop n s) e))
+
+-- the chunk at i goes in
+pub chunk_more : {s : List ℕ} {cs : List (List ℕ)} {start r x i : ℕ} (d : List ℕ) → Passed s start r (8 * i) → cs ≡ first_chunks 8 (length s / 8) s → i < length s / 8
+    → x ≡ bytes_in r (get_or cs i d) → Passed s start x (8 * (i + 1))
+chunk_more {s} {cs} {start} {r} {x} {i} d p q h e =
+    let g : 8 * i + 8 ≡ 8 * (i + 1) = omega arith in
+    subst (λ (n : ℕ). Passed s start x n) g
+    (eight_more p (e ∙ ap (λ (ds : List (List ℕ)). bytes_in r (get_or ds i d)) q ∙ ap (bytes_in r) (chunk_at (length s / 8) s i d h)) (omega arith))
+
+-- all chunks are in, and then what is behind them
+pub chunks_passed : {s t : List ℕ} {start r x i k : ℕ} → Passed s start r (8 * i) → k ≡ length s / 8 → t ≡ drop (length s / 8 * 8) s → i ≤ k → k ≤ i → x ≡ bytes_in r t → x ≡ start
+chunks_passed {s} {t} {start} {r} {x} {i} {k} p q e g h f =
+    let u : length s / 8 * 8 ≡ 8 * i = omega (arith, q, g, h) in
+    f ∙ ap (bytes_in r) (e ∙ ap (λ (n : ℕ). drop n s) u) ∙ sym p.decides
 
 pub all_passed : {s : List ℕ} {start r i : ℕ} → Passed s start r i → length s ≤ i → r ≡ start
 unfolding bytes_in

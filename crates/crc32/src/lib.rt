@@ -2,7 +2,7 @@
 // byte by a table of its own; specs/Crc.antt says it bit by bit.
 #![tactic(auto)]
 
-ghost use Rattle.std.specs.Prelude.{◌≡◌, ◌+◌, ◌*◌, ◌%◌, ◌≤◌, ◌<◌, length, drop, take};
+ghost use Rattle.std.specs.Prelude.{◌≡◌, ◌+◌, ◌*◌, ◌%◌, ◌≤◌, ◌<◌};
 ghost use Rattle.std.specs.Int.Bits.{bit_xor};
 ghost use Rattle.crc32.specs.Crc.{shifts, byte_in, bytes_in, crc_of, all_ones};
 ghost use Rattle.crc32.specs.Tables.{Tables};
@@ -43,18 +43,12 @@ const TABLES: [u32; 256] = [
     3642757804,
 ];
 
-fn wide(x: u8) -> u32
-    ensures { result ≡ x }
-{
-    x as u32
-}
-
 // What the low byte of the register and a byte of input come to when k bytes more have gone through.
 fn pass(tables: &[u32], k: usize, r: u32, b: u8) -> u32
     requires { Tables tables.now × (k < 8) }
     ensures { result ≡ shifts (8 * k + 8) (bit_xor (r % 256) b) }
 {
-    let x = ((r ^ wide(b)) & 255) as usize;
+    let x = ((r ^ u32::from(b)) & 255) as usize;
     let high = 32 * k + x / 16;
     let low = 32 * k + 16 + x % 16;
     tables[high] ^ tables[low]
@@ -68,34 +62,32 @@ fn one(tables: &[u32], r: u32, b: u8) -> u32
     (r >> 8) ^ pass(tables, 0, r, b)
 }
 
-// The register after the eight bytes at an index.
-fn eight(tables: &[u32], r: u32, s: &[u8], at: usize) -> u32
-    requires { Tables tables.now × (at + 8 ≤ length s.now) }
-    ensures { result ≡ bytes_in r (take 8 (drop at s.now)) }
+// The register after eight bytes.
+fn eight(tables: &[u32], r: u32, s: &[u8; 8]) -> u32
+    requires { Tables tables.now }
+    ensures { result ≡ bytes_in r s.now }
 {
     let r1 = r >> 8;
     let r2 = r1 >> 8;
     let r3 = r2 >> 8;
-    pass(tables, 0, 0, s[at + 7])
-        ^ pass(tables, 1, 0, s[at + 6])
-        ^ pass(tables, 2, 0, s[at + 5])
-        ^ pass(tables, 3, 0, s[at + 4])
-        ^ pass(tables, 4, r3, s[at + 3])
-        ^ pass(tables, 5, r2, s[at + 2])
-        ^ pass(tables, 6, r1, s[at + 1])
-        ^ pass(tables, 7, r, s[at])
+    pass(tables, 0, 0, s[7])
+        ^ pass(tables, 1, 0, s[6])
+        ^ pass(tables, 2, 0, s[5])
+        ^ pass(tables, 3, 0, s[4])
+        ^ pass(tables, 4, r3, s[3])
+        ^ pass(tables, 5, r2, s[2])
+        ^ pass(tables, 6, r1, s[1])
+        ^ pass(tables, 7, r, s[0])
 }
 
-// The register after the bytes from an index on, one by one.
-fn rest(tables: &[u32], r: u32, s: &[u8], at: usize) -> u32
-    requires { Tables tables.now × (at ≤ length s.now) }
-    ensures { result ≡ bytes_in r (drop at s.now) }
+// The register after the bytes, one by one.
+fn rest(tables: &[u32], r: u32, s: &[u8]) -> u32
+    requires { Tables tables.now }
+    ensures { result ≡ bytes_in r s.now }
 {
     let mut x = r;
-    let mut i = at;
-    while i < s.len() {
-        x = one(tables, x, s[i]);
-        i += 1;
+    for b in s {
+        x = one(tables, x, *b);
     }
     x
 }
@@ -105,13 +97,12 @@ fn all(tables: &[u32], s: &[u8]) -> u32
     requires { Tables tables.now }
     ensures { result ≡ bytes_in all_ones s.now }
 {
-    let mut r: u32 = 4294967295;
-    let mut i = 0;
-    while 8 <= s.len() - i {
-        r = eight(tables, r, s, i);
-        i += 8;
+    let (eights, tail) = s.as_chunks::<8>();
+    let mut r: u32 = u32::MAX;
+    for e in eights {
+        r = eight(tables, r, e);
     }
-    rest(tables, r, s, i)
+    rest(tables, r, tail)
 }
 
 // The CRC-32 of all bytes of `s`.
@@ -119,5 +110,5 @@ pub fn crc32(s: &[u8]) -> u32
     ensures { result ≡ crc_of s.now }
 {
     let tables = TABLES;
-    all(&tables, s) ^ 4294967295
+    all(&tables, s) ^ u32::MAX
 }

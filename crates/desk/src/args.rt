@@ -14,11 +14,8 @@ fn with_arg(rt: HostRuntime, mut a: Asked, i: usize) -> Asked {
 
 pub fn read(rt: HostRuntime) -> Asked {
     let mut a = desk_arguments::none();
-    let n = outside::word_count(&rt);
-    let mut i: usize = 1;
-    while i < n {
+    for i in 1..outside::word_count(&rt) {
         a = with_arg(rt, a, i);
-        i = i + 1;
     }
     desk_arguments::ended(a)
 }

@@ -1,20 +1,20 @@
 // One field of a line: a space, its name, `=` and its value. The name is lent with what stands around it, the first quote included.
 use crate::output;
-use records::answer::Limit;
-use records::span::{MaybeSpan, MaybeU8, MaybeU16, MaybeU32, Span};
+use crate::output::At;
+use records::span::Span;
 use std::io::Stdout;
 use wire::string;
 
-pub fn number(to: Stdout, out: &mut [u8], at: usize, name: &[u8], n: u64) -> usize {
+pub fn number(to: Stdout, out: &mut [u8], at: At, name: &[u8], n: u64) -> At {
     let value = output::word(to, &mut *out, at, name);
     output::decimal(to, &mut *out, value, n)
 }
 
-pub fn id(to: Stdout, out: &mut [u8], at: usize, pkid: u16) -> usize {
+pub fn id(to: Stdout, out: &mut [u8], at: At, pkid: u16) -> At {
     number(to, &mut *out, at, b" id=", pkid as u64)
 }
 
-pub fn reason(to: Stdout, out: &mut [u8], at: usize, b: u8) -> usize {
+pub fn reason(to: Stdout, out: &mut [u8], at: At, b: u8) -> At {
     let value = output::word(to, &mut *out, at, b" reason=0x");
     output::hex(to, &mut *out, value, b)
 }
@@ -23,27 +23,19 @@ pub fn reason(to: Stdout, out: &mut [u8], at: usize, b: u8) -> usize {
 pub fn part(
     to: Stdout,
     out: &mut [u8],
-    at: usize,
+    at: At,
     name: &[u8],
     ascii: bool,
     s: &[u8],
     place: Span,
-) -> usize {
+) -> At {
     let value = output::word(to, &mut *out, at, name);
     let end = output::shown(to, &mut *out, value, string::part(s, place), ascii);
     output::word(to, &mut *out, end, b"\"")
 }
 
 // The first n bytes of a payload, and how many it has.
-fn cut(
-    to: Stdout,
-    out: &mut [u8],
-    at: usize,
-    ascii: bool,
-    s: &[u8],
-    place: Span,
-    n: usize,
-) -> usize {
+fn cut(to: Stdout, out: &mut [u8], at: At, ascii: bool, s: &[u8], place: Span, n: usize) -> At {
     let front = Span {
         start: place.start,
         len: n,
@@ -56,13 +48,13 @@ fn cut(
 pub fn payload(
     to: Stdout,
     out: &mut [u8],
-    at: usize,
+    at: At,
     ascii: bool,
     s: &[u8],
     place: Span,
-    most: Limit,
-) -> usize {
-    if let Limit::AtMost(n) = most {
+    most: Option<usize>,
+) -> At {
+    if let Some(n) = most {
         if n < place.len {
             return cut(to, &mut *out, at, ascii, s, place, n);
         }
@@ -71,38 +63,38 @@ pub fn payload(
 }
 
 // The fields that may be absent, and are then no field.
-pub fn u8_if(to: Stdout, out: &mut [u8], at: usize, name: &[u8], n: MaybeU8) -> usize {
+pub fn u8_if(to: Stdout, out: &mut [u8], at: At, name: &[u8], n: Option<u8>) -> At {
     match n {
-        MaybeU8::Absent => at,
-        MaybeU8::Present(x) => number(to, &mut *out, at, name, x as u64),
+        None => at,
+        Some(x) => number(to, &mut *out, at, name, x as u64),
     }
 }
 
-pub fn u16_if(to: Stdout, out: &mut [u8], at: usize, name: &[u8], n: MaybeU16) -> usize {
+pub fn u16_if(to: Stdout, out: &mut [u8], at: At, name: &[u8], n: Option<u16>) -> At {
     match n {
-        MaybeU16::Absent => at,
-        MaybeU16::Present(x) => number(to, &mut *out, at, name, x as u64),
+        None => at,
+        Some(x) => number(to, &mut *out, at, name, x as u64),
     }
 }
 
-pub fn u32_if(to: Stdout, out: &mut [u8], at: usize, name: &[u8], n: MaybeU32) -> usize {
+pub fn u32_if(to: Stdout, out: &mut [u8], at: At, name: &[u8], n: Option<u32>) -> At {
     match n {
-        MaybeU32::Absent => at,
-        MaybeU32::Present(x) => number(to, &mut *out, at, name, x as u64),
+        None => at,
+        Some(x) => number(to, &mut *out, at, name, x as u64),
     }
 }
 
 pub fn part_if(
     to: Stdout,
     out: &mut [u8],
-    at: usize,
+    at: At,
     name: &[u8],
     ascii: bool,
     s: &[u8],
-    place: MaybeSpan,
-) -> usize {
+    place: Option<Span>,
+) -> At {
     match place {
-        MaybeSpan::Absent => at,
-        MaybeSpan::Present(p) => part(to, &mut *out, at, name, ascii, s, p),
+        None => at,
+        Some(p) => part(to, &mut *out, at, name, ascii, s, p),
     }
 }

@@ -1,4 +1,5 @@
 // The field of the topic in force, where a Publish leaves its own empty; or of the refusal, where it has none.
+use crate::output::At;
 use crate::{field, output};
 use alias::{AliasError, Placed};
 use records::publish_record::Publish;
@@ -7,7 +8,7 @@ use std::io::Stdout;
 use wire::string;
 
 // The number, and the name behind it.
-fn refused(to: Stdout, out: &mut [u8], at: usize, e: AliasError) -> usize {
+fn refused(to: Stdout, out: &mut [u8], at: At, e: AliasError) -> At {
     let number = alias::number(e);
     let name = refusal_names::name_at(number as u32);
     let bytes = name.bytes;
@@ -23,15 +24,15 @@ fn refused(to: Stdout, out: &mut [u8], at: usize, e: AliasError) -> usize {
 pub fn topic(
     to: Stdout,
     out: &mut [u8],
-    at: usize,
+    at: At,
     ascii: bool,
     s: &[u8],
     table: &[u8],
     m: Publish,
-) -> usize {
+) -> At {
     match alias::place_in_force(s, table, m) {
-        Placed::InPacket(_) => at,
-        Placed::InTable(p) => field::part(
+        Ok(Placed::InPacket(_)) => at,
+        Ok(Placed::InTable(p)) => field::part(
             to,
             &mut *out,
             at,
@@ -40,6 +41,6 @@ pub fn topic(
             table,
             p,
         ),
-        Placed::Refused(e) => refused(to, &mut *out, at, e),
+        Err(e) => refused(to, &mut *out, at, e),
     }
 }

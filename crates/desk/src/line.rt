@@ -1,11 +1,12 @@
 // The line of a packet whose frame starts at `offset` of the stream and takes `taken` bytes of it, put into the output from place `at` on.
+use crate::output::At;
 use crate::{field, force, list, output};
 use desk_arguments::Style;
 use qos_numbers;
 use records::ack_record::Ack;
 use records::packet_record::Packet;
-use records::properties_record::MaybeProperties;
-use records::publish_record::{MaybePublishProperties, Publish, PublishProperties};
+use records::properties_record::Properties;
+use records::publish_record::{Publish, PublishProperties};
 use records::reply_record::Reply;
 use records::span::Span;
 use records::subscribe_record::Subscribe;
@@ -15,14 +16,14 @@ use tables::property::PropertyRow;
 use wire::string;
 
 // The identifier, which a Publish has at QoS 1 and 2.
-fn identifier(to: Stdout, out: &mut [u8], at: usize, q: u8, pkid: u16) -> usize {
+fn identifier(to: Stdout, out: &mut [u8], at: At, q: u8, pkid: u16) -> At {
     if q == 0 {
         return at;
     }
     field::id(to, &mut *out, at, pkid)
 }
 
-fn flags(to: Stdout, out: &mut [u8], at: usize, dup: bool, q: u8, retain: bool) -> usize {
+fn flags(to: Stdout, out: &mut [u8], at: At, dup: bool, q: u8, retain: bool) -> At {
     let mut text = *b" dup=0 qos=0 retain=0";
     text[5] = output::digit(dup as u8);
     text[11] = output::digit(q);
@@ -33,12 +34,12 @@ fn flags(to: Stdout, out: &mut [u8], at: usize, dup: bool, q: u8, retain: bool) 
 fn publish_head(
     to: Stdout,
     out: &mut [u8],
-    at: usize,
+    at: At,
     ascii: bool,
     s: &[u8],
     table: &[u8],
     m: Publish,
-) -> usize {
+) -> At {
     let qos = m.qos;
     let q = qos_numbers::qos_number(qos);
     let a = flags(to, &mut *out, at, m.dup, q, m.retain);
@@ -50,11 +51,11 @@ fn publish_head(
 fn publish_singles(
     to: Stdout,
     out: &mut [u8],
-    at: usize,
+    at: At,
     ascii: bool,
     s: &[u8],
     p: PublishProperties,
-) -> usize {
+) -> At {
     let format = p.payload_format_indicator;
     let expiry = p.message_expiry_interval;
     let alias = p.topic_alias;
@@ -78,11 +79,11 @@ fn publish_singles(
 fn publish_properties(
     to: Stdout,
     out: &mut [u8],
-    at: usize,
+    at: At,
     ascii: bool,
     s: &[u8],
     p: PublishProperties,
-) -> usize {
+) -> At {
     let block = p.block;
     let content = p.content_type;
     let a = publish_singles(to, &mut *out, at, ascii, s, p);
@@ -94,26 +95,26 @@ fn publish_properties(
 fn publish_block(
     to: Stdout,
     out: &mut [u8],
-    at: usize,
+    at: At,
     ascii: bool,
     s: &[u8],
-    properties: MaybePublishProperties,
-) -> usize {
+    properties: Option<PublishProperties>,
+) -> At {
     match properties {
-        MaybePublishProperties::Absent => at,
-        MaybePublishProperties::Present(p) => publish_properties(to, &mut *out, at, ascii, s, p),
+        None => at,
+        Some(p) => publish_properties(to, &mut *out, at, ascii, s, p),
     }
 }
 
 fn publish_of(
     to: Stdout,
     out: &mut [u8],
-    at: usize,
+    at: At,
     s: &[u8],
     table: &[u8],
     style: Style,
     m: Publish,
-) -> usize {
+) -> At {
     let properties = m.properties;
     let a = publish_head(to, &mut *out, at, style.ascii, s, table, m);
     let b = publish_block(to, &mut *out, a, style.ascii, s, properties);
@@ -125,15 +126,15 @@ fn publish_of(
 fn block(
     to: Stdout,
     out: &mut [u8],
-    at: usize,
+    at: At,
     place: PropertyRow,
     ascii: bool,
     s: &[u8],
-    properties: MaybeProperties,
-) -> usize {
+    properties: Option<Properties>,
+) -> At {
     match properties {
-        MaybeProperties::Absent => at,
-        MaybeProperties::Present(p) => {
+        None => at,
+        Some(p) => {
             let text = p.reason_string;
             let id = p.id;
             let held = p.block;
@@ -145,21 +146,14 @@ fn block(
 }
 
 // PubAck, PubRec, PubRel, PubComp.
-fn ack_of(to: Stdout, out: &mut [u8], at: usize, ascii: bool, s: &[u8], m: Ack) -> usize {
+fn ack_of(to: Stdout, out: &mut [u8], at: At, ascii: bool, s: &[u8], m: Ack) -> At {
     let properties = m.properties;
     let a = field::id(to, &mut *out, at, m.pkid);
     let b = field::reason(to, &mut *out, a, m.reason);
     block(to, &mut *out, b, PropertyRow::Ack, ascii, s, properties)
 }
 
-fn subscribe_of(
-    to: Stdout,
-    out: &mut [u8],
-    at: usize,
-    ascii: bool,
-    s: &[u8],
-    m: Subscribe,
-) -> usize {
+fn subscribe_of(to: Stdout, out: &mut [u8], at: At, ascii: bool, s: &[u8], m: Subscribe) -> At {
     let properties = m.properties;
     let filters = m.filters;
     let a = field::id(to, &mut *out, at, m.pkid);
@@ -176,7 +170,7 @@ fn subscribe_of(
 }
 
 // SubAck, UnsubAck.
-fn reply_of(to: Stdout, out: &mut [u8], at: usize, ascii: bool, s: &[u8], m: Reply) -> usize {
+fn reply_of(to: Stdout, out: &mut [u8], at: At, ascii: bool, s: &[u8], m: Reply) -> At {
     let properties = m.properties;
     let reasons = m.reasons;
     let a = field::id(to, &mut *out, at, m.pkid);
@@ -184,14 +178,7 @@ fn reply_of(to: Stdout, out: &mut [u8], at: usize, ascii: bool, s: &[u8], m: Rep
     list::reasons(to, &mut *out, b, ascii, s, reasons)
 }
 
-fn unsubscribe_of(
-    to: Stdout,
-    out: &mut [u8],
-    at: usize,
-    ascii: bool,
-    s: &[u8],
-    m: Unsubscribe,
-) -> usize {
+fn unsubscribe_of(to: Stdout, out: &mut [u8], at: At, ascii: bool, s: &[u8], m: Unsubscribe) -> At {
     let properties = m.properties;
     let topics = m.topics;
     let a = field::id(to, &mut *out, at, m.pkid);
@@ -211,12 +198,12 @@ fn unsubscribe_of(
 fn fields(
     to: Stdout,
     out: &mut [u8],
-    at: usize,
+    at: At,
     s: &[u8],
     table: &[u8],
     style: Style,
     p: Packet,
-) -> usize {
+) -> At {
     match p {
         Packet::Publish(m) => publish_of(to, &mut *out, at, s, table, style, m),
         Packet::Ack(_, m) => ack_of(to, &mut *out, at, style.ascii, s, m),
@@ -229,7 +216,7 @@ fn fields(
 }
 
 // The word for a number's kind.
-fn kind_word(to: Stdout, out: &mut [u8], at: usize, num: u8) -> usize {
+fn kind_word(to: Stdout, out: &mut [u8], at: At, num: u8) -> At {
     let shown = kinds::word_of(num);
     let bytes = shown.bytes;
     let text = Span {
@@ -240,7 +227,7 @@ fn kind_word(to: Stdout, out: &mut [u8], at: usize, num: u8) -> usize {
 }
 
 // The kind, in bold where lines are coloured.
-fn kind(to: Stdout, out: &mut [u8], at: usize, num: u8, colour: bool) -> usize {
+fn kind(to: Stdout, out: &mut [u8], at: At, num: u8, colour: bool) -> At {
     let a = output::paint(to, &mut *out, at, colour, b"\x1B[1m");
     let b = kind_word(to, &mut *out, a, num);
     output::paint(to, &mut *out, b, colour, b"\x1B[0m")
@@ -250,14 +237,14 @@ fn kind(to: Stdout, out: &mut [u8], at: usize, num: u8, colour: bool) -> usize {
 pub fn packet(
     to: Stdout,
     out: &mut [u8],
-    at: usize,
+    at: At,
     offset: u64,
     s: &[u8],
     table: &[u8],
     style: Style,
     p: Packet,
     taken: usize,
-) -> usize {
+) -> At {
     let a = output::decimal(to, &mut *out, at, offset);
     let b = output::word(to, &mut *out, a, b" ");
     let c = kind(to, &mut *out, b, desk_summary::number_in(p), style.colour);
@@ -267,7 +254,7 @@ pub fn packet(
 }
 
 // The kind of a first byte: its word, or its number where there is none.
-fn kind_or_number(to: Stdout, out: &mut [u8], at: usize, num: u8) -> usize {
+fn kind_or_number(to: Stdout, out: &mut [u8], at: At, num: u8) -> At {
     let shown = kinds::word_of(num);
     if shown.len == 0 {
         return output::decimal(to, &mut *out, at, num as u64);
@@ -279,12 +266,12 @@ fn kind_or_number(to: Stdout, out: &mut [u8], at: usize, num: u8) -> usize {
 pub fn skipped(
     to: Stdout,
     out: &mut [u8],
-    at: usize,
+    at: At,
     offset: u64,
     first: u8,
     size: u64,
     colour: bool,
-) -> usize {
+) -> At {
     let a = output::paint(to, &mut *out, at, colour, b"\x1B[33m");
     let b = output::decimal(to, &mut *out, a, offset);
     let c = output::word(to, &mut *out, b, b" skipped ");

@@ -1,15 +1,14 @@
 // The items of a list, in one pass over its place: user properties or subscription identifiers of a block; filters, topics or reasons of a
 // run.
+use crate::output::At;
 use crate::{field, output};
-use filters::GotFilter;
-use property_value::{GotProperty, Value};
+use property_value::Value;
 use qos_numbers;
 use qos_numbers::rule_number;
 use records::span::Span;
 use records::subscribe_record::Filter;
 use std::io::Stdout;
 use tables::property::PropertyRow;
-use wire::got::GotSpan;
 use wire::string;
 
 // What a list is made of.
@@ -27,25 +26,17 @@ enum Items {
 // Where the output goes on, and the list; no further than before where nothing is left.
 #[derive(Clone, Copy)]
 struct Step {
-    put: usize,
+    put: At,
     next: usize,
 }
 
 // Key and value of a user property.
-fn user(
-    to: Stdout,
-    out: &mut [u8],
-    at: usize,
-    ascii: bool,
-    s: &[u8],
-    key: Span,
-    value: Span,
-) -> usize {
+fn user(to: Stdout, out: &mut [u8], at: At, ascii: bool, s: &[u8], key: Span, value: Span) -> At {
     let a = field::part(to, &mut *out, at, b" user=\"", ascii, s, key);
     field::part(to, &mut *out, a, b"=\"", ascii, s, value)
 }
 
-fn user_if(to: Stdout, out: &mut [u8], at: usize, ascii: bool, s: &[u8], v: Value) -> usize {
+fn user_if(to: Stdout, out: &mut [u8], at: At, ascii: bool, s: &[u8], v: Value) -> At {
     if let Value::Pair(key, value) = v {
         return user(to, &mut *out, at, ascii, s, key, value);
     }
@@ -53,7 +44,7 @@ fn user_if(to: Stdout, out: &mut [u8], at: usize, ascii: bool, s: &[u8], v: Valu
 }
 
 // The field of a value that is a variable length number: only subscription identifiers are.
-fn identifier_if(to: Stdout, out: &mut [u8], at: usize, v: Value) -> usize {
+fn identifier_if(to: Stdout, out: &mut [u8], at: At, v: Value) -> At {
     if let Value::Number(id) = v {
         return field::number(to, &mut *out, at, b" subscription-id=", id as u64);
     }
@@ -64,25 +55,25 @@ fn identifier_if(to: Stdout, out: &mut [u8], at: usize, v: Value) -> usize {
 fn user_at(
     to: Stdout,
     out: &mut [u8],
-    at: usize,
+    at: At,
     place: PropertyRow,
     ascii: bool,
     s: &[u8],
     i: usize,
 ) -> Step {
     match property_value::read_property(place, s, i) {
-        GotProperty::Refused(_) => Step { put: at, next: i },
-        GotProperty::Found(_, v, next) => {
+        Err(_) => Step { put: at, next: i },
+        Ok((_, v, next)) => {
             let put = user_if(to, &mut *out, at, ascii, s, v);
             Step { put, next }
         }
     }
 }
 
-fn identifier_at(to: Stdout, out: &mut [u8], at: usize, s: &[u8], i: usize) -> Step {
+fn identifier_at(to: Stdout, out: &mut [u8], at: At, s: &[u8], i: usize) -> Step {
     match property_value::read_property(PropertyRow::Publish, s, i) {
-        GotProperty::Refused(_) => Step { put: at, next: i },
-        GotProperty::Found(_, v, next) => {
+        Err(_) => Step { put: at, next: i },
+        Ok((_, v, next)) => {
             let put = identifier_if(to, &mut *out, at, v);
             Step { put, next }
         }
@@ -92,12 +83,12 @@ fn identifier_at(to: Stdout, out: &mut [u8], at: usize, s: &[u8], i: usize) -> S
 fn options(
     to: Stdout,
     out: &mut [u8],
-    at: usize,
+    at: At,
     q: u8,
     no_local: bool,
     preserve: bool,
     rule: u8,
-) -> usize {
+) -> At {
     let mut text = *b" qos=0 no-local=0 preserve-retain=0 forward=0";
     text[5] = output::digit(q);
     text[16] = output::digit(no_local as u8);
@@ -107,11 +98,11 @@ fn options(
 }
 
 // The text of a filter.
-fn path(to: Stdout, out: &mut [u8], at: usize, ascii: bool, s: &[u8], place: Span) -> usize {
+fn path(to: Stdout, out: &mut [u8], at: At, ascii: bool, s: &[u8], place: Span) -> At {
     field::part(to, &mut *out, at, b" filter=\"", ascii, s, place)
 }
 
-fn filter_of(to: Stdout, out: &mut [u8], at: usize, ascii: bool, s: &[u8], f: Filter) -> usize {
+fn filter_of(to: Stdout, out: &mut [u8], at: At, ascii: bool, s: &[u8], f: Filter) -> At {
     let q = f.qos;
     let rule = f.retain_forward_rule;
     let a = path(to, &mut *out, at, ascii, s, f.path);
@@ -126,27 +117,27 @@ fn filter_of(to: Stdout, out: &mut [u8], at: usize, ascii: bool, s: &[u8], f: Fi
     )
 }
 
-fn filter_at(to: Stdout, out: &mut [u8], at: usize, ascii: bool, s: &[u8], i: usize) -> Step {
+fn filter_at(to: Stdout, out: &mut [u8], at: At, ascii: bool, s: &[u8], i: usize) -> Step {
     match filters::read_filter(s, i) {
-        GotFilter::Refused(_) => Step { put: at, next: i },
-        GotFilter::Value(f, next) => {
+        Err(_) => Step { put: at, next: i },
+        Ok((f, next)) => {
             let put = filter_of(to, &mut *out, at, ascii, s, f);
             Step { put, next }
         }
     }
 }
 
-fn topic_at(to: Stdout, out: &mut [u8], at: usize, ascii: bool, s: &[u8], i: usize) -> Step {
+fn topic_at(to: Stdout, out: &mut [u8], at: At, ascii: bool, s: &[u8], i: usize) -> Step {
     match string::read_mqtt_string(s, i) {
-        GotSpan::Refused(_) => Step { put: at, next: i },
-        GotSpan::Value(topic, next) => {
+        Err(_) => Step { put: at, next: i },
+        Ok((topic, next)) => {
             let put = path(to, &mut *out, at, ascii, s, topic);
             Step { put, next }
         }
     }
 }
 
-fn reason_at(to: Stdout, out: &mut [u8], at: usize, s: &[u8], i: usize) -> Step {
+fn reason_at(to: Stdout, out: &mut [u8], at: At, s: &[u8], i: usize) -> Step {
     if i < s.len() {
         let put = field::reason(to, &mut *out, at, s[i]);
         return Step { put, next: i + 1 };
@@ -155,15 +146,7 @@ fn reason_at(to: Stdout, out: &mut [u8], at: usize, s: &[u8], i: usize) -> Step 
 }
 
 // The item at i.
-fn item(
-    to: Stdout,
-    out: &mut [u8],
-    at: usize,
-    items: Items,
-    ascii: bool,
-    s: &[u8],
-    i: usize,
-) -> Step {
+fn item(to: Stdout, out: &mut [u8], at: At, items: Items, ascii: bool, s: &[u8], i: usize) -> Step {
     match items {
         Items::Users(place) => user_at(to, &mut *out, at, place, ascii, s, i),
         Items::Identifiers => identifier_at(to, &mut *out, at, s, i),
@@ -173,8 +156,8 @@ fn item(
     }
 }
 
-// All items of s; each goes further on.
-fn items_in(to: Stdout, out: &mut [u8], at: usize, items: Items, ascii: bool, s: &[u8]) -> usize {
+// All items of s; each goes further on. index: each tells where the next is.
+fn items_in(to: Stdout, out: &mut [u8], at: At, items: Items, ascii: bool, s: &[u8]) -> At {
     let mut put = at;
     let mut i: usize = 0;
     while i < s.len() {
@@ -192,12 +175,12 @@ fn items_in(to: Stdout, out: &mut [u8], at: usize, items: Items, ascii: bool, s:
 pub fn users(
     to: Stdout,
     out: &mut [u8],
-    at: usize,
+    at: At,
     place: PropertyRow,
     ascii: bool,
     s: &[u8],
     block: Span,
-) -> usize {
+) -> At {
     items_in(
         to,
         &mut *out,
@@ -209,14 +192,7 @@ pub fn users(
 }
 
 // The subscription identifiers of a Publish.
-pub fn identifiers(
-    to: Stdout,
-    out: &mut [u8],
-    at: usize,
-    ascii: bool,
-    s: &[u8],
-    block: Span,
-) -> usize {
+pub fn identifiers(to: Stdout, out: &mut [u8], at: At, ascii: bool, s: &[u8], block: Span) -> At {
     items_in(
         to,
         &mut *out,
@@ -228,7 +204,7 @@ pub fn identifiers(
 }
 
 // The filters of the run at a place of s.
-pub fn filters(to: Stdout, out: &mut [u8], at: usize, ascii: bool, s: &[u8], run: Span) -> usize {
+pub fn filters(to: Stdout, out: &mut [u8], at: At, ascii: bool, s: &[u8], run: Span) -> At {
     items_in(
         to,
         &mut *out,
@@ -240,7 +216,7 @@ pub fn filters(to: Stdout, out: &mut [u8], at: usize, ascii: bool, s: &[u8], run
 }
 
 // The topics of the run at a place of s.
-pub fn topics(to: Stdout, out: &mut [u8], at: usize, ascii: bool, s: &[u8], run: Span) -> usize {
+pub fn topics(to: Stdout, out: &mut [u8], at: At, ascii: bool, s: &[u8], run: Span) -> At {
     items_in(
         to,
         &mut *out,
@@ -252,7 +228,7 @@ pub fn topics(to: Stdout, out: &mut [u8], at: usize, ascii: bool, s: &[u8], run:
 }
 
 // The reasons of the run at a place of s.
-pub fn reasons(to: Stdout, out: &mut [u8], at: usize, ascii: bool, s: &[u8], run: Span) -> usize {
+pub fn reasons(to: Stdout, out: &mut [u8], at: At, ascii: bool, s: &[u8], run: Span) -> At {
     items_in(
         to,
         &mut *out,

@@ -4,10 +4,10 @@ ghost use Rattle.std.specs.Prelude.{◌≡◌, ◌+◌, ◌≤◌, length};
 ghost use Rattle.records.specs.AsNumbers.{told_span};
 ghost use Rattle.desk.specs.Held.{fronted, Kept};
 
+use crate::output::At;
 use crate::{line, output};
 use desk_arguments::Style;
 use outside::Source;
-use records::answer::{Limit, Read};
 use records::error::Error;
 use records::packet_record::Packet;
 use records::span::Span;
@@ -15,26 +15,30 @@ use std::io::{Stderr, Stdout};
 use wire::string;
 use write_bytes::put_bytes;
 
-// There is more to read.
-const GOING: u8 = 0;
-// The input has ended; what is held is still to be read.
-const ENDED: u8 = 1;
-// All was read.
-const DONE: u8 = 2;
-// A refusal took nothing.
-const STOPPED: u8 = 3;
-// The input could not be read.
-const UNREADABLE: u8 = 4;
+// How far the stream is read.
+#[derive(Clone, Copy)]
+enum State {
+    // there is more to read
+    Going,
+    // the input has ended; what is held is still to be read
+    Ended,
+    // all was read
+    Done,
+    // a refusal took nothing
+    Stopped,
+    // the input could not be read, and the system's number of why
+    Unreadable(i32),
+}
 
 #[derive(Clone, Copy)]
 struct Desk {
     // what is held of the stream, in the buffer
     held: Span,
     // where the output goes on
-    put: usize,
+    put: At,
     // where the next frame starts in the stream
     offset: u64,
-    state: u8,
+    state: State,
     // no filter is given: refusals, and frames that are passed over, have their lines too
     all: bool,
     // of a frame that is passed over: the bytes yet to come, its first byte, all its bytes
@@ -44,10 +48,7 @@ struct Desk {
     // how many frames were passed over
     skipped: u64,
     // of a frame above the limit: its bytes, and the limit
-    over: usize,
-    most: usize,
-    // the system's number of why the input could not be read
-    failed: i32,
+    over: Option<(usize, usize)>,
 }
 
 // 1 MiB
@@ -66,26 +67,23 @@ fn fresh() -> [u8; 2064] {
 }
 
 // How many bytes refusal 1 says are lacking, while there is more to read; else 0.
-fn lacking(state: u8, e: Error) -> usize {
-    if state != GOING {
-        return 0;
+fn lacking(state: State, e: Error) -> usize {
+    match (state, e) {
+        (State::Going, Error::InsufficientBytes(n)) => n,
+        _ => 0,
     }
-    if let Error::InsufficientBytes(n) = e {
-        return n;
-    }
-    0
 }
 
 // After a frame of `taken` bytes, whose line ends before `put`. A frame that took nothing is the last that is read.
-fn passed(mut d: Desk, put: usize, taken: usize) -> Desk {
+fn passed(mut d: Desk, put: At, taken: usize) -> Desk {
     let held = d.held;
     d.put = put;
     if taken == 0 {
-        d.state = STOPPED;
+        d.state = State::Stopped;
         return d;
     }
     if held.len < taken {
-        d.state = STOPPED;
+        d.state = State::Stopped;
         return d;
     }
     let start = std::num::wrapping_add_usize(held.start, taken);
@@ -97,14 +95,7 @@ fn passed(mut d: Desk, put: usize, taken: usize) -> Desk {
 }
 
 // Where the output goes on after the line of a refusal, which is put if no filter is given.
-fn refused_line(
-    to: Stdout,
-    out: &mut [u8],
-    d: Desk,
-    colour: bool,
-    e: Error,
-    taken: usize,
-) -> usize {
+fn refused_line(to: Stdout, out: &mut [u8], d: Desk, colour: bool, e: Error, taken: usize) -> At {
     if d.all {
         let a = output::paint(to, &mut *out, d.put, colour, b"\x1B[31m");
         let b = output::refused(to, &mut *out, a, d.offset, e, taken);
@@ -116,8 +107,7 @@ fn refused_line(
 // What refusal 3 says is kept for standard error.
 fn over_limit(mut d: Desk, e: Error) -> Desk {
     if let Error::PayloadSizeLimitExceeded(size, most) = e {
-        d.over = size;
-        d.most = most;
+        d.over = Some((size, most));
     }
     d
 }
@@ -134,7 +124,7 @@ fn refused(
 ) -> Desk {
     let held = d.held;
     if held.len == 0 {
-        d.state = DONE;
+        d.state = State::Done;
         return d;
     }
     let put = refused_line(to, &mut *out, d, colour, e, taken);
@@ -152,10 +142,8 @@ fn to_front(buf: &mut [u8], start: usize, len: usize)
     if buf.len() - start < len {
         return;
     }
-    let mut i: usize = 0;
-    while i < len {
+    for i in 0..len {
         buf[i] = buf[start + i];
-        i = i + 1;
     }
 }
 
@@ -190,13 +178,9 @@ fn read_from(source: &mut Source, buf: &mut [u8], from: usize) -> Result<usize, 
 fn fill(source: &mut Source, buf: &mut [u8], mut d: Desk) -> Desk {
     let held = d.held;
     let start = held.start;
-    match read_from(
-        &mut *source,
-        &mut *buf,
-        std::num::wrapping_add_usize(start, held.len),
-    ) {
+    match read_from(&mut *source, &mut *buf, start.wrapping_add(held.len)) {
         Ok(0) => {
-            d.state = ENDED;
+            d.state = State::Ended;
             d
         }
         Ok(n) => {
@@ -206,8 +190,7 @@ fn fill(source: &mut Source, buf: &mut [u8], mut d: Desk) -> Desk {
             d
         }
         Err(number) => {
-            d.state = UNREADABLE;
-            d.failed = number;
+            d.state = State::Unreadable(number);
             d
         }
     }
@@ -215,11 +198,7 @@ fn fill(source: &mut Source, buf: &mut [u8], mut d: Desk) -> Desk {
 
 // The first byte of what is held.
 fn first_of(buf: &[u8], held: Span) -> u8 {
-    let start = held.start;
-    if start < buf.len() {
-        return buf[start];
-    }
-    0
+    buf.get(held.start).copied().unwrap_or(0)
 }
 
 // From here on the frame that fills the buffer, and lacks so many bytes, is passed over.
@@ -243,7 +222,7 @@ fn more(
     lacks: usize,
 ) -> Desk {
     d.put = output::flush(to, &*out, d.put);
-    if output::is_lost(&*out, d.put) {
+    if d.put.is_err() {
         return d;
     }
     let held = with_room(&mut *buf, d.held);
@@ -273,7 +252,7 @@ fn unread(
 }
 
 // The line of a frame that was passed over.
-fn skipped_line(to: Stdout, out: &mut [u8], d: Desk, colour: bool) -> usize {
+fn skipped_line(to: Stdout, out: &mut [u8], d: Desk, colour: bool) -> At {
     if d.all {
         return line::skipped(to, &mut *out, d.put, d.offset, d.first, d.size, colour);
     }
@@ -319,7 +298,7 @@ fn cut_off(to: Stdout, out: &mut [u8], tally: &mut [u64], colour: bool, mut d: D
     let put = refused_line(to, &mut *out, d, colour, e, 0);
     d.put = put;
     desk_summary::add_refused(&mut *tally, e);
-    d.state = STOPPED;
+    d.state = State::Stopped;
     d
 }
 
@@ -335,7 +314,7 @@ fn pass_over(
     d: Desk,
 ) -> Desk {
     let got = fill(&mut *source, &mut *buf, d);
-    if got.state == ENDED {
+    if let State::Ended = got.state {
         return cut_off(to, &mut *out, &mut *tally, colour, got);
     }
     let left = pass_held(got);
@@ -356,7 +335,7 @@ fn packet_line(
     d: Desk,
     p: Packet,
     taken: usize,
-) -> usize {
+) -> At {
     if desk_topic::is_shown(filter, s, table, p) {
         return line::packet(to, &mut *out, d.put, d.offset, s, table, style, p, taken);
     }
@@ -384,7 +363,7 @@ fn accepted(
 // One frame, or one read for it.
 fn read_frame(
     source: &mut Source,
-    limit: Limit,
+    limit: Option<usize>,
     filter: &[u8],
     buf: &mut [u8],
     table: &mut [u8],
@@ -396,7 +375,7 @@ fn read_frame(
 ) -> Desk {
     let s = string::part(&*buf, d.held);
     match packet::read(s, limit) {
-        Read::Packet(p, _, taken) => accepted(
+        Ok((p, _, taken)) => accepted(
             s,
             filter,
             &mut *table,
@@ -408,7 +387,7 @@ fn read_frame(
             p,
             taken,
         ),
-        Read::Refused(e, taken) => unread(
+        Err((e, taken)) => unread(
             &mut *source,
             &mut *buf,
             to,
@@ -424,7 +403,7 @@ fn read_frame(
 
 fn turn(
     source: &mut Source,
-    limit: Limit,
+    limit: Option<usize>,
     filter: &[u8],
     buf: &mut [u8],
     table: &mut [u8],
@@ -460,35 +439,30 @@ fn turn(
     )
 }
 
-fn is_going(out: &[u8], d: Desk) -> bool {
-    if output::is_lost(out, d.put) {
-        return false;
-    }
-    d.state <= ENDED
+fn is_going(d: Desk) -> bool {
+    d.put.is_ok() && matches!(d.state, State::Going | State::Ended)
 }
 
 // Before the first frame.
 fn begun(all: bool) -> Desk {
     Desk {
         held: Span { start: 0, len: 0 },
-        put: 0,
+        put: Ok(0),
         offset: 0,
-        state: GOING,
+        state: State::Going,
         all,
         skip: 0,
         first: 0,
         size: 0,
         skipped: 0,
-        over: 0,
-        most: 0,
-        failed: 0,
+        over: None,
     }
 }
 
-// A proved loop has to end, and nothing says that a stream does. So the loop counts its turns down, from a number that no run uses up.
+// A proved loop has to end, and nothing says that a stream does. So the loop counts its turns, up to a number that no run reaches.
 fn read_all(
     source: &mut Source,
-    limit: Limit,
+    limit: Option<usize>,
     filter: &[u8],
     buf: &mut [u8],
     table: &mut [u8],
@@ -498,8 +472,7 @@ fn read_all(
     style: Style,
 ) -> Desk {
     let mut d = begun(filter.len() == 0);
-    let mut turns: u64 = 18446744073709551615;
-    while 0 < turns {
+    for _ in 0..u64::MAX {
         d = turn(
             &mut *source,
             limit,
@@ -512,26 +485,25 @@ fn read_all(
             style,
             d,
         );
-        if !is_going(&*out, d) {
+        if !is_going(d) {
             return d;
         }
-        turns = turns - 1;
     }
     d
 }
 
 // What was above the limit, on standard error.
 fn tell_over(to: Stderr, out: &mut [u8], d: Desk) {
-    if d.over == 0 {
+    let Some((size, most)) = d.over else {
         return;
-    }
+    };
     let a = desk_lines::put_number(&mut *out, 0, b"desk: the frame at offset ", d.offset);
-    let b = desk_lines::put_number(&mut *out, a as u16, b" has ", d.over as u64);
+    let b = desk_lines::put_number(&mut *out, a as u16, b" has ", size as u64);
     let c = desk_lines::put_number(
         &mut *out,
         b as u16,
         b" bytes, and the limit is ",
-        d.most as u64,
+        most as u64,
     );
     let len = desk_lines::put_word(&mut *out, c as u16, b": stopped there\n");
     output::tell(to, &*out, len);
@@ -562,15 +534,14 @@ fn lost(to: Stderr, number: i32) -> u8 {
 // Writes what is left of the output, then what was read, on standard error; gives the exit status.
 fn finish(rt: HostRuntime, out: &mut [u8], tally: &[u64], d: Desk) -> u8 {
     let to = rt.stderr();
-    let end = output::flush(rt.stdout(), &*out, d.put);
-    if output::is_lost(&*out, end) {
-        return lost(to, output::number_of_lost(end));
+    if let Err(number) = output::flush(rt.stdout(), &*out, d.put) {
+        return lost(to, number);
     }
     tell_over(to, &mut *out, d);
     tell_skipped(to, &mut *out, d);
     let len = desk_summary::put_summary(&mut *out, tally, d.offset);
     output::tell(to, &*out, len);
-    if d.state == DONE {
+    if let State::Done = d.state {
         return 0;
     }
     1
@@ -581,7 +552,7 @@ pub fn read(
     rt: HostRuntime,
     mut source: Source,
     name: &[u8],
-    limit: Limit,
+    limit: Option<usize>,
     filter: &[u8],
     style: Style,
 ) -> u8 {
@@ -600,8 +571,8 @@ pub fn read(
         &mut tally,
         style,
     );
-    if d.state == UNREADABLE {
-        output::fail(rt.stderr(), name, d.failed);
+    if let State::Unreadable(number) = d.state {
+        output::fail(rt.stderr(), name, number);
     }
     finish(rt, &mut out, &tally, d)
 }

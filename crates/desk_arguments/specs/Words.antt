@@ -1,18 +1,17 @@
 -- What the words say that `desk` is started with: docs/DESK.md, "desk [--limit N] [--topic FILTER] [--payload N] [--ascii] [FILE]". Assumes nothing.
-use Rattle.std.specs.Prelude.{Bool, true, false, cond, List, [], ◌∷◌, ℕ, ◌+◌, ◌-◌, ◌*◌, ◌^◌, eqb, leb, ltb}
+use Rattle.std.specs.Prelude as std
+use Rattle.std.specs.Prelude.{Bool, true, false, cond, List, [], ◌∷◌, ℕ, ◌+◌, ◌-◌, ◌*◌, ◌^◌, eqb, leb, ltb, Some, None}
 use Rattle.std.proofs.Math.Option.{Option, some, none}
-use Rattle.records.specs.declared.answer.Limit.{Limit}
 use Rattle.records.specs.Ascii.{codes_of}
 use Rattle.desk_arguments.specs.declared.Asked.{Asked}
 use Rattle.desk_arguments.specs.declared.Awaited.{Awaited}
 use Rattle.desk_arguments.specs.declared.Said.{Said}
 use Rattle.desk_arguments.specs.declared.Style.{Style}
-use Rattle.desk_arguments.specs.declared.Parsed.{Parsed}
 
 -- docs/DESK.md, the N of `--limit N`: the number, if the word is one
-abbrev pub told_number : Parsed → Option ℕ
-told_number (Parsed.Value n) = some n
-told_number Parsed.Bad = none
+abbrev pub told_number : std.Option ℕ → Option ℕ
+told_number (Some n) = some n
+told_number None = none
 
 -- are they the same bytes?
 unfoldable pub same : List ℕ → List ℕ → Bool
@@ -55,7 +54,7 @@ said_of w =
 
 -- before the first word
 abbrev pub unasked : Asked
-unasked = record { file = 0; limit = Limit.Unlimited; status = false; bad = false; named = false; topic = 0; style = record { ascii = false; colour = false; most = Limit.Unlimited }; awaits = Awaited.Nothing }
+unasked = record { file = 0; limit = None; status = false; bad = false; named = false; topic = 0; style = record { ascii = false; colour = false; most = None }; awaits = Awaited.Nothing }
 
 -- no words of desk's
 abbrev pub as_bad : Asked → Asked
@@ -71,12 +70,12 @@ as_styled a s = record { file = a.file; limit = a.limit; status = a.status; bad 
 
 -- N behind `--limit`
 abbrev pub with_limit : Asked → Option ℕ → Asked
-with_limit a (some n) = record { file = a.file; limit = Limit.AtMost n; status = a.status; bad = a.bad; named = a.named; topic = a.topic; style = a.style; awaits = Awaited.Nothing }
+with_limit a (some n) = record { file = a.file; limit = Some n; status = a.status; bad = a.bad; named = a.named; topic = a.topic; style = a.style; awaits = Awaited.Nothing }
 with_limit a none = as_bad a
 
 -- N behind `--payload`
 abbrev pub with_most : Asked → Option ℕ → Asked
-with_most a (some n) = as_styled a (record { ascii = a.style.ascii; colour = a.style.colour; most = Limit.AtMost n })
+with_most a (some n) = as_styled a (record { ascii = a.style.ascii; colour = a.style.colour; most = Some n })
 with_most a none = as_bad a
 
 -- FILE, the i-th word, which is named once; `-` is standard input

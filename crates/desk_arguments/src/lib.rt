@@ -6,8 +6,6 @@ ghost use Rattle.std.specs.Prelude.{◌≡◌};
 ghost use Rattle.std.proofs.Math.Option.{some};
 ghost use Rattle.desk_arguments.specs.Words.{same, is_option, grow, number_of, told_number, said_of, unasked, as_bad, as_awaiting, as_styled, with_limit, with_most, with_name, with_said, with_word, with_end};
 
-use records::answer::Limit;
-
 // How lines are shown.
 #[derive(Clone, Copy)]
 pub struct Style {
@@ -16,7 +14,7 @@ pub struct Style {
     // in colour; the script asks for it on a terminal
     pub colour: bool,
     // so many bytes of a payload
-    pub most: Limit,
+    pub most: Option<usize>,
 }
 
 // What the next word is.
@@ -32,7 +30,7 @@ pub enum Awaited {
 pub struct Asked {
     // which word names the file; 0 for standard input
     pub file: usize,
-    pub limit: Limit,
+    pub limit: Option<usize>,
     // the exit status is to be told
     pub status: bool,
     // no words of desk's
@@ -59,69 +57,36 @@ enum Said {
     Name,
 }
 
-#[derive(Clone, Copy)]
-enum Parsed {
-    Value(usize),
-    Bad,
-}
-
 // Are they the same bytes?
 fn is_same(a: &[u8], b: &[u8]) -> bool
     ensures { result ≡ same a.now b.now }
 {
-    if a.len() != b.len() {
-        return false;
-    }
-    let mut i: usize = 0;
-    while i < a.len() {
-        if a[i] != b[i] {
-            return false;
-        }
-        i = i + 1;
-    }
-    true
+    a == b
 }
 
 // The number n with the digit b behind it.
-fn grown(n: usize, b: u8) -> Parsed
+fn grown(n: usize, b: u8) -> Option<usize>
     ensures { told_number result ≡ grow (some n) b }
 {
-    if b < 48 {
-        return Parsed::Bad;
+    let d = b.checked_sub(48)?;
+    if 9 < d {
+        return None;
     }
-    if 57 < b {
-        return Parsed::Bad;
-    }
-    let d = (b - 48) as usize;
-    if 1844674407370955161 < n {
-        return Parsed::Bad;
-    }
-    let tens = n * 10;
-    if 18446744073709551615 - tens < d {
-        return Parsed::Bad;
-    }
-    Parsed::Value(tens + d)
+    n.checked_mul(10)?.checked_add(d as usize)
 }
 
 // A number in decimal that 64 bits hold.
-fn number(s: &[u8]) -> Parsed
+fn number(s: &[u8]) -> Option<usize>
     ensures { told_number result ≡ number_of s.now }
 {
-    if s.len() == 0 {
-        return Parsed::Bad;
+    if s.is_empty() {
+        return None;
     }
-    let mut n: usize = 0;
-    let mut i: usize = 0;
-    while i < s.len() {
-        match grown(n, s[i]) {
-            Parsed::Bad => return Parsed::Bad,
-            Parsed::Value(m) => {
-                n = m;
-                i = i + 1;
-            }
-        }
+    let mut n = 0;
+    for b in s {
+        n = grown(n, *b)?;
     }
-    Parsed::Value(n)
+    Some(n)
 }
 
 // An option starts with `-` and has more than that.
@@ -193,12 +158,12 @@ fn with_limit(a: Asked, w: &[u8]) -> Asked
     ensures { result ≡ with_limit a (number_of w.now) }
 {
     match number(w) {
-        Parsed::Value(n) => Asked {
-            limit: Limit::AtMost(n),
+        Some(n) => Asked {
+            limit: Some(n),
             awaits: Awaited::Nothing,
             ..a
         },
-        Parsed::Bad => as_bad(a),
+        None => as_bad(a),
     }
 }
 
@@ -208,14 +173,14 @@ fn with_most(a: Asked, w: &[u8]) -> Asked
 {
     let style = a.style;
     match number(w) {
-        Parsed::Value(n) => styled(
+        Some(n) => styled(
             a,
             Style {
-                most: Limit::AtMost(n),
+                most: Some(n),
                 ..style
             },
         ),
-        Parsed::Bad => as_bad(a),
+        None => as_bad(a),
     }
 }
 
@@ -242,7 +207,7 @@ pub fn none() -> Asked
 {
     Asked {
         file: 0,
-        limit: Limit::Unlimited,
+        limit: None,
         status: false,
         bad: false,
         named: false,
@@ -250,7 +215,7 @@ pub fn none() -> Asked
         style: Style {
             ascii: false,
             colour: false,
-            most: Limit::Unlimited,
+            most: None,
         },
         awaits: Awaited::Nothing,
     }

@@ -3,7 +3,7 @@
 #![tactic(auto)]
 
 use inflight::{InFlight, code};
-use journal::{Found, look, recover};
+use journal::{FindError, Recovered, look, recover};
 use std::io::{Error, Print, Stdout};
 use std::process::ExitCode;
 
@@ -39,27 +39,24 @@ fn identifier(to: Stdout, id: u16, x: u8) -> Result<(), Error> {
 
 // What waits, in one line.
 fn waits(to: Stdout, table: InFlight) -> Result<(), Error> {
-    let mut id: u16 = 1;
-    while id <= 1024 {
-        let w = table.waits_for(id);
-        identifier(to, id, code(w))?;
-        id += 1;
+    for id in 1..=1024 {
+        identifier(to, id, code(table.waits_for(id)))?;
     }
     say(to, b"\n")
 }
 
 // `empty` is said where there is no table.
-fn found(to: Stdout, f: Found, table: InFlight, empty: &[u8]) -> Result<(), Error> {
-    match f {
-        Found::Number(n) => {
+fn found(to: Stdout, r: Recovered, empty: &[u8]) -> Result<(), Error> {
+    match r.found {
+        Ok(n) => {
             say(to, b"number ")?;
             number(to, n)?;
             say(to, b" waiting ")?;
-            number(to, table.waiting() as u64)?;
-            waits(to, table)
+            number(to, r.table.waiting() as u64)?;
+            waits(to, r.table)
         }
-        Found::BadArea => say(to, b"32 BadArea\n"),
-        Found::JournalEmpty => say(to, empty),
+        Err(FindError::BadArea) => say(to, b"32 BadArea\n"),
+        Err(FindError::JournalEmpty) => say(to, empty),
     }
 }
 
@@ -67,23 +64,15 @@ fn one(to: Stdout, area: &[u8], i: usize) -> Result<(), Error> {
     say(to, b"block ")?;
     number(to, i as u64)?;
     say(to, b": ")?;
-    let r = look(area, i);
-    let f = r.found;
-    let table = r.table;
-    found(to, f, table, b"not good\n")
+    found(to, look(area, i), b"not good\n")
 }
 
 fn show(to: Stdout, area: &[u8]) -> Result<(), Error> {
-    let mut i: usize = 0;
-    while i < area.len() / 512 {
+    for i in 0..area.len() / 512 {
         one(to, area, i)?;
-        i += 1;
     }
     say(to, b"recovered: ")?;
-    let r = recover(area);
-    let f = r.found;
-    let table = r.table;
-    found(to, f, table, b"33 JournalEmpty\n")
+    found(to, recover(area), b"33 JournalEmpty\n")
 }
 
 // The file's first 65,536 bytes. Only what standard output does not take is handed back.

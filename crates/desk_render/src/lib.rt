@@ -103,23 +103,20 @@ pub fn put_shown(out: &mut [u8], at: usize, s: &[u8]) -> Shown
     if out.len() < at {
         return Shown { taken: 0, put: 0 };
     }
-    let mut i: usize = 0;
     let mut next = at;
-    while i < s.len() {
-        let b = s[i];
-        let n = shown_size(b);
+    for (i, b) in s.iter().enumerate() {
+        let n = shown_size(*b);
         if out.len() - next < n {
             return Shown {
                 taken: i,
                 put: next - at,
             };
         }
-        put_byte(&mut *out, next, b, n);
-        next = next + n;
-        i = i + 1;
+        put_byte(&mut *out, next, *b, n);
+        next += n;
     }
     Shown {
-        taken: i,
+        taken: s.len(),
         put: next - at,
     }
 }

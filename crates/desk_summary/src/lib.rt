@@ -40,7 +40,7 @@ fn add(tally: &mut [u64], k: usize)
     ensures { tally.new ≡ one_more tally.old k }
 {
     if k < tally.len() {
-        tally[k] = std::num::wrapping_add_u64(tally[k], 1);
+        tally[k] = tally[k].wrapping_add(1);
     }
 }
 
@@ -85,10 +85,7 @@ pub fn add_refused(tally: &mut [u64], e: Error)
 fn count(tally: &[u64], k: usize) -> u64
     ensures { result ≡ slice_index tally.now k }
 {
-    if k < tally.len() {
-        return tally[k];
-    }
-    0
+    tally.get(k).copied().unwrap_or(0)
 }
 
 // A number behind the words before it.
@@ -141,10 +138,8 @@ fn kinds(out: &mut [u8], at: usize, tally: &[u64]) -> usize
     ensures short { result ≤ 1024 }
 {
     let mut next = at;
-    let mut n: u8 = 0;
-    while n < 11 {
+    for n in 0..11 {
         next = kind(&mut *out, next, tally, n + 3);
-        n = n + 1;
     }
     next
 }
@@ -175,10 +170,8 @@ fn refusals(out: &mut [u8], at: usize, tally: &[u64]) -> usize
     ensures short { result ≤ at + 2048 }
 {
     let mut next = at;
-    let mut k: usize = 0;
-    while k < 23 {
+    for k in 0..23 {
         next = pair(&mut *out, next, k + 1, count(tally, k + 1));
-        k = k + 1;
     }
     next
 }

@@ -26,19 +26,13 @@ fn byte_at(s: &[u8], i: usize, k: usize) -> u8
 fn is_in(low: u8, high: u8, b: u8) -> bool
     ensures { result ≡ in_range (low, high) b }
 {
-    if b < low {
-        return false;
-    }
-    b <= high
+    low <= b && b <= high
 }
 
 fn is_control(a: u8, b: u8) -> bool
     ensures { result ≡ is_control a b }
 {
-    if a == 0xC2 {
-        return is_in(0x80, 0x9F, b);
-    }
-    false
+    a == 0xC2 && is_in(0x80, 0x9F, b)
 }
 
 fn is_turning(a: u8, b: u8, c: u8) -> bool
@@ -68,16 +62,6 @@ fn turning_at(s: &[u8], i: usize) -> bool
     is_turning(byte_at(s, i, 0), byte_at(s, i, 1), byte_at(s, i, 2))
 }
 
-// i less n; 0 if n is more.
-fn less(i: usize, n: usize) -> usize
-    ensures { result ≡ i - n }
-{
-    if i < n {
-        return 0;
-    }
-    i - n
-}
-
 // Is the byte at i one of a character that is not shown as text?
 fn is_hidden(s: &[u8], i: usize) -> bool
     ensures { result ≡ hidden s.now i }
@@ -85,16 +69,16 @@ fn is_hidden(s: &[u8], i: usize) -> bool
     if control_at(s, i) {
         return true;
     }
-    if control_at(s, less(i, 1)) {
+    if control_at(s, i.saturating_sub(1)) {
         return true;
     }
     if turning_at(s, i) {
         return true;
     }
-    if turning_at(s, less(i, 1)) {
+    if turning_at(s, i.saturating_sub(1)) {
         return true;
     }
-    turning_at(s, less(i, 2))
+    turning_at(s, i.saturating_sub(2))
 }
 
 // Does the byte at i of a text stand as it is?
@@ -102,13 +86,7 @@ fn is_seen(s: &[u8], i: usize) -> bool
     requires { i < length s.now }
     ensures { result ≡ seen s.now i }
 {
-    if s[i] < 0x80 {
-        return false;
-    }
-    if is_hidden(s, i) {
-        return false;
-    }
-    true
+    0x80 <= s[i] && !is_hidden(s, i)
 }
 
 // The same, if s is text.
@@ -116,10 +94,7 @@ fn does_stand(s: &[u8], i: usize, text: bool) -> bool
     requires { i < length s.now }
     ensures { result ≡ stands text s.now i }
 {
-    if text {
-        return is_seen(s, i);
-    }
-    false
+    text && is_seen(s, i)
 }
 
 // One byte, if there is room for it; gives how many were put.
@@ -173,9 +148,8 @@ pub fn put_text(out: &mut [u8], at: usize, s: &[u8], from: usize, text: bool) ->
     if s.len() < from {
         return Shown { taken: 0, put: 0 };
     }
-    let mut i = from;
     let mut next = at;
-    while i < s.len() {
+    for i in from..s.len() {
         let n = put_piece(&mut *out, next, s, i, text);
         if n == 0 {
             return Shown {
@@ -183,11 +157,10 @@ pub fn put_text(out: &mut [u8], at: usize, s: &[u8], from: usize, text: bool) ->
                 put: next - at,
             };
         }
-        next = next + n;
-        i = i + 1;
+        next += n;
     }
     Shown {
-        taken: i - from,
+        taken: s.len() - from,
         put: next - at,
     }
 }

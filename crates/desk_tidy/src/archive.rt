@@ -9,21 +9,32 @@ use tidying::{Tidied, tidy};
 use wire::string;
 use write_bytes::put_bytes;
 
-// There is more to read.
-const GOING: u8 = 0;
-// The input has ended; what is held is still to be tidied.
-const ENDED: u8 = 1;
-// All was read.
-const DONE: u8 = 2;
-// A refusal took nothing, or the next frame is longer than the buffer.
-const STOPPED: u8 = 3;
-// The input could not be read.
-const UNREADABLE: u8 = 4;
-// The output could not be written.
-const LOST: u8 = 5;
+// How far the stream is read.
+#[derive(Clone, Copy)]
+enum State {
+    // there is more to read
+    Going,
+    // the input has ended; what is held is still to be tidied
+    Ended,
+    // all was read
+    Done,
+    // a refusal took nothing, or the next frame is longer than the buffer
+    Stopped,
+    // the input could not be read, and the system's number of why
+    Unreadable(i32),
+    // the output could not be written, and the system's number of why
+    Lost(i32),
+}
 
-// It is room in the output that is wanted.
-const ROOM: usize = 18446744073709551615;
+// What is lacking, for the next frame.
+#[derive(Clone, Copy)]
+enum Wants {
+    Nothing,
+    // room in the output
+    Room,
+    // so many bytes of the stream at least
+    Bytes(usize),
+}
 
 #[derive(Clone, Copy)]
 struct Archive {
@@ -32,15 +43,12 @@ struct Archive {
     len: usize,
     // so many bytes of the output wait to be written
     waits: usize,
-    // so many bytes of the stream are lacking at least, for the next frame; or ROOM
-    wants: usize,
+    wants: Wants,
     // where the next frame starts in the stream
     offset: u64,
     // frames that were refused
     refused: u64,
-    state: u8,
-    // the system's number of why it was not read or written to its end
-    failed: i32,
+    state: State,
 }
 
 // 1 MiB
@@ -70,42 +78,29 @@ fn tidied(mut d: Archive, size: usize, taken: usize) -> Archive {
 // A refusal; that of no byte at all is the end of the stream.
 fn refused(rt: HostRuntime, mut d: Archive, e: Error, taken: usize) -> Archive {
     if d.len == 0 {
-        d.state = DONE;
+        d.state = State::Done;
         return d;
     }
     tell::refused(rt.stderr(), d.offset, e, taken);
     d.refused = add(d.refused, 1);
     if taken == 0 {
-        d.state = STOPPED;
+        d.state = State::Stopped;
     }
     passed(d, taken)
 }
 
-// How many bytes refusal 1 says are lacking, while there is more to read; else 0.
-fn lacking(state: u8, e: Error) -> usize {
-    if state != GOING {
-        return 0;
+// Room, where the output is full of what waits; or the bytes that refusal 1 says are lacking, while there is more to read.
+fn wanted(d: Archive, e: Error) -> Wants {
+    match (d.state, e) {
+        (_, Error::NoRoom(_)) if d.waits != 0 => Wants::Room,
+        (State::Going, Error::InsufficientBytes(n)) if n != 0 => Wants::Bytes(n),
+        _ => Wants::Nothing,
     }
-    if let Error::InsufficientBytes(n) = e {
-        return n;
-    }
-    0
-}
-
-// Room, where the output is full of what waits; else what is given.
-fn or_room(waits: usize, e: Error, lacks: usize) -> usize {
-    if waits == 0 {
-        return lacks;
-    }
-    if let Error::NoRoom(_) = e {
-        return ROOM;
-    }
-    lacks
 }
 
 fn not_put(rt: HostRuntime, mut d: Archive, e: Error, taken: usize) -> Archive {
-    d.wants = or_room(d.waits, e, lacking(d.state, e));
-    if d.wants == 0 {
+    d.wants = wanted(d, e);
+    if let Wants::Nothing = d.wants {
         return refused(rt, d, e, taken);
     }
     d
@@ -113,15 +108,15 @@ fn not_put(rt: HostRuntime, mut d: Archive, e: Error, taken: usize) -> Archive {
 
 fn judged(rt: HostRuntime, d: Archive, t: Tidied) -> Archive {
     match t {
-        Tidied::Put(size, taken) => tidied(d, size, taken),
-        Tidied::Refused(e, taken) => not_put(rt, d, e, taken),
+        Ok((size, taken)) => tidied(d, size, taken),
+        Err((e, taken)) => not_put(rt, d, e, taken),
     }
 }
 
 // Into the output from index `at` on.
 fn tidy_at(s: &[u8], out: &mut [u8], at: usize) -> Tidied {
     if out.len() < at {
-        return Tidied::Refused(Error::NoRoom(0), 0);
+        return Err((Error::NoRoom(0), 0));
     }
     tidy(s, &mut out[at..])
 }
@@ -139,9 +134,8 @@ fn frame(rt: HostRuntime, buf: &[u8], out: &mut [u8], d: Archive) -> Archive {
 
 // What waited could not be written.
 fn lost(mut d: Archive, number: i32) -> Archive {
-    d.state = LOST;
-    d.failed = number;
-    d.wants = 0;
+    d.state = State::Lost(number);
+    d.wants = Wants::Nothing;
     d
 }
 
@@ -152,8 +146,8 @@ fn written(rt: HostRuntime, out: &[u8], mut d: Archive) -> Archive {
         len: d.waits,
     };
     d.waits = 0;
-    if d.wants == ROOM {
-        d.wants = 0;
+    if let Wants::Room = d.wants {
+        d.wants = Wants::Nothing;
     }
     match Print::write_all(&rt.stdout(), string::part(out, waits)) {
         Ok(()) => d,
@@ -163,7 +157,7 @@ fn written(rt: HostRuntime, out: &[u8], mut d: Archive) -> Archive {
 
 // The same where something is wanted: an archive does not wait for input.
 fn ready(rt: HostRuntime, out: &[u8], d: Archive) -> Archive {
-    if d.wants == 0 {
+    if let Wants::Nothing = d.wants {
         return d;
     }
     written(rt, out, d)
@@ -185,32 +179,32 @@ fn to_front(buf: &mut [u8], out: &mut [u8], mut d: Archive) -> Archive {
 // A read gave n bytes more; none where the input has ended.
 fn filled(mut d: Archive, n: usize) -> Archive {
     d.len = std::num::wrapping_add_usize(d.len, n);
-    d.wants = 0;
+    d.wants = Wants::Nothing;
     if n == 0 {
-        d.state = ENDED;
+        d.state = State::Ended;
     }
     d
 }
 
 // The input could not be read.
 fn unreadable(mut d: Archive, number: i32) -> Archive {
-    d.wants = 0;
-    d.state = UNREADABLE;
-    d.failed = number;
+    d.wants = Wants::Nothing;
+    d.state = State::Unreadable(number);
     d
 }
 
-fn too_long(rt: HostRuntime, mut d: Archive) -> Archive {
-    tell::too_long(rt.stderr(), d.offset, add(d.len as u64, d.wants), 1048576);
-    d.state = STOPPED;
+// The next frame lacks bytes for which the buffer has no room.
+fn too_long(rt: HostRuntime, mut d: Archive, lacks: usize) -> Archive {
+    tell::too_long(rt.stderr(), d.offset, add(d.len as u64, lacks), 1048576);
+    d.state = State::Stopped;
     d
 }
 
-// Reads once behind what is held, which stands at the front.
-fn fill(rt: HostRuntime, buf: &mut [u8], d: Archive) -> Archive {
+// Reads once behind what is held, which stands at the front, for a frame that lacks bytes.
+fn fill(rt: HostRuntime, buf: &mut [u8], d: Archive, lacks: usize) -> Archive {
     let from = d.len;
     if buf.len() <= from {
-        return too_long(rt, d);
+        return too_long(rt, d, lacks);
     }
     let mut input = Source::Standard(rt.stdin());
     match outside::read(&mut input, &mut buf[from..]) {
@@ -221,11 +215,11 @@ fn fill(rt: HostRuntime, buf: &mut [u8], d: Archive) -> Archive {
 
 // More of the stream, if more is wanted; then nothing waits in the output.
 fn more(rt: HostRuntime, buf: &mut [u8], out: &mut [u8], d: Archive) -> Archive {
-    if d.wants == 0 {
+    let Wants::Bytes(lacks) = d.wants else {
         return d;
-    }
+    };
     let front = to_front(&mut *buf, &mut *out, d);
-    fill(rt, &mut *buf, front)
+    fill(rt, &mut *buf, front, lacks)
 }
 
 // ---- the stream
@@ -237,47 +231,44 @@ fn turn(rt: HostRuntime, buf: &mut [u8], out: &mut [u8], d: Archive) -> Archive 
     more(rt, &mut *buf, &mut *out, w)
 }
 
-// A proved loop has to end, and nothing says that a stream does. So the loop counts its turns down, from a number that no run uses up.
+// A proved loop has to end, and nothing says that a stream does. So the loop counts its turns, up to a number that no run reaches.
 fn read_all(rt: HostRuntime, buf: &mut [u8], out: &mut [u8]) -> Archive {
     let mut d = Archive {
         start: 0,
         len: 0,
         waits: 0,
-        wants: 0,
+        wants: Wants::Nothing,
         offset: 0,
         refused: 0,
-        state: GOING,
-        failed: 0,
+        state: State::Going,
     };
-    let mut turns: u64 = 18446744073709551615;
-    while 0 < turns {
+    for _ in 0..u64::MAX {
         d = turn(rt, &mut *buf, &mut *out, d);
-        if ENDED < d.state {
+        if !matches!(d.state, State::Going | State::Ended) {
             return d;
         }
-        turns = turns - 1;
     }
     d
 }
 
 // Why it was not read or written to its end, where that is so.
-fn explain(to: Stderr, state: u8, number: i32) {
-    if state == LOST {
-        tell::fail(to, b"standard output", number);
-    }
-    if state == UNREADABLE {
-        tell::fail(to, b"standard input", number);
+fn explain(to: Stderr, state: State) {
+    match state {
+        State::Lost(number) => tell::fail(to, b"standard output", number),
+        State::Unreadable(number) => tell::fail(to, b"standard input", number),
+        _ => {}
     }
 }
 
 // What came of the stream; gives the exit status.
 fn told(to: Stderr, d: Archive) -> u8 {
-    explain(to, d.state, d.failed);
+    explain(to, d.state);
     tell::summary(to, d.refused, d.offset);
-    if d.state != DONE || 0 < d.refused {
+    let is_done = matches!(d.state, State::Done);
+    if !is_done || 0 < d.refused {
         tell::not_whole(to);
     }
-    (d.state != DONE) as u8
+    u8::from(!is_done)
 }
 
 // Reads the stream to its end, or to where it stops; gives the exit status.

@@ -18,7 +18,7 @@ pub fn learn(table: &mut [u8], stream: &[u8], p: Packet)
 {
     match p {
         Packet::Publish(m) => {
-            alias::learn(&mut *table, stream, m);
+            let _ = alias::learn(&mut *table, stream, m);
         }
         Packet::Ack(_, _) => {}
         Packet::Subscribe(_) => {}
@@ -34,9 +34,9 @@ fn matches_force(filter: &[u8], stream: &[u8], table: &[u8], m: Publish) -> bool
     ensures { result ≡ matches_in filter.now stream.now table.now (in_force stream.now table.now (told_span m.topic) (alias_in m)) }
 {
     match alias::place_in_force(stream, table, m) {
-        Placed::InPacket(p) => topics::matches(string::part(stream, p), filter),
-        Placed::InTable(p) => topics::matches(string::part(table, p), filter),
-        Placed::Refused(_) => false,
+        Ok(Placed::InPacket(p)) => topics::matches(string::part(stream, p), filter),
+        Ok(Placed::InTable(p)) => topics::matches(string::part(table, p), filter),
+        Err(_) => false,
     }
 }
 

@@ -9,36 +9,26 @@ ghost use Rattle.positions.specs.Nth.{chosen, nth_run};
 ghost use Rattle.records.specs.Said.{told_filter};
 ghost use Rattle.filter_runs.specs.FilterRun.{told_got_filters, place_fit, Broken, NthFilter};
 
-use filters::{GotFilter, pass_filter, read_filter};
-use records::answer::FilterItem;
+use filters::{pass_filter, read_filter};
 use records::error::Error;
 use records::span::Span;
 use records::subscribe_record::Filter;
 use wire::string;
 
-// Where a run of filters stands.
-#[derive(Clone, Copy)]
-pub enum GotFilters {
-    Place(Span),
-    Refused(Error),
-}
-
 // The refusal of the filter at `at`, which is not whole.
-fn broken(s: &[u8], at: usize) -> GotFilters
+fn broken(s: &[u8], at: usize) -> Result<Span, Error>
     ensures { Broken s.now at result }
 {
-    match read_filter(s, at) {
-        GotFilter::Refused(e) => return GotFilters::Refused(e),
-        GotFilter::Value(f, next) => return GotFilters::Refused(Error::MalformedPacket),
-    }
+    read_filter(s, at)?;
+    Err(Error::MalformedPacket)
 }
 
 // One filter or more, to the end; 13 if there is none, or the first refusal.
-pub fn read_filters(s: &[u8], at: usize) -> GotFilters
+pub fn read_filters(s: &[u8], at: usize) -> Result<Span, Error>
     ensures { told_got_filters result ≡ place_fit (length s.now) (drop at s.now) }
 {
     if s.len() <= at {
-        return GotFilters::Refused(Error::EmptySubscription);
+        return Err(Error::EmptySubscription);
     }
     let mut i = at;
     while i < s.len() {
@@ -49,42 +39,36 @@ pub fn read_filters(s: &[u8], at: usize) -> GotFilters
         i = next;
     }
     let len = s.len() - at;
-    GotFilters::Place(Span { start: at, len })
+    Ok(Span { start: at, len })
 }
 
 // The filter f if its turn is n, else what was there.
-fn choose(item: FilterItem, f: Filter, turn: usize, n: usize) -> FilterItem
+fn choose(item: Option<Filter>, f: Filter, turn: usize, n: usize) -> Option<Filter>
     ensures { told_filter_item result ≡ chosen (told_filter_item item) (told_filter f) turn n }
 {
-    if turn == n {
-        FilterItem::Filter(f)
-    } else {
-        item
-    }
+    if turn == n { Some(f) } else { item }
 }
 
 // The n-th filter of the run from `at` to the end; a fault after it refuses too.
-fn nth(s: &[u8], at: usize, n: usize) -> FilterItem
+fn nth(s: &[u8], at: usize, n: usize) -> Option<Filter>
     ensures { told_filter_item result ≡ nth_run (filter_of as_places (length s.now)) n (drop at s.now) }
 {
-    let mut item = FilterItem::NoItem;
+    let mut item = None;
     let mut turn: usize = 0;
     let mut i = at;
     while i < s.len() {
-        match read_filter(s, i) {
-            GotFilter::Refused(_) => return FilterItem::NoItem,
-            GotFilter::Value(f, next) => {
-                item = choose(item, f, turn, n);
-                turn = turn + 1;
-                i = next;
-            }
-        }
+        let Ok((f, next)) = read_filter(s, i) else {
+            return None;
+        };
+        item = choose(item, f, turn, n);
+        turn = turn + 1;
+        i = next;
     }
     item
 }
 
 // The n-th filter of the run at a place, n from 0, or 21; any bytes, any place.
-pub fn filter(s: &[u8], p: Span, n: usize) -> FilterItem
+pub fn filter(s: &[u8], p: Span, n: usize) -> Option<Filter>
     ensures { NthFilter s.now p n result }
 {
     if string::within(s, p) {
@@ -93,5 +77,5 @@ pub fn filter(s: &[u8], p: Span, n: usize) -> FilterItem
         let end = start + len;
         return nth(&s[..end], start, n);
     }
-    FilterItem::NoItem
+    None
 }

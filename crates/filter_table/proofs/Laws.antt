@@ -1,4 +1,5 @@
 -- How a run of filters is counted, and put into a table. Assumes nothing.
+use Rattle.std.specs.Prelude.{Result, Ok, Err}
 use mathlib.Core.Path.{◌≡◌, refl, sym, ap, ◌∙◌, subst}
 use mathlib.Core.Bool.{Bool, true, false}
 use mathlib.Core.Option.{none}
@@ -6,14 +7,15 @@ use mathlib.Core.List.{List, [], ◌∷◌, ◌++◌, map}
 use Prim.Native.Nat.{ℕ, zero, suc, ◌+◌, ◌*◌, ◌%◌, ◌/◌, ◌≤◌, ◌<◌}
 use native.Mathlib.Omega.{arith}
 use lib.Dec.{leb, leb→le}
-use lib.ListN.{length, take, drop, set, length-append, length-map}
+use lib.ListN.{length, take, drop, set, length-set, length-append, length-map, length-drop}
+use Rattle.std.proofs.lemmas.List.{set-append_left}
 use lib.Seq.{sets, sets-eq, length-take-le}
-use borrow.Author.Tests.{leb-false, le-leb, lt-leb}
+use borrow.Author.Tests.{leb-true, leb-false, le-leb, lt-leb}
 use Rattle.grammar.specs.Record.{Filter, mk_filter, publish, ack, subscribe, reply, unsubscribe, ping}
 use Rattle.grammar.specs.Tables.{subscribe_row}
 use Rattle.grammar.specs.Sentence.{Packet, some_of}
 use Rattle.reading.specs.Refusal.{Refusal, nr, accepted, refused_as}
-use Rattle.reading.specs.Reader.{Fit, got, bad, Filler, Reader, ◌>>=◌, ◌>>◌, guard, many_fit, only_fit}
+use Rattle.reading.specs.Reader.{Fit, got, bad, Filler, Reader, ◌>>◌, guard, many_fit, only_fit}
 use Rattle.reading.specs.Read.{as_bytes, filter_of, filters_fit}
 use Rattle.reading.specs.Place.{Span, part_of, lies_in, held_of, as_places, Placed, read_placed_of, no_item, or_no_item, again, nth_of, filter_at, on_got, if_some, say_props}
 use Rattle.reading.proofs.Lists.{T_of}
@@ -23,22 +25,26 @@ use Rattle.reading.proofs.Places.{filters_says, placed_accepted}
 use Rattle.reading.proofs.Items.{again_like}
 use Rattle.positions.specs.Position.{from_at}
 use Rattle.positions.proofs.At.{part_slice}
+use Rattle.positions.proofs.Position.{got_left}
 use Rattle.positions.proofs.Walk.{Less}
 use Rattle.positions.proofs.Less.{filter_less}
 use Rattle.positions.proofs.Run.{Passed, none_passed, passed_end, passed_bad, passed_next}
 use Rattle.positions.proofs.Trails.{trails_filter}
 use Rattle.records.specs.AsNumbers.{told_error, told_qos, told_rule}
+use Rattle.records.specs.Said.{told_packet}
+use Rattle.records.specs.declared.packet_record.Packet as code
+use Rattle.records.specs.declared.subscribe_record.Subscribe.{Subscribe as CodeSubscribe}
 use Rattle.records.specs.declared.error.Error.{Error}
 use Rattle.records.specs.declared.qos.QoS.{QoS}
 use Rattle.records.specs.declared.qos.QoS.TheVariants.{AtMostOnce, AtLeastOnce, ExactlyOnce}
 use Rattle.records.specs.declared.subscribe_record.RetainForwardRule.{RetainForwardRule}
 use Rattle.records.specs.declared.subscribe_record.RetainForwardRule.TheVariants.{OnEverySubscribe, OnNewSubscribe, Never}
 use Rattle.filters.proofs.Laws.{filter_ahead}
-use Rattle.filter_table.specs.Table.{not_subscribe, told_table, options_of, entry_of, run_of, entries_of, table_of, Fills, front, entry_at, fill_from, entries_from, EntryIs, PlanIs, spanned, Planned, CountIs, RunIs, RunPlanIs}
+use Rattle.filter_table.specs.Table.{not_subscribe, told_table, unfilled, options_of, entry_of, run_of, entries_of, table_of, Fills, front, entry_at, fill_from, entries_from, EntryIs, PlanIs, spanned, Planned, CountIs, RunIs, RunPlanIs}
 use Rattle.filter_table.specs.declared.FilterEntry.{FilterEntry}
-use Rattle.filter_table.specs.declared.FilterTable.{FilterTable}
+use Rattle.filter_table.specs.declared.FilterTableError.{FilterTableError}
 use Rattle.filter_table.specs.declared.Plan.{Plan}
-use Rattle.filter_table.specs.declared.FilterTable.TheVariants.{Filled, FilterTableFull, NotSubscribe, Refused}
+use Rattle.filter_table.specs.declared.FilterTableError.TheVariants.{FilterTableFull, NotSubscribe, Refused}
 
 -- ---- options
 
@@ -89,11 +95,21 @@ pub counted_start : (s : List ℕ) (at : ℕ) → Counted s at 0 at
 counted_start s at = record { filters = []; passed = none_passed s (filter_less (length s)) at; count = refl; room = omega arith }
 
 module _ {s : List ℕ} {at n i : ℕ} (C : Counted s at n i) where
-  pub counted_bad : i < length s → {k : Refusal} → bad k ≡ from_at (filter_of as_places (length s)) s i → CountIs s at n
+  counted_bad : i < length s → {k : Refusal} → bad k ≡ from_at (filter_of as_places (length s)) s i → CountIs s at n
   counted_bad h {k = k} e = record { counts = λ fs j. absurd (bad_got (sym (passed_bad s (filter_less (length s)) C.passed h k (sym e)) ∙ j)) }
 
-  pub counted_next : i < length s → {v : Filter Span} {m : ℕ} → got (v, m) ≡ from_at (filter_of as_places (length s)) s i → Counted s at (n + 1) m
-  counted_next h {v = v} e =
+  -- where a filter is read, bytes are left, and the walk goes on behind them
+  pub counted_room : {v : Filter Span} {m : ℕ} → got (v, m) ≡ from_at (filter_of as_places (length s)) s i → (i < length s) × (n < length s) × (i < m)
+  counted_room {v = v} {m = m} e =
+      let q : Reader (Filter Span) = filter_of as_places (length s) in
+      let b : length (drop i s) ≤ length s = rw length-drop (omega arith) in
+      let l : length (drop m s) < length (drop i s) = filter_less (length s) (drop i s) (v, drop m s) b (got_left q s i (trails_filter as_places (length s)) v m (sym e)) in
+      let k : i < length s = omega (arith, l, length-drop m s, length-drop i s) in
+      (k, omega (arith, k, C.room), (filter_ahead s k e).0)
+
+  pub counted_next : {v : Filter Span} {m : ℕ} → got (v, m) ≡ from_at (filter_of as_places (length s)) s i → Counted s at (n + 1) m
+  counted_next {v = v} e =
+      let h = (counted_room e).0 in
       let a = filter_ahead s h e in
       record {
         filters = C.filters ++ (v ∷ []);
@@ -102,8 +118,16 @@ module _ {s : List ℕ} {at n i : ℕ} (C : Counted s at n i) where
         room = omega (arith, C.room, a.0);
       }
 
-  pub counted_end : length s ≤ i → CountIs s at n
-  counted_end h = record { counts = λ fs j. C.count ∙ ap length (got_inj (sym (passed_end s (filter_less (length s)) C.passed h) ∙ j)) }
+  counted_all : length s ≤ i → CountIs s at n
+  counted_all h = record { counts = λ fs j. C.count ∙ ap length (got_inj (sym (passed_end s (filter_less (length s)) C.passed h) ∙ j)) }
+
+  -- where no filter is read, none is left, or what is left is no filter
+  pub counted_end : {k : Refusal} → bad k ≡ from_at (filter_of as_places (length s)) s i → CountIs s at n
+  counted_end e = go (leb (length s) i) refl
+    where
+      go : (b : Bool) → leb (length s) i ≡ b → CountIs s at n
+      go true h = counted_all (leb-true (length s) i h)
+      go false h = counted_bad (leb-false (length s) i h) e
 
 -- ---- at a place
 
@@ -188,6 +212,14 @@ fill_run s e (f ∷ fs) at i ys r =
     let (m, j, k) = peel (front s e) at f fs r in
     ap (λ (z : FilterEntry × ℕ). fill_from s e (length fs) z.1 (suc i) (set ys i z.0)) (entry_is s e at f m j) ∙ fill_run s e fs m (suc i) (set ys i (entry_of f)) k
 
+-- a table that is longer keeps what stands behind
+pub fill_append : (s : List ℕ) (e n at i : ℕ) (ys zs : List FilterEntry) → i + n ≤ length ys → fill_from s e n at i ys ++ zs ≡ fill_from s e n at i (ys ++ zs)
+fill_append s e zero at i ys zs h = refl
+fill_append s e (suc n) at i ys zs h =
+    let v : FilterEntry = (entry_at s at e).0 in
+    fill_append s e n (entry_at s at e).1 (suc i) (set ys i v) zs (omega (arith, h, length-set ys i v))
+    ∙ ap (fill_from s e n (entry_at s at e).1 (suc i)) (sym (set-append_left ys zs i v (omega (arith, h))))
+
 -- and are the entries from there on
 list_run : (s : List ℕ) (e : ℕ) (fs : List (Filter Span)) (at : ℕ) → many_fit (filter_of as_places (length (front s e))) (drop at (front s e)) ≡ got fs → entries_from s e (length fs) at ≡ map entry_of fs
 list_run s e [] at r = refl
@@ -196,7 +228,7 @@ list_run s e (f ∷ fs) at r =
     ap (λ (z : FilterEntry × ℕ). z.0 ∷ entries_from s e (length fs) z.1) (entry_is s e at f m j) ∙ ap (λ (l : List FilterEntry). entry_of f ∷ l) (list_run s e fs m k)
 
 module _ (s : List ℕ) (p : Span) (fs : List (Filter Span)) (r : again (filters_fit as_places) s p ≡ got fs) (es : entries_of s ≡ got (map entry_of fs)) (places n : ℕ) (c : n ≡ length fs) where
-  pub run_fits : n ≤ places → PlanIs s places (Filled n) p.start (p.start + p.len) n
+  pub run_fits : n ≤ places → PlanIs s places (Ok n) p.start (p.start + p.len) n
   unfolding table_of
   run_fits h =
       let l : length (map entry_of fs) ≡ n = length-map fs entry_of ∙ sym c in
@@ -220,7 +252,7 @@ module _ (s : List ℕ) (p : Span) (fs : List (Filter Span)) (r : again (filters
           let z : 0 + length (map entry_of fs) ≡ length (map entry_of fs) = omega arith in
           fill_run s end fs p.start 0 ys (rw f (run_many s p fs r)) ∙ sets-eq (map entry_of fs) ys 0 (omega arith) ∙ rw z
 
-  pub run_full : places < n → PlanIs s places (FilterTableFull n) 0 0 0
+  pub run_full : places < n → PlanIs s places (Err (FilterTableFull n)) 0 0 0
   unfolding table_of
   run_full h =
       let l : length (map entry_of fs) ≡ n = length-map fs entry_of ∙ sym c in
@@ -244,24 +276,30 @@ module _ (s : List ℕ) (p : Span) (fs : List (Filter Span)) (r : again (filters
 -- ---- the frame
 
 -- where the entries are refused, the answer is that refusal, and nothing is filled
-entries_bad : (s : List ℕ) (places : ℕ) (k : Refusal) (r : FilterTable) → entries_of s ≡ bad k → told_table r ≡ bad k → PlanIs s places r 0 0 0
+entries_bad : (s : List ℕ) (places : ℕ) (k : Refusal) (r : Result ℕ FilterTableError) → entries_of s ≡ bad k → told_table r ≡ bad k → PlanIs s places r 0 0 0
 unfolding table_of
 entries_bad s places k r e t = record { answer = t ∙ rw e; room = omega arith; listed = rw e; fills = λ ys q. rw e }
 
--- the plan that fills nothing in, where the reader took n bytes
-abbrev pub unfilled : FilterTable → ℕ → Plan
-unfilled r n = record { answer = r; at = 0; end = 0; count = 0; taken = n }
-
-pub plan_refused : (s : List ℕ) (places : ℕ) (e : Error) (n : ℕ) → refused_as (told_error e) n ≡ read_placed_of none s → Planned s places (unfilled (Refused e) n)
+pub plan_refused : (s : List ℕ) (places : ℕ) (e : Error) (n : ℕ) → refused_as (told_error e) n ≡ read_placed_of none s → Planned s places (unfilled (Err (Refused e)) n)
 unfolding entries_of
 plan_refused s places e n i = go (told_error e) i refl
   where
-    go : (k : Refusal) → refused_as k n ≡ read_placed_of none s → told_error e ≡ k → Planned s places (unfilled (Refused e) n)
-    go (nr k vs) i j = record { plan = entries_bad s places (nr k vs) (Refused e) (rw (← i)) (ap bad j); stands = rw (← i); taken = rw (← i) }
+    go : (k : Refusal) → refused_as k n ≡ read_placed_of none s → told_error e ≡ k → Planned s places (unfilled (Err (Refused e)) n)
+    go (nr k vs) i j = record { plan = entries_bad s places (nr k vs) (Err (Refused e)) (rw (← i)) (ap bad j); stands = rw (← i); taken = rw (← i) }
 
-pub plan_other : (s : List ℕ) (places : ℕ) (v : Placed) (n : ℕ) → accepted v n ≡ read_placed_of none s → run_of (accepted v n) ≡ bad not_subscribe → Planned s places (unfilled NotSubscribe n)
+pub plan_other : (s : List ℕ) (places : ℕ) (v : Placed) (n : ℕ) → accepted v n ≡ read_placed_of none s → run_of (accepted v n) ≡ bad not_subscribe → Planned s places (unfilled (Err NotSubscribe) n)
 unfolding entries_of
-plan_other s places v n i j = record { plan = entries_bad s places not_subscribe NotSubscribe (rw (← i, j)) refl; stands = rw (← i, j); taken = rw (← i) }
+plan_other s places v n i j = record { plan = entries_bad s places not_subscribe (Err NotSubscribe) (rw (← i, j)) refl; stands = rw (← i, j); taken = rw (← i) }
+
+-- the record of another kind has no run of filters
+pub other_run : (p : code.Packet) (n : ℕ) → ((m : CodeSubscribe) → p ≡ code.Packet.Subscribe m → ⊥) → run_of (accepted (told_packet p) n) ≡ bad not_subscribe
+other_run (code.Packet.Publish m) n h = refl
+other_run (code.Packet.Ack k m) n h = refl
+other_run (code.Packet.Subscribe m) n h = absurd (h m refl)
+other_run (code.Packet.Reply k m) n h = refl
+other_run (code.Packet.Unsubscribe m) n h = refl
+other_run code.Packet.PingReq n h = refl
+other_run code.Packet.PingResp n h = refl
 
 -- where the second is a value, so is the first
 like_there : {A B : Type 0} {R : A → B → Type 0} (m : Fit A) (m' : Fit B) (b : B) → Like R m m' → m' ≡ got b → (a : A) × (m ≡ got a)
@@ -294,18 +332,18 @@ module _ (s : List ℕ) where
       record { plan = q.plans fs f e; stands = q.stands fs f e ∙ rw (← i, j); taken = q.took ∙ rw (← i) }
 
 -- the contract of `fill_filters`, from those of `plan_of` and `put_entries`
-pub filled_is : {s : List ℕ} {xs ys : List FilterEntry} {r : FilterTable} {at end n : ℕ} → PlanIs s (length xs) r at end n → ys ≡ fill_from s end n at 0 xs → Fills s xs r ys
+pub filled_is : {s : List ℕ} {xs ys : List FilterEntry} {r : Result ℕ FilterTableError} {at end n : ℕ} → PlanIs s (length xs) r at end n → ys ≡ fill_from s end n at 0 xs → Fills s xs r ys
 filled_is {xs = xs} p e = record { answer = p.answer; table = e ∙ p.fills xs refl }
 
 -- the plan at a run whose filters are n
 module _ {s : List ℕ} {p : Span} {places n taken : ℕ} (c : RunIs s p n) where
-  pub plan_fits : n ≤ places → RunPlanIs s p places taken (record { answer = Filled n; at = p.start; end = p.start + p.len; count = n; taken = taken })
+  pub plan_fits : n ≤ places → RunPlanIs s p places taken (record { answer = Ok n; at = p.start; end = p.start + p.len; count = n; taken = taken })
   plan_fits h = record { plans = λ fs r es. run_fits s p fs r es places n (c.counts fs r) h; stands = λ fs r es. stands_fits s p fs r es places n (c.counts fs r) h; took = refl }
 
-  pub plan_full : places < n → RunPlanIs s p places taken (unfilled (FilterTableFull n) taken)
+  pub plan_full : places < n → RunPlanIs s p places taken (unfilled (Err (FilterTableFull n)) taken)
   plan_full h = record { plans = λ fs r es. run_full s p fs r es places n (c.counts fs r) h; stands = λ fs r es. stands_full s p fs r es places n (c.counts fs r) h; took = refl }
 
-pub plan_outside : {s : List ℕ} {p : Span} {places n taken : ℕ} → length s < p.start + p.len → RunPlanIs s p places taken (unfilled (FilterTableFull n) taken)
+pub plan_outside : {s : List ℕ} {p : Span} {places n taken : ℕ} → length s < p.start + p.len → RunPlanIs s p places taken (unfilled (Err (FilterTableFull n)) taken)
 plan_outside {s = s} {p = p} h =
     record { plans = λ fs r es. absurd (omega (arith, h, run_lies s p fs r)); stands = λ fs r es. absurd (omega (arith, h, run_lies s p fs r)); took = refl }
 

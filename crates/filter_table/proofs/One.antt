@@ -1,5 +1,6 @@
 -- The answer of the filter table comes back from what it tells: the reader's refusals have other numbers than 37 and 38. So inputs admit one answer only, and
 -- one table. Assumes nothing.
+use Rattle.std.specs.Prelude.{Result, Ok, Err}
 use mathlib.Core.Path.{◌≡◌, refl, sym, ap, ◌∙◌}
 use mathlib.Core.Bool.{cond}
 use mathlib.Core.List.{List}
@@ -14,17 +15,17 @@ use Rattle.records.proofs.AsNumbers.{back_error, back_error_lem}
 use Rattle.records.specs.declared.error.Error.{Error}
 use Rattle.filter_table.specs.Table.{told_table, Fills, Planned}
 use Rattle.filter_table.specs.declared.FilterEntry.{FilterEntry}
-use Rattle.filter_table.specs.declared.FilterTable.{FilterTable}
+use Rattle.filter_table.specs.declared.FilterTableError.{FilterTableError}
 use Rattle.filter_table.specs.declared.Plan.{Plan}
-use Rattle.filter_table.specs.declared.FilterTable.TheVariants.{Filled, FilterTableFull, NotSubscribe, Refused}
+use Rattle.filter_table.specs.declared.FilterTableError.TheVariants.{FilterTableFull, NotSubscribe, Refused}
 
 -- by its number: 37, 38, or one of the reader's
-abbrev back_refused : Refusal → FilterTable
+abbrev back_refused : Refusal → FilterTableError
 back_refused (nr k vs) = cond (eqb k 37) (FilterTableFull (get_or vs 0 0)) (cond (eqb k 38) NotSubscribe (Refused (back_error (nr k vs))))
 
-abbrev back_table : Fit ℕ → FilterTable
-back_table (got n) = Filled n
-back_table (bad k) = back_refused k
+abbrev back_table : Fit ℕ → Result ℕ FilterTableError
+back_table (got n) = Ok n
+back_table (bad k) = Err (back_refused k)
 
 -- none of the reader's refusals has either number
 back_refused_lem : (e : Error) → back_refused (told_error e) ≡ Refused (back_error (told_error e))
@@ -52,17 +53,17 @@ back_refused_lem Error.NoItem = refl
 back_refused_lem (Error.DuplicateProperty k) = refl
 back_refused_lem Error.SubscriptionIdZero = refl
 
-back_table_lem : (r : FilterTable) → back_table (told_table r) ≡ r
-back_table_lem (Filled n) = refl
-back_table_lem (FilterTableFull n) = refl
-back_table_lem NotSubscribe = refl
-back_table_lem (Refused e) = back_refused_lem e ∙ ap Refused (back_error_lem e)
+back_table_lem : (r : Result ℕ FilterTableError) → back_table (told_table r) ≡ r
+back_table_lem (Ok n) = refl
+back_table_lem (Err (FilterTableFull n)) = refl
+back_table_lem (Err NotSubscribe) = refl
+back_table_lem (Err (Refused e)) = ap Err (back_refused_lem e ∙ ap Refused (back_error_lem e))
 
-pub table_injective : {a b : FilterTable} → told_table a ≡ told_table b → a ≡ b
+pub table_injective : {a b : Result ℕ FilterTableError} → told_table a ≡ told_table b → a ≡ b
 table_injective = injective_by told_table back_table back_table_lem
 
 -- demand 1: a frame and a table admit one answer, and one table afterwards
-pub fills_one : {s : List ℕ} {before a b : List FilterEntry} {r q : FilterTable} → Fills s before r a → Fills s before q b → (r ≡ q) × (a ≡ b)
+pub fills_one : {s : List ℕ} {before a b : List FilterEntry} {r q : Result ℕ FilterTableError} → Fills s before r a → Fills s before q b → (r ≡ q) × (a ≡ b)
 fills_one f g = (table_injective (f.answer ∙ sym g.answer), f.table ∙ sym g.table)
 
 -- demand 1: a frame and a number of places admit one plan

@@ -1,5 +1,5 @@
 -- The table of a Subscribe's filters: its entries, the answer, and what the table holds then. Assumes nothing.
-use Rattle.std.specs.Prelude.{◌≡◌, Bool, List, [], ◌∷◌, ◌++◌, map, ℕ, zero, suc, ◌+◌, ◌*◌, ◌≤◌, leb, length, drop, set}
+use Rattle.std.specs.Prelude.{◌≡◌, List, [], ◌∷◌, ◌++◌, map, ℕ, zero, suc, ◌+◌, ◌*◌, ◌≤◌, leb, length, drop, set, Result, Ok, Err}
 use Rattle.std.proofs.Math.Option.{none}
 use Rattle.grammar.specs.Record.{Filter, publish, ack, subscribe, reply, unsubscribe, ping}
 use Rattle.reading.specs.Refusal.{Refusal, nr, Answer, accepted, refused}
@@ -9,10 +9,9 @@ use Rattle.reading.specs.Place.{Span, held_of, as_places, Placed, read_placed_of
 use Rattle.positions.specs.Position.{from_at}
 use Rattle.packet.specs.PacketRead.{taken_in}
 use Rattle.records.specs.AsNumbers.{told_error}
-use Rattle.records.specs.declared.error.Error.{Error}
 use Rattle.filter_table.specs.declared.FilterEntry.{FilterEntry}
-use Rattle.filter_table.specs.declared.FilterTable.{FilterTable}
-use Rattle.filter_table.specs.declared.FilterTable.TheVariants.{Filled, FilterTableFull, NotSubscribe, Refused}
+use Rattle.filter_table.specs.declared.FilterTableError.{FilterTableError}
+use Rattle.filter_table.specs.declared.FilterTableError.TheVariants.{FilterTableFull, NotSubscribe, Refused}
 use Rattle.filter_table.specs.declared.Plan.{Plan}
 
 -- ---- answers; their numbers are 37 and 38 (DECISIONS 29)
@@ -26,11 +25,14 @@ abbrev pub not_subscribe : Refusal
 not_subscribe = nr 38 []
 
 -- 01: the number and the values of each case; how many entries were filled
-abbrev pub told_table : FilterTable → Fit ℕ
-told_table (Filled n) = got n
-told_table (FilterTableFull n) = bad (table_full n)
-told_table NotSubscribe = bad not_subscribe
-told_table (Refused e) = bad (told_error e)
+abbrev pub told_refusal : FilterTableError → Refusal
+told_refusal (FilterTableFull n) = table_full n
+told_refusal NotSubscribe = not_subscribe
+told_refusal (Refused e) = told_error e
+
+abbrev pub told_table : Result ℕ FilterTableError → Fit ℕ
+told_table (Ok n) = got n
+told_table (Err k) = bad (told_refusal k)
 
 -- ---- entries
 
@@ -72,7 +74,7 @@ table_after (got es) t = es ++ drop (length es) t
 table_after (bad k) t = t
 
 -- the contract of `fill_filters`: the answer r, and the table afterwards
-pub record Fills (s : List ℕ) (before : List FilterEntry) (r : FilterTable) (after : List FilterEntry) : Type 0 where
+pub record Fills (s : List ℕ) (before : List FilterEntry) (r : Result ℕ FilterTableError) (after : List FilterEntry) : Type 0 where
   pub answer : told_table r ≡ on_got length (table_of s (length before))
   pub table : after ≡ table_after (table_of s (length before)) before
 
@@ -111,11 +113,15 @@ pub record EntryIs (s : List ℕ) (at end : ℕ) (e : FilterEntry) (next : ℕ) 
   pub is : (e, next) ≡ entry_at s at end
 
 -- n entries from `at` on are those to fill in, and make a table of so many places what it is to be
-pub record PlanIs (s : List ℕ) (places : ℕ) (r : FilterTable) (at end n : ℕ) : Type 0 where
+pub record PlanIs (s : List ℕ) (places : ℕ) (r : Result ℕ FilterTableError) (at end n : ℕ) : Type 0 where
   pub answer : told_table r ≡ on_got length (table_of s places)
   pub room : n ≤ places
   pub listed : entries_from s end n at ≡ filled_of (table_of s places)
   pub fills : (ys : List FilterEntry) → length ys ≡ places → fill_from s end n at 0 ys ≡ table_after (table_of s places) ys
+
+-- the plan that fills nothing in, where the reader took n bytes
+abbrev pub unfilled : Result ℕ FilterTableError → ℕ → Plan
+unfilled r n = record { answer = r; at = 0; end = 0; count = 0; taken = n }
 
 -- from where on, before which index and how many entries are read to be filled in: the run of filters, and nothing where the table stays
 abbrev pub spanned : Fit Span → Fit (List FilterEntry) → ℕ × (ℕ × ℕ)

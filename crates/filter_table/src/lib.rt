@@ -4,12 +4,11 @@
 ghost use Rattle.std.specs.Prelude.{◌≡◌, ◌≤◌, length};
 ghost use Rattle.records.specs.AsNumbers.{told_span};
 ghost use Rattle.records.specs.Said.{told_filter};
-ghost use Rattle.filter_table.specs.Table.{entry_of, EntryIs, CountIs, RunIs, RunPlanIs, Planned, fill_from, Fills};
+ghost use Rattle.filter_table.specs.Table.{entry_of, EntryIs, CountIs, RunIs, RunPlanIs, Planned, unfilled, fill_from, Fills};
 
-use filters::{GotFilter, read_filter};
+use filters::read_filter;
 use packet;
 use qos_numbers::{bit, qos_number, rule_number};
-use records::answer::{Limit, Read};
 use records::error::Error;
 use records::packet_record::Packet;
 use records::span::Span;
@@ -24,10 +23,9 @@ pub struct FilterEntry {
     pub options: u8,
 }
 
-// How many entries were filled, or why none was.
+// Why no entry was filled.
 #[derive(Clone, Copy)]
-pub enum FilterTable {
-    Filled(usize),
+pub enum FilterTableError {
     // 37: how many places are needed
     FilterTableFull(usize),
     // 38: the frame is another packet
@@ -43,10 +41,10 @@ pub struct NextEntry {
     pub next: usize,
 }
 
-// The answer, and where the entries are read that are filled in.
+// The answer, how many entries are filled or why none is, and where the entries are read that are filled in.
 #[derive(Clone, Copy)]
 pub struct Plan {
-    pub answer: FilterTable,
+    pub answer: Result<usize, FilterTableError>,
     pub at: usize,
     pub end: usize,
     pub count: usize,
@@ -55,6 +53,7 @@ pub struct Plan {
 }
 
 // A filter as an entry.
+// No From: the edit wrong_bit names it, and From is no plainer.
 fn to_entry(f: Filter) -> FilterEntry
     ensures { result ≡ entry_of (told_filter f) }
 {
@@ -78,17 +77,17 @@ pub fn entry_at(s: &[u8], at: usize, end: usize) -> NextEntry
     ensures { EntryIs s.now at end result.entry result.next }
 {
     match read_filter(string::part(s, Span { start: 0, len: end }), at) {
-        GotFilter::Refused(_) => {
+        Err(_) => {
             let entry = FilterEntry {
                 start: 0,
                 len: 0,
                 options: 0,
             };
-            return NextEntry { entry, next: at };
+            NextEntry { entry, next: at }
         }
-        GotFilter::Value(f, next) => {
+        Ok((f, next)) => {
             let entry = to_entry(f);
-            return NextEntry { entry, next };
+            NextEntry { entry, next }
         }
     }
 }
@@ -99,14 +98,9 @@ fn count_in(s: &[u8], at: usize) -> usize
 {
     let mut n: usize = 0;
     let mut i = at;
-    while i < s.len() {
-        match read_filter(s, i) {
-            GotFilter::Refused(_) => return n,
-            GotFilter::Value(_, next) => {
-                n = n + 1;
-                i = next;
-            }
-        }
+    while let Ok((_, next)) = read_filter(s, i) {
+        n += 1;
+        i = next;
     }
     n
 }
@@ -116,12 +110,22 @@ fn count_at(s: &[u8], p: Span) -> usize
     ensures { RunIs s.now (told_span p) result }
 {
     if string::within(s, p) {
-        let start = p.start;
-        let len = p.len;
-        let end = start + len;
-        return count_in(&s[..end], start);
+        return count_in(&s[..p.start + p.len], p.start);
     }
     0
+}
+
+// The plan that fills nothing in.
+fn unfilled(why: FilterTableError, taken: usize) -> Plan
+    ensures { result ≡ unfilled (Err why) taken }
+{
+    Plan {
+        answer: Err(why),
+        at: 0,
+        end: 0,
+        count: 0,
+        taken,
+    }
 }
 
 // The plan for a run of filters at a place.
@@ -129,66 +133,28 @@ fn plan_run(s: &[u8], p: Span, places: usize, taken: usize) -> Plan
     ensures { RunPlanIs s.now (told_span p) places taken result }
 {
     let count = count_at(s, p);
-    if string::within(s, p) {
-        if count <= places {
-            let start = p.start;
-            let len = p.len;
-            let end = start + len;
-            let answer = FilterTable::Filled(count);
-            return Plan {
-                answer,
-                at: start,
-                end,
-                count,
-                taken,
-            };
-        }
+    if string::within(s, p) && count <= places {
+        return Plan {
+            answer: Ok(count),
+            at: p.start,
+            end: p.start + p.len,
+            count,
+            taken,
+        };
     }
-    let answer = FilterTable::FilterTableFull(count);
-    let none: usize = 0;
-    Plan {
-        answer,
-        at: 0,
-        end: 0,
-        count: none,
-        taken,
-    }
+    unfilled(FilterTableError::FilterTableFull(count), taken)
 }
 
 // The plan for the frame at the start of s, read with no limit, and a table of so many places.
 pub fn plan_of(s: &[u8], places: usize) -> Plan
     ensures { Planned s.now places result }
 {
-    match packet::read(s, Limit::Unlimited) {
-        Read::Refused(e, taken) => {
-            let answer = FilterTable::Refused(e);
-            return Plan {
-                answer,
-                at: 0,
-                end: 0,
-                count: 0,
-                taken,
-            };
-        }
-        Read::Packet(p, _, taken) => {
-            match p {
-                Packet::Subscribe(m) => return plan_run(s, m.filters, places, taken),
-                Packet::Publish(_) => {}
-                Packet::Ack(_, _) => {}
-                Packet::Reply(_, _) => {}
-                Packet::Unsubscribe(_) => {}
-                Packet::PingReq => {}
-                Packet::PingResp => {}
-            }
-            let answer = FilterTable::NotSubscribe;
-            return Plan {
-                answer,
-                at: 0,
-                end: 0,
-                count: 0,
-                taken,
-            };
-        }
+    match packet::read(s, None) {
+        Err((e, taken)) => unfilled(FilterTableError::Refused(e), taken),
+        Ok((p, _, taken)) => match p {
+            Packet::Subscribe(m) => plan_run(s, m.filters, places, taken),
+            _ => unfilled(FilterTableError::NotSubscribe, taken),
+        },
     }
 }
 
@@ -197,19 +163,17 @@ fn put_entries(s: &[u8], at: usize, end: usize, n: usize, table: &mut [FilterEnt
     requires { n ≤ length table.old }
     ensures { table.new ≡ fill_from s.now end n at 0 table.old }
 {
-    let mut i: usize = 0;
     let mut j = at;
-    while i < n {
+    for place in &mut table[..n] {
         let e = entry_at(s, j, end);
-        table[i] = e.entry;
+        *place = e.entry;
         j = e.next;
-        i = i + 1;
     }
 }
 
 // The filters of the Subscribe at the start of `frame`, read with no limit, in order: how many; or the reader's refusal, NotSubscribe (38) or
 // FilterTableFull (37) with the number needed, and the table as it was.
-pub fn fill_filters(frame: &[u8], table: &mut [FilterEntry]) -> FilterTable
+pub fn fill_filters(frame: &[u8], table: &mut [FilterEntry]) -> Result<usize, FilterTableError>
     ensures { Fills frame.now table.old result table.new }
 {
     let p = plan_of(frame, table.len());

@@ -10,56 +10,36 @@ ghost use Rattle.grammar.specs.Sentence.{rule_fine, qos_fine};
 ghost use Rattle.filters.specs.FilterRead.{told_got_filter, options_of, FilterPassed};
 
 use numbers::fixed;
-use numbers::got::GotU8;
 use qos_numbers::retain_forward_rule;
 use records::error::Error;
 use records::span::Span;
-use records::subscribe_record::{Filter, GotRule};
+use records::subscribe_record::Filter;
 use tables::qos;
-use tables::qos::GotQos;
-use wire::got::GotSpan;
 use wire::string;
 
-// A filter and the index after it.
-#[derive(Clone, Copy)]
-pub enum GotFilter {
-    Value(Filter, usize),
-    Refused(Error),
-}
-
 // The filter of a text and its options byte, which ends at `next`: the forward rule before QoS; bits 6 and 7 are ignored.
-fn with_options(path: Span, options: u8, next: usize) -> GotFilter
+fn with_options(path: Span, options: u8, next: usize) -> Result<(Filter, usize), Error>
     ensures { told_got_filter result ≡ options_of (told_span path) options next }
 {
-    match retain_forward_rule(options / 16 % 4) {
-        GotRule::Refused(e) => return GotFilter::Refused(e),
-        GotRule::Value(retain_forward_rule) => match qos::qos(options % 4) {
-            GotQos::Refused(e) => return GotFilter::Refused(e),
-            GotQos::Value(qos) => {
-                let filter = Filter {
-                    path,
-                    qos,
-                    nolocal: fixed::flag(options / 4),
-                    preserve_retain: fixed::flag(options / 8),
-                    retain_forward_rule,
-                };
-                return GotFilter::Value(filter, next);
-            }
-        },
-    }
+    let retain_forward_rule = retain_forward_rule(options / 16 % 4)?;
+    let qos = qos::qos(options % 4)?;
+    let filter = Filter {
+        path,
+        qos,
+        nolocal: fixed::flag(options / 4),
+        preserve_retain: fixed::flag(options / 8),
+        retain_forward_rule,
+    };
+    Ok((filter, next))
 }
 
 // One filter and the index after it; else 7, 8, 9, 14, then 11.
-pub fn read_filter(s: &[u8], at: usize) -> GotFilter
+pub fn read_filter(s: &[u8], at: usize) -> Result<(Filter, usize), Error>
     ensures { told_got_filter result ≡ from_at (filter_of as_places (length s.now)) s.now at }
 {
-    match string::read_mqtt_string(s, at) {
-        GotSpan::Refused(e) => return GotFilter::Refused(e),
-        GotSpan::Value(path, end) => match fixed::read_u8(s, end) {
-            GotU8::Refused(e) => return GotFilter::Refused(e),
-            GotU8::Value(options, next) => return with_options(path, options, next),
-        },
-    }
+    let (path, end) = string::read_mqtt_string(s, at)?;
+    let (options, next) = fixed::read_u8(s, end)?;
+    with_options(path, options, next)
 }
 
 // Whether an options byte may stand: neither its forward rule nor its QoS is 3.
@@ -76,16 +56,11 @@ fn has_options(options: u8) -> bool
 pub fn pass_filter(s: &[u8], at: usize) -> usize
     ensures { FilterPassed s.now at result }
 {
-    match string::read_mqtt_string(s, at) {
-        GotSpan::Refused(e) => return at,
-        GotSpan::Value(path, end) => match fixed::read_u8(s, end) {
-            GotU8::Refused(e) => return at,
-            GotU8::Value(options, next) => {
-                if has_options(options) {
-                    return next;
-                }
-                return at;
-            }
-        },
-    }
+    let Ok((_, end)) = string::read_mqtt_string(s, at) else {
+        return at;
+    };
+    let Ok((options, next)) = fixed::read_u8(s, end) else {
+        return at;
+    };
+    if has_options(options) { next } else { at }
 }

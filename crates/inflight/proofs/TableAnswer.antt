@@ -5,6 +5,7 @@ use mathlib.Core.Bool.{cond}
 use mathlib.Core.List.{List, [], ◌∷◌, map}
 use Prim.Native.Nat.{ℕ, zero, suc}
 use lib.Dec.{eqb}
+use Rattle.std.specs.Prelude.{Result, Ok, Err}
 use Rattle.reading.specs.Refusal.{nr}
 use Rattle.records.proofs.Laws.{injective_by}
 use Rattle.inflight.specs.Rules.{Says, granted, freed, moved, refused, Left}
@@ -12,9 +13,10 @@ use Rattle.inflight.specs.TableAnswer.{code_of, place_code, waits_of, claim_of, 
 use Rattle.inflight.specs.declared.Wait.{Wait}
 use Rattle.inflight.specs.declared.Place.{Place}
 use Rattle.inflight.specs.declared.InFlight.{InFlight}
-use Rattle.inflight.specs.declared.Claim.{Claim}
+use Rattle.inflight.specs.declared.ClaimError.{ClaimError}
 use Rattle.inflight.specs.declared.Claimed.{Claimed}
 use Rattle.inflight.specs.declared.Answer.{Answer}
+use Rattle.inflight.specs.declared.NotWaiting.{NotWaiting}
 use Rattle.inflight.specs.declared.Answered.{Answered}
 
 back_code : ℕ → Wait
@@ -54,36 +56,36 @@ back_table_lem t = ap (λ (ps : List Place). record { places = ps }) (back_place
 pub table_same : {a b : InFlight} → waits_of a ≡ waits_of b → a ≡ b
 table_same = injective_by waits_of back_table back_table_lem
 
-back_claim : Says → Claim
-back_claim (granted n) = Claim.Granted n
-back_claim freed = Claim.NoClaim
-back_claim moved = Claim.NoClaim
-back_claim (refused (nr k vs)) = cond (eqb k 29) Claim.InFlightFull Claim.NoClaim
+back_claim : Says → Result ℕ ClaimError
+back_claim (granted n) = Ok n
+back_claim freed = Err ClaimError.NoClaim
+back_claim moved = Err ClaimError.NoClaim
+back_claim (refused (nr k vs)) = Err (cond (eqb k 29) ClaimError.InFlightFull ClaimError.NoClaim)
 
-back_claim_lem : (c : Claim) → back_claim (claim_of c) ≡ c
+back_claim_lem : (c : Result ℕ ClaimError) → back_claim (claim_of c) ≡ c
 unfolding back_claim
-back_claim_lem (Claim.Granted n) = refl
-back_claim_lem Claim.InFlightFull = refl
-back_claim_lem Claim.NoClaim = refl
+back_claim_lem (Ok n) = refl
+back_claim_lem (Err ClaimError.InFlightFull) = refl
+back_claim_lem (Err ClaimError.NoClaim) = refl
 
-back_answer : Says → Answer
-back_answer (granted n) = Answer.NotWaiting
-back_answer freed = Answer.Freed
-back_answer moved = Answer.Moved
-back_answer (refused k) = Answer.NotWaiting
+back_answer : Says → Result Answer NotWaiting
+back_answer (granted n) = Err record {}
+back_answer freed = Ok Answer.Freed
+back_answer moved = Ok Answer.Moved
+back_answer (refused k) = Err record {}
 
-back_answer_lem : (a : Answer) → back_answer (answer_of a) ≡ a
+back_answer_lem : (a : Result Answer NotWaiting) → back_answer (answer_of a) ≡ a
 unfolding back_answer
-back_answer_lem Answer.Freed = refl
-back_answer_lem Answer.Moved = refl
-back_answer_lem Answer.NotWaiting = refl
+back_answer_lem (Ok Answer.Freed) = refl
+back_answer_lem (Ok Answer.Moved) = refl
+back_answer_lem (Err e) = refl
 
 back_claimed : Left → Claimed
 back_claimed r = record { table = back_table r.table; claim = back_claim r.says }
 
 back_claimed_lem : (c : Claimed) → back_claimed (after_claim c) ≡ c
 unfolding back_claimed
-back_claimed_lem c = ap₂ (λ (t : InFlight) (s : Claim). record { table = t; claim = s }) (back_table_lem c.table) (back_claim_lem c.claim)
+back_claimed_lem c = ap₂ (λ (t : InFlight) (s : Result ℕ ClaimError). record { table = t; claim = s }) (back_table_lem c.table) (back_claim_lem c.claim)
 
 -- a claim's answer with its table
 pub claimed_same : {a b : Claimed} → after_claim a ≡ after_claim b → a ≡ b
@@ -94,7 +96,7 @@ back_answered r = record { table = back_table r.table; answer = back_answer r.sa
 
 back_answered_lem : (a : Answered) → back_answered (after_answer a) ≡ a
 unfolding back_answered
-back_answered_lem a = ap₂ (λ (t : InFlight) (s : Answer). record { table = t; answer = s }) (back_table_lem a.table) (back_answer_lem a.answer)
+back_answered_lem a = ap₂ (λ (t : InFlight) (s : Result Answer NotWaiting). record { table = t; answer = s }) (back_table_lem a.table) (back_answer_lem a.answer)
 
 -- an answer with its table
 pub answered_same : {a b : Answered} → after_answer a ≡ after_answer b → a ≡ b

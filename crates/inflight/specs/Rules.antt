@@ -1,5 +1,5 @@
 -- P4 of 02 on lists: a table is the list of what each identifier waits for, from identifier 1 upward, by P11's numbers.
-use Rattle.std.specs.Prelude.{◌≡◌, Bool, true, false, ◌&&◌, cond, List, [], ◌∷◌, ℕ, zero, suc, ◌+◌, ◌<◌, ◌≤◌, eqb, leb, ltb, length, get_or, set}
+use Rattle.std.specs.Prelude.{◌≡◌, Bool, true, ◌&&◌, cond, List, [], ◌∷◌, ℕ, zero, suc, ◌+◌, ◌<◌, ◌≤◌, eqb, ltb, length, get_or, set}
 use Rattle.reading.specs.Refusal.{Refusal, nr}
 
 -- "Identifiers are 1 to 128"; P12, "Raise the identifiers in P4 to 1,024"

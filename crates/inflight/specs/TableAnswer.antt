@@ -1,16 +1,17 @@
 -- What the values of src/lib.rt say in the terms of Rules: "any answer that is an enum has a definition".
-use Rattle.std.specs.Prelude.{◌≡◌, List, [], map, ℕ, ◌+◌, ◌≤◌, length, drop}
+use Rattle.std.specs.Prelude.{◌≡◌, List, [], map, ℕ, ◌+◌, ◌≤◌, length, drop, Result, Ok, Err}
 use Rattle.reading.specs.Refusal.{nr}
 use Rattle.inflight.specs.Rules.{first_free, free, puback, pubrec, pubcomp, Says, granted, freed, moved, refused, Left}
 use Rattle.inflight.specs.declared.Wait.{Wait}
 use Rattle.inflight.specs.declared.Wait.TheVariants.{Free, PubAck, PubRec, PubComp}
 use Rattle.inflight.specs.declared.Place.{Place}
 use Rattle.inflight.specs.declared.InFlight.{InFlight}
-use Rattle.inflight.specs.declared.Claim.{Claim}
-use Rattle.inflight.specs.declared.Claim.TheVariants.{Granted, InFlightFull, NoClaim}
+use Rattle.inflight.specs.declared.ClaimError.{ClaimError}
+use Rattle.inflight.specs.declared.ClaimError.TheVariants.{InFlightFull, NoClaim}
 use Rattle.inflight.specs.declared.Claimed.{Claimed}
 use Rattle.inflight.specs.declared.Answer.{Answer}
-use Rattle.inflight.specs.declared.Answer.TheVariants.{Freed, Moved, NotWaiting}
+use Rattle.inflight.specs.declared.Answer.TheVariants.{Freed, Moved}
+use Rattle.inflight.specs.declared.NotWaiting.{NotWaiting}
 use Rattle.inflight.specs.declared.Answered.{Answered}
 
 -- P11, "free 0, PubAck 1, PubRec 2, PubComp 3"
@@ -29,16 +30,16 @@ unfoldable pub waits_of : InFlight → List ℕ
 waits_of t = map place_code t.places
 
 -- P4: the identifier, "InFlightFull" or "NoClaim"
-abbrev pub claim_of : Claim → Says
-claim_of (Granted n) = granted n
-claim_of InFlightFull = refused (nr 29 [])
-claim_of NoClaim = refused (nr 30 [])
+abbrev pub claim_of : Result ℕ ClaimError → Says
+claim_of (Ok n) = granted n
+claim_of (Err InFlightFull) = refused (nr 29 [])
+claim_of (Err NoClaim) = refused (nr 30 [])
 
 -- P4: freed, moved on to PubComp, or "NotWaiting"
-abbrev pub answer_of : Answer → Says
-answer_of Freed = freed
-answer_of Moved = moved
-answer_of NotWaiting = refused (nr 31 [])
+abbrev pub answer_of : Result Answer NotWaiting → Says
+answer_of (Ok Freed) = freed
+answer_of (Ok Moved) = moved
+answer_of (Err e) = refused (nr 31 [])
 
 -- P4: "each call hands back the table it leaves behind"
 abbrev pub after_claim : Claimed → Left

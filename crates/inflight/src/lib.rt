@@ -2,8 +2,8 @@
 // leaves behind, with its answer. Refusals are 29 to 31.
 #![tactic(auto)]
 
-ghost use Rattle.std.specs.Prelude.{◌≡◌, min, replicate};
-ghost use Rattle.inflight.specs.Rules.{limit, free, first_free, claim_for, claimed, wait_of, put, settled, became_of, one_if_waits, waiting, call, pub_ack, pub_rec, pub_comp, answer_by};
+ghost use Rattle.std.specs.Prelude.{◌≡◌, ◌==◌, min, replicate, position};
+ghost use Rattle.inflight.specs.Rules.{limit, free, first_free, claim_for, claimed, wait_of, put, settled, became_of, waiting, call, pub_ack, pub_rec, pub_comp, answer_by};
 ghost use Rattle.inflight.specs.TableAnswer.{code_of, waits_of, answer_of, after_claim, after_answer};
 ghost use Rattle.records.specs.AsNumbers.{told_qos, told_ack_kind};
 
@@ -14,7 +14,7 @@ use records::qos::QoS;
 pub const LIMIT: usize = 1024;
 
 // What the place of an identifier waits for.
-#[derive(Clone, Copy)]
+#[derive(Clone, Copy, PartialEq, Eq)]
 pub enum Wait {
     Free,
     PubAck,
@@ -33,39 +33,44 @@ pub struct InFlight {
     pub places: [Place; LIMIT],
 }
 
-#[derive(Clone, Copy)]
-pub enum Claim {
-    // the identifier that was free and now waits
-    Granted(u16),
+// Why a claim is refused.
+#[derive(Clone, Copy, Debug, PartialEq, Eq)]
+pub enum ClaimError {
     // 29: no identifier is free
     InFlightFull,
     // 30: QoS 0 has no identifier
     NoClaim,
 }
 
+// P4 has a call hand back its table, on a refusal too: the answer stands beside it.
 #[derive(Clone, Copy)]
 pub struct Claimed {
     pub table: InFlight,
-    pub claim: Claim,
+    // the identifier that was free and now waits
+    pub claim: Result<u16, ClaimError>,
 }
 
-#[derive(Clone, Copy)]
+// What became of the identifier of an answer.
+#[derive(Clone, Copy, Debug, PartialEq, Eq)]
 pub enum Answer {
     // the identifier is free again
     Freed,
     // the identifier waits for PubComp now
     Moved,
-    // 31: it does not wait for this answer
-    NotWaiting,
 }
+
+// 31: the identifier does not wait for this answer.
+#[derive(Clone, Copy, Debug, PartialEq, Eq)]
+pub struct NotWaiting;
 
 #[derive(Clone, Copy)]
 pub struct Answered {
     pub table: InFlight,
-    pub answer: Answer,
+    pub answer: Result<Answer, NotWaiting>,
 }
 
 // The number of what a place waits for, as P11 stores it.
+// No From and TryFrom: the edits pubcomp_is_free and two_is_pubcomp name these, and a TryFrom would say less of the numbers above 3.
 pub fn code(w: Wait) -> u8
     ensures { result ≡ code_of w }
 {
@@ -99,40 +104,28 @@ impl InFlight {
         InFlight { places }
     }
 
-    // The number of places before the first that is free; LIMIT if none is.
-    fn first_free(self) -> usize
-        ensures { result ≡ first_free (waits_of self) }
+    // The first place that is free.
+    fn first_free(self) -> Option<usize>
+        ensures { result ≡ position (λ p. code_of p.wait == 0) self.places }
     {
-        let mut i: usize = 0;
-        while i < LIMIT {
-            let p = self.places[i];
-            let w = p.wait;
-            if code(w) == 0 {
-                return i;
-            }
-            i += 1;
-        }
-        i
+        self.places.iter().position(|p| code(p.wait) == 0)
     }
 
     // The smallest free identifier, now waiting for `w`.
     fn claim_for(self, w: Wait) -> Claimed
         ensures { after_claim result ≡ claim_for (code_of w) (waits_of self) }
     {
-        let i = self.first_free();
-        if i < LIMIT {
-            let mut table = self;
-            let p = Place { wait: w };
-            table.places[i] = p;
-            let id = (i + 1) as u16;
+        let Some(i) = self.first_free() else {
             return Claimed {
-                table,
-                claim: Claim::Granted(id),
+                table: self,
+                claim: Err(ClaimError::InFlightFull),
             };
-        }
+        };
+        let mut table = self;
+        table.places[i] = Place { wait: w };
         Claimed {
-            table: self,
-            claim: Claim::InFlightFull,
+            table,
+            claim: Ok((i + 1) as u16),
         }
     }
 
@@ -143,7 +136,7 @@ impl InFlight {
         match qos {
             QoS::AtMostOnce => Claimed {
                 table: self,
-                claim: Claim::NoClaim,
+                claim: Err(ClaimError::NoClaim),
             },
             QoS::AtLeastOnce => self.claim_for(Wait::PubAck),
             QoS::ExactlyOnce => self.claim_for(Wait::PubRec),
@@ -188,15 +181,15 @@ impl InFlight {
     fn settle(self, id: u16, due: Wait, to: Wait) -> Answered
         ensures { after_answer result ≡ settled (code_of due) (code_of to) (waits_of self) id }
     {
-        let w = self.waits_for(id);
-        if code(w) == code(due) {
-            let table = self.put(id, to);
-            let answer = became(to);
-            return Answered { table, answer };
+        if self.waits_for(id) != due {
+            return Answered {
+                table: self,
+                answer: Err(NotWaiting),
+            };
         }
         Answered {
-            table: self,
-            answer: Answer::NotWaiting,
+            table: self.put(id, to),
+            answer: Ok(became(to)),
         }
     }
 
@@ -231,15 +224,13 @@ impl InFlight {
         let id = ack.pkid;
         let reason = ack.reason;
         match kind {
-            AckKind::PubAck => return self.puback(id),
-            AckKind::PubRec => return self.pubrec(id, reason),
-            AckKind::PubRel => {
-                return Answered {
-                    table: self,
-                    answer: Answer::NotWaiting,
-                };
-            }
-            AckKind::PubComp => return self.pubcomp(id),
+            AckKind::PubAck => self.puback(id),
+            AckKind::PubRec => self.pubrec(id, reason),
+            AckKind::PubRel => Answered {
+                table: self,
+                answer: Err(NotWaiting),
+            },
+            AckKind::PubComp => self.pubcomp(id),
         }
     }
 
@@ -247,31 +238,13 @@ impl InFlight {
     pub fn waiting(self) -> usize
         ensures { result ≡ waiting (waits_of self) }
     {
-        let mut n: usize = 0;
-        let mut i: usize = 0;
-        while i < LIMIT {
-            let p = self.places[i];
-            let w = p.wait;
-            n += one_if_waits(w);
-            i += 1;
-        }
-        n
+        self.places.iter().filter(|p| code(p.wait) != 0).count()
     }
-}
-
-// 1 for a place that waits, else 0.
-fn one_if_waits(w: Wait) -> usize
-    ensures { result ≡ one_if_waits (code_of w) }
-{
-    if code(w) == 0 {
-        return 0;
-    }
-    1
 }
 
 // What an identifier that went on to `w` says of itself.
 fn became(w: Wait) -> Answer
-    ensures { answer_of result ≡ became_of (code_of w) }
+    ensures { answer_of (Ok result) ≡ became_of (code_of w) }
 {
     if code(w) == 0 {
         return Answer::Freed;

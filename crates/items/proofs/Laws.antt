@@ -1,4 +1,5 @@
 -- How the search for the n-th value goes on over the properties of a block. Assumes nothing.
+use Rattle.std.specs.Prelude.{Ok, Err}
 use mathlib.Core.Path.{◌≡◌, refl, sym, ap, ◌∙◌}
 use mathlib.Core.Bool.{Bool, true, false, not, cond}
 use mathlib.Core.Option.{some}
@@ -33,7 +34,6 @@ use Rattle.property_value.specs.OneProperty.{told_value, form_of, PropertyRead}
 use Rattle.property_value.proofs.Laws.{value_tag, property_left, property_ahead}
 use Rattle.property_value.specs.declared.Value.{Value}
 use Rattle.property_value.specs.declared.Value.TheVariants.{U8, U16, U32, Number, Text, Bytes, Pair}
-use Rattle.property_value.specs.declared.GotProperty.TheVariants.{Found, Refused}
 use Rattle.property_value.specs.contracts.Value.{the_type}
 use Rattle.items.specs.Nth.{sought, Formed, SeekOn, sought_in, SeekIn, NthRead}
 use Rattle.items.specs.declared.Seek.{Seek}
@@ -150,13 +150,13 @@ module _ (row : Row) (i : ℕ) (s : List ℕ) where
           fresh : reads w.σ (get_or s at 0 ∷ drop (suc at) s) ≡ property_of as_places row (length s) (get_or s at 0 ∷ drop (suc at) s)
           fresh = once_fresh as_places row (length s) w.σ (get_or s at 0) (drop (suc at) s) (w.there (get_or s at 0) ∙ t)
 
-          pub seeking_bad : {e : Error} → PropertyRead row s at (Refused e) → SeekIn row i s start n (Left n)
+          pub seeking_bad : {e : Error} → PropertyRead row s at (Err e) → SeekIn row i s start n (Left n)
           seeking_bad {e = e} r = stop (told_error e) (fresh ∙ rw (drop-cons s at 0 h) at (bad_left (property_of as_places row (length s)) s at (told_error e) (sym r.says)))
 
-          pub seeking_ahead : {k : ℕ} {v : Value} {o : ℕ} → PropertyRead row s at (Found k v o) → at < o
+          pub seeking_ahead : {k : ℕ} {v : Value} {o : ℕ} → PropertyRead row s at (Ok (k, v, o)) → at < o
           seeking_ahead {k = k} {v = v} {o = o} r = property_ahead row s at (k, told_value v) o r.says
 
-          pub seeking_next : {k : ℕ} {v : Value} {o : ℕ} → PropertyRead row s at (Found k v o) → get_or s at 0 < 256 → {b : Bool} → b ≡ not (is_list row k) → {q' : Seek} → SeekOn q i k v q' → Seeking q' (set m (get_or s at 0) b) o
+          pub seeking_next : {k : ℕ} {v : Value} {o : ℕ} → PropertyRead row s at (Ok (k, v, o)) → get_or s at 0 < 256 → {b : Bool} → b ≡ not (is_list row k) → {q' : Seek} → SeekOn q i k v q' → Seeking q' (set m (get_or s at 0) b) o
           unfolding sought_in property_of
           seeking_next {k = k} {v = v} {o = o} r u {b = b} d {q' = q'} x =
               let f = rw (drop-cons s at 0 h) at (property_left row s at (k, told_value v) o r.says) in

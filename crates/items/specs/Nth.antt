@@ -1,4 +1,5 @@
 -- The n-th item of a block, and what the search for the n-th value of a property comes to. Assumes nothing.
+use Rattle.std.specs.Prelude as std
 use Rattle.std.specs.Prelude.{◌≡◌, List, [], ◌∷◌, ℕ, length, drop}
 use Rattle.std.proofs.Math.Option.{Option, some}
 use Rattle.grammar.specs.Record.{Val, PropOf, all_of}
@@ -10,8 +11,6 @@ use Rattle.reading.specs.Place.{as_places, or_no_item, nth_of, values_at, user_a
 use Rattle.reading.specs.Place as place
 use Rattle.records.specs.AsNumbers.{told_span}
 use Rattle.records.specs.Answered.{told_user, told_identifier}
-use Rattle.records.specs.declared.answer.UserItem.{UserItem}
-use Rattle.records.specs.declared.answer.IdentifierItem.{IdentifierItem}
 use Rattle.records.specs.declared.span.Span.{Span}
 use Rattle.property_value.specs.OneProperty.{told_value, form_of}
 use Rattle.property_value.specs.declared.Value.{Value}
@@ -51,9 +50,9 @@ pub record NthRead (row : tables.Row) (i : ℕ) (s : List ℕ) (p : place.Span) 
   pub formed : Formed (tables.form_at row i) r
 
 -- the contract of `user_property`: r is the n-th user property of the block at p in s, of a row, or 21
-abbrev pub NthUser : tables.Row → List ℕ → Span → ℕ → UserItem → Type 0
+abbrev pub NthUser : tables.Row → List ℕ → Span → ℕ → std.Option (Span × Span) → Type 0
 NthUser row s p n r = told_user r ≡ user_at as_places s (told_span p) row n
 
 -- the contract of `subscription_identifier`: the same of the identifiers of a Publish block
-abbrev pub NthIdentifier : List ℕ → Span → ℕ → IdentifierItem → Type 0
+abbrev pub NthIdentifier : List ℕ → Span → ℕ → std.Option ℕ → Type 0
 NthIdentifier s p n r = told_identifier r ≡ subscription_at as_places s (told_span p) n

@@ -8,8 +8,7 @@ ghost use Rattle.records.specs.AsNumbers.{told_span};
 ghost use Rattle.tables.specs.Property.{table_row};
 ghost use Rattle.items.specs.Nth.{SeekOn, SeekIn, NthRead, NthUser, NthIdentifier};
 
-use property_value::{GotProperty, Value};
-use records::answer::{IdentifierItem, UserItem};
+use property_value::Value;
 use records::span::Span;
 use tables::property::PropertyRow;
 use wire::string;
@@ -71,10 +70,10 @@ fn seek_in(row: PropertyRow, id: u8, s: &[u8], start: usize, n: usize) -> Seek
             return Seek::Left(n);
         }
         match property_value::read_property(row, s, at) {
-            GotProperty::Refused(_) => {
+            Err(_) => {
                 return Seek::Left(n);
             }
-            GotProperty::Found(k, v, next) => {
+            Ok((k, v, next)) => {
                 met[first] = is_single(row, k);
                 seek = seek_on(seek, id, k, v);
                 at = next;
@@ -98,31 +97,31 @@ fn nth_value(row: PropertyRow, id: u8, s: &[u8], p: Span, n: usize) -> Seek
 }
 
 // The n-th user property of the block at a place, n from 0, or 21.
-pub fn user_property(row: PropertyRow, s: &[u8], p: Span, n: usize) -> UserItem
+pub fn user_property(row: PropertyRow, s: &[u8], p: Span, n: usize) -> Option<(Span, Span)>
     ensures { NthUser (table_row row) s.now p n result }
 {
     match nth_value(row, 38, s, p, n) {
-        Seek::Left(_) => UserItem::NoItem,
+        Seek::Left(_) => None,
         Seek::At(v) => {
             if let Value::Pair(key, value) = v {
-                return UserItem::Pair(key, value);
+                return Some((key, value));
             }
-            UserItem::NoItem
+            None
         }
     }
 }
 
 // The n-th subscription identifier of a Publish, n from 0, or 21.
-pub fn subscription_identifier(s: &[u8], p: Span, n: usize) -> IdentifierItem
+pub fn subscription_identifier(s: &[u8], p: Span, n: usize) -> Option<u32>
     ensures { NthIdentifier s.now p n result }
 {
     match nth_value(PropertyRow::Publish, 11, s, p, n) {
-        Seek::Left(_) => IdentifierItem::NoItem,
+        Seek::Left(_) => None,
         Seek::At(v) => {
             if let Value::Number(id) = v {
-                return IdentifierItem::Number(id);
+                return Some(id);
             }
-            IdentifierItem::NoItem
+            None
         }
     }
 }

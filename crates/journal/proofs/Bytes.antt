@@ -1,7 +1,7 @@
 -- Numbers in bytes, and back.
 -- Assumes nothing.
 use mathlib.Core.Path.{◌≡◌, refl, sym, ap, ap₂, ◌∙◌}
-use Prim.Native.Nat.{ℕ, zero, suc, ◌+◌, ◌*◌, ◌-◌, ◌/◌, ◌%◌, ◌^◌, ◌<◌}
+use Prim.Native.Nat.{ℕ, zero, suc, ◌+◌, ◌*◌, ◌/◌, ◌%◌, ◌^◌, ◌<◌}
 use native.Mathlib.Nat.{not-suc-le-zero, mod-lt, zero-lt-suc, mod-eq_of_lt, pow-suc, add-mul, mul_assoc, mul_comm, add_assoc, mod-one}
 use native.Mathlib.Omega.{arith}
 use lib.Arith.{mod-mul}

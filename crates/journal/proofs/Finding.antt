@@ -1,26 +1,32 @@
 -- The walk over the blocks from the last to the first, and what the three calls leave.
 -- Assumes nothing.
-use mathlib.Core.Path.{◌≡◌, refl, sym, ap, ap₂, ◌∙◌, subst}
+use mathlib.Core.Path.{◌≡◌, refl, sym, ap, ap₂, ◌∙◌}
 use mathlib.Core.Bool.{Bool, true, false, ◌&&◌, cond}
-use mathlib.Core.List.{List, ◌++◌, append_assoc}
+use mathlib.Core.List.{List, [], ◌∷◌, ◌++◌, append_assoc, append-nil}
 use mathlib.Core.Option.{Option, none, some}
-use Prim.Native.Nat.{ℕ, suc, ◌+◌, ◌*◌, ◌-◌, ◌/◌, ◌%◌, ◌^◌, ◌<◌, ◌≤◌}
+use Prim.Native.Nat.{ℕ, zero, suc, ◌+◌, ◌*◌, ◌-◌, ◌/◌, ◌%◌, ◌^◌, ◌<◌, ◌≤◌}
 use native.Mathlib.Omega.{arith}
 use native.Mathlib.Nat.{mod-lt}
 use borrow.Author.Tests.{ne_eqb, le-leb, lt-leb, le-ltb, lt-ltb, eqb-true, leb-true}
 use lib.Dec.{eqb, leb}
-use lib.ListN.{length, take, drop, replicate}
+use lib.ListN.{length, get_or, take, drop, replicate}
 use lib.Seq.{sets, sets-eq, drop-drop}
-use Rattle.inflight.specs.Rules.{limit, free}
-use Rattle.inflight.specs.TableAnswer.{waits_of}
-use Rattle.inflight.specs.declared.InFlight.{InFlight}
-use Rattle.journal.specs.declared.Found.{Found}
+use Rattle.inflight.specs.Rules.{limit}
+use Rattle.std.specs.Prelude as prelude
+use Rattle.std.specs.Prelude.{Result, Ok, Err}
+use Rattle.std.specs.Result.{IsErrAnd}
+use Rattle.std.specs.Option.{ok_or}
+use Rattle.std.proofs.lemmas.Result.{err_from_is_err_and}
+use Rattle.std.specs.Simd.{first_chunks}
+use Rattle.std.proofs.Common.{Bor}
+use Rattle.journal.specs.declared.SaveError.{SaveError}
+use Rattle.journal.specs.declared.FindError.{FindError}
+use Rattle.journal.specs.declared.Stored.{Stored}
 use Rattle.journal.specs.Block.{good, number_of, table_in, block_of}
 use Rattle.journal.specs.Area.{whole, blocks, count_of, newer, latest, latest_in, highest, stored, journal_empty, journal_ended, bad_area, recovered, started, saved, recover, recovered_from, save, save_after, start, left, look, look_at}
-use Rattle.journal.specs.JournalAnswer.{Finds, BlockAt, Recovers, Looks}
+use Rattle.journal.specs.JournalAnswer.{save_of, told_block, block_says}
 use Rattle.journal.proofs.Good.{length_block}
-use Rattle.journal.proofs.Limits.{number_not_zero}
-use Rattle.journal.proofs.Places.{count_is}
+use Rattle.journal.proofs.Places.{length_blocks, block_of_blocks}
 
 -- ---- one block more
 
@@ -32,104 +38,68 @@ highest_none : highest none ≡ 0
 unfolding highest
 highest_none = refl
 
-newer_none : (b : List ℕ) → good limit b ≡ true → newer limit b none ≡ some b
-unfolding newer
-newer_none b g = rw g
-
-newer_some : (b c : List ℕ) → good limit b ≡ true → number_of c ≤ number_of b → newer limit b (some c) ≡ some b
-unfolding newer
-newer_some b c g h = rw (g, le-leb (number_of c) (number_of b) h)
-
-newer_bad : (b : List ℕ) (m : Option (List ℕ)) → good limit b ≡ false → newer limit b m ≡ m
+pub newer_bad : (b : List ℕ) (m : Option (List ℕ)) → good limit b ≡ false → m ≡ newer limit b m
 unfolding newer
 newer_bad b none g = rw g
 newer_bad b (some c) g = rw g
 
-newer_less : (b c : List ℕ) → number_of b < number_of c → newer limit b (some c) ≡ some c
-unfolding newer
-newer_less b c h = rw (lt-leb (number_of c) (number_of b) h) (go (good limit b))
+pub newer_taken : (b : List ℕ) (m : Option (List ℕ)) → highest m ≤ number_of b → good limit b ≡ true → some b ≡ newer limit b m
+unfolding newer highest
+newer_taken b none h g = rw g
+newer_taken b (some c) h g = rw (g, le-leb (number_of c) (number_of b) h)
+
+pub newer_less : (b : List ℕ) (m : Option (List ℕ)) → number_of b < highest m → m ≡ newer limit b m
+unfolding newer highest
+newer_less b none h = absurd (omega (arith, h))
+newer_less b (some c) h = rw (lt-leb (number_of c) (number_of b) h) (go (good limit b))
   where
-    go : (x : Bool) → cond (x && false) (some b) (some c) ≡ some c
+    go : (x : Bool) → some c ≡ cond (x && false) (some b) (some c)
     go true = refl
     go false = refl
 
-pub taken : (a b : List ℕ) (i n k at : ℕ) → BlockAt a i b → n ≡ number_of b → i * 512 + 512 ≤ length a → k ≤ n → good limit b ≡ true
-    → (m : Option (List ℕ)) → Finds a m k at → Finds a (newer limit (take 512 (drop (i * 512) a)) m) n i
-taken a b i n k at p e h l g m f = subst (λ (x : List ℕ). Finds a (newer limit x m) n i) p.is (go m f)
-  where
-    positive : 0 < n
-    positive = rw e (number_not_zero limit b g)
+-- ---- the blocks
 
-    as_found : (o : Option (List ℕ)) → o ≡ some b → Finds a o n i
-    as_found o q = record {
-      high = e ∙ sym (highest_some o b q);
-      stands = λ u. q ∙ ap some p.is;
-      inside = λ u. h;
-      absent = λ z. let y : ◌≡◌ {A = ℕ} 0 1 = omega (arith, z, positive) in absurd (omega (arith, y));
-    }
+pub blocks_are : (k : ℕ) (a : List ℕ) → first_chunks 512 k a ≡ blocks k a
+unfolding blocks
+blocks_are zero a = refl
+blocks_are (suc k) a = ap (λ (bs : List (List ℕ)). take 512 a ∷ bs) (blocks_are k (drop 512 a))
 
-    go : (m : Option (List ℕ)) → Finds a m k at → Finds a (newer limit b m) n i
-    go none f = as_found (newer limit b none) (newer_none b g)
-    go (some c) f =
-        as_found (newer limit b (some c)) (newer_some b c g (let q : k ≡ number_of c = f.high ∙ highest_some (some c) c refl in omega (arith, q, l, e)))
+-- ---- the walk from the last block to the first
 
-pub left_bad : (a b : List ℕ) (i k at : ℕ) → BlockAt a i b → good limit b ≡ false
-    → (m : Option (List ℕ)) → Finds a m k at → Finds a (newer limit (take 512 (drop (i * 512) a)) m) k at
-left_bad a b i k at p g m f = subst (λ (x : List ℕ). Finds a (newer limit x m) k at) p.is (subst (λ (o : Option (List ℕ)). Finds a o k at) (sym (newer_bad b m g)) f)
+-- the blocks that are left, and the latest of those behind them
+pub record Walked (bs : List (List ℕ)) (best : Option (List ℕ)) (rest : List (List ℕ)) : Type 0 where
+  pub behind : List (List ℕ)
+  pub split : rest ++ behind ≡ bs
+  pub finds : best ≡ latest limit behind
 
-pub left_less : (a b : List ℕ) (i n k at : ℕ) → BlockAt a i b → n ≡ number_of b → n < k
-    → (m : Option (List ℕ)) → Finds a m k at → Finds a (newer limit (take 512 (drop (i * 512) a)) m) k at
-left_less a b i n k at p e l m f = subst (λ (x : List ℕ). Finds a (newer limit x m) k at) p.is (go m f)
-  where
-    go : (m : Option (List ℕ)) → Finds a m k at → Finds a (newer limit b m) k at
-    go none f = let q : k ≡ 0 = f.high ∙ highest_none in absurd (omega (arith, q, l))
-    go (some c) f =
-        subst (λ (o : Option (List ℕ)). Finds a o k at)
-        (sym (newer_less b c (let q : k ≡ number_of c = f.high ∙ highest_some (some c) c refl in omega (arith, q, l, e)))) f
+pub walk_none : (bs : List (List ℕ)) {rest : List (List ℕ)} → rest ≡ bs → Walked bs none rest
+unfolding latest
+walk_none bs e = record { behind = []; split = append-nil _ ∙ e; finds = refl }
 
--- ---- the walk: the latest of the blocks from i on
-
-pub record Walked (a : List ℕ) (count number at i : ℕ) : Type 0 where
-  pub within : i ≤ count
-  pub finds : Finds a (latest limit (blocks (count - i) (drop (i * 512) a))) number at
-
-pub walk_none : (a : List ℕ) (count : ℕ) → Walked a count 0 0 count
-unfolding blocks latest
-walk_none a count = record { within = omega arith; finds = subst (λ (n : ℕ). Finds a (latest limit (blocks n (drop (count * 512) a))) 0 0) e at_none }
-  where
-    e : 0 ≡ count - count
-    e = omega arith
-
-    at_none : Finds a none 0 0
-    at_none = record { high = sym highest_none; stands = λ u. absurd (omega (arith, u)); inside = λ u. absurd (omega (arith, u)); absent = λ z. refl }
-
-one_more_lem : (a : List ℕ) (count i : ℕ) → 0 < i → i ≤ count
-    → newer limit (take 512 (drop ((i - 1) * 512) a)) (latest limit (blocks (count - i) (drop (i * 512) a))) ≡ latest limit (blocks (count - (i - 1)) (drop ((i - 1) * 512) a))
-unfolding blocks latest
-one_more_lem a count i h g =
-    (let e : i * 512 ≡ (i - 1) * 512 + 512 = omega arith in
-    ap (λ (n : ℕ). newer limit (take 512 (drop ((i - 1) * 512) a)) (latest limit (blocks (count - i) (drop n a)))) e)
-    ∙ ap (λ (s : List ℕ). newer limit (take 512 (drop ((i - 1) * 512) a)) (latest limit (blocks (count - i) s))) (sym (drop-drop 512 ((i - 1) * 512) a))
-    ∙ (let e : suc (count - i) ≡ count - (i - 1) = omega arith in ap (λ (n : ℕ). latest limit (blocks n (drop ((i - 1) * 512) a))) e)
-
-pub walk_more : {a : List ℕ} {count k at i n place : ℕ} → Walked a count k at i → 0 < i
-    → ((m : Option (List ℕ)) → Finds a m k at → Finds a (newer limit (take 512 (drop ((i - 1) * 512) a)) m) n place)
-    → Walked a count n place (i - 1)
-walk_more {a} {count} {k} {at} {i} {n} {place} w h f = record {
-  within = omega (arith, w.within);
-  finds = subst (λ (o : Option (List ℕ)). Finds a o n place) (one_more_lem a count i h w.within) (f _ w.finds);
+pub walk_more : {bs rest less : List (List ℕ)} {m n : Option (List ℕ)} (b : List ℕ) → Walked bs m rest → rest ≡ less ++ (b ∷ []) → n ≡ newer limit b m → Walked bs n less
+unfolding latest
+walk_more {bs} {rest} {less} b w e f = record {
+  behind = b ∷ w.behind;
+  split = sym (append_assoc less (b ∷ []) w.behind) ∙ ap (λ (s : List (List ℕ)). s ++ w.behind) (sym e) ∙ w.split;
+  finds = f ∙ ap (newer limit b) w.finds;
 }
 
-pub walk_all : {a : List ℕ} {count k at i : ℕ} → Walked a count k at i → i ≤ 0 → length a ≡ count * 512 → Finds a (latest_in limit a) k at
-unfolding latest_in
-walk_all {a} {count} {k} {at} {i} w h e =
-    let p : count - i ≡ count = omega arith in
-    let q : i * 512 ≡ 0 = omega arith in
-    subst (λ (n : ℕ). Finds a (latest limit (blocks n a)) k at) (sym (count_is count a e))
-    (subst (λ (n : ℕ). Finds a (latest limit (blocks count (drop n a))) k at) q
-    (subst (λ (n : ℕ). Finds a (latest limit (blocks n (drop (i * 512) a))) k at) p w.finds))
+pub walk_all : {bs rest : List (List ℕ)} {m : Option (List ℕ)} → Walked bs m rest → length rest ≡ 0 → m ≡ latest limit bs
+walk_all {bs} {rest} w h = w.finds ∙ ap (latest limit) (nothing rest w.split h)
+  where
+    nothing : (rest : List (List ℕ)) → rest ++ w.behind ≡ bs → length rest ≡ 0 → w.behind ≡ bs
+    nothing [] e g = e
+    nothing (b ∷ s) e g = absurd (omega (arith, g))
 
 -- ---- the three calls
+
+-- the number of the latest block, or 0
+pub latest_number : (a : List ℕ) {bs : List (List ℕ)} {o : Option (List ℕ)} {n : ℕ} → bs ≡ blocks (count_of a) a → o ≡ latest limit bs → n ≡ highest o → n ≡ highest (latest_in limit a)
+unfolding latest_in
+latest_number a e f g = g ∙ ap highest (f ∙ ap (latest limit) e)
+
+pub length_of_blocks : (a : List ℕ) {bs : List (List ℕ)} → bs ≡ blocks (count_of a) a → length bs ≡ length a / 512
+length_of_blocks a e = ap (λ (bs : List (List ℕ)). length bs) e ∙ length_blocks (count_of a) a
 
 pub start_bad : (a : List ℕ) → whole a ≡ false → left a bad_area ≡ start a
 unfolding start
@@ -179,78 +149,63 @@ put_back a b i e h =
     ∙ sym (append_assoc (take (i * 512) a) b (drop (i * 512 + length b) a))
     ∙ sym (sets-eq b a (i * 512) (omega (arith, e)))
 
-pub block_fits : (a : List ℕ) (h : ℕ) → whole a ≡ true → h % (length a / 512) * 512 + 512 ≤ length a
-block_fits a h e =
+pub block_fits : (a : List ℕ) (h : ℕ) {k : ℕ} → whole a ≡ true → k ≡ length a / 512 → h % k * 512 + 512 ≤ length a
+block_fits a h {k} e q =
     let w : (length a ≡ length a / 512 * 512) × (2 ≤ length a / 512) = whole_count a e in
-    let m : h % (length a / 512) < length a / 512 = mod-lt h (omega (arith, w.1)) in
-    omega (arith, w.0, m)
+    let m : h % k < k = mod-lt h (omega (arith, q, w.1)) in
+    omega (arith, w.0, m, q)
 
 recover_whole : (a : List ℕ) → whole a ≡ true → recover limit a ≡ recovered_from limit (latest_in limit a)
 unfolding recover
 recover_whole a e = rw e
 
-recovered_some : (b : List ℕ) → recovered_from limit (some b) ≡ recovered (number_of b) (table_in limit b)
-unfolding recovered_from
-recovered_some b = refl
+-- a bad area, by any call that looks for a block
+pub bad_says : (r : Result (Bor (List ℕ)) FindError) → IsErrAnd r (λ e. e ≡ FindError.BadArea) → block_says r ≡ bad_area
+bad_says r p = let q = err_from_is_err_and r p in rw (q.1, q.2)
 
-pub recover_bad : (a : List ℕ) (t : InFlight) → whole a ≡ false → waits_of t ≡ replicate limit free → Recovers a record { found = Found.BadArea; table = t }
+pub bad_save : (r : Result Stored SaveError) → IsErrAnd r (λ e. e ≡ SaveError.BadArea) → save_of r ≡ bad_area
+bad_save r p = let q = err_from_is_err_and r p in rw (q.1, q.2)
+
+pub recover_bad : (a : List ℕ) → whole a ≡ false → bad_area ≡ recover limit a
 unfolding recover
-recover_bad a t e f = record { says = rw e; fresh = f }
+recover_bad a e = rw e
 
-pub recover_empty : (a : List ℕ) (t : InFlight) → whole a ≡ true → latest_in limit a ≡ none → waits_of t ≡ replicate limit free → Recovers a record { found = Found.JournalEmpty; table = t }
-unfolding recover recovered_from
-recover_empty a t e g f = record { says = rw (e, g); fresh = f }
-
-pub recover_found : (a b : List ℕ) (n at : ℕ) (t : InFlight) → whole a ≡ true → Finds a (latest_in limit a) n at → 0 < n → BlockAt a at b → waits_of t ≡ table_in limit b
-    → Recovers a record { found = Found.Number n; table = t }
-recover_found a b n at t e f p q g = record { says = sym said; fresh = tt }
+pub recover_latest : (a : List ℕ) {bs : List (List ℕ)} (o : prelude.Option (Bor (List ℕ))) → whole a ≡ true → bs ≡ blocks (count_of a) a → told_block o ≡ latest limit bs
+    → block_says (ok_or o FindError.JournalEmpty) ≡ recover limit a
+unfolding latest_in recovered_from
+recover_latest a {bs} o e f g = told o ∙ ap (recovered_from limit) (g ∙ ap (latest limit) f) ∙ sym (recover_whole a e)
   where
-    is : latest_in limit a ≡ some b
-    is = f.stands p ∙ ap some (sym q.is)
-
-    number : n ≡ number_of b
-    number = f.high ∙ highest_some (latest_in limit a) b is
-
-    said : recover limit a ≡ recovered n (waits_of t)
-    said = recover_whole a e ∙ ap (recovered_from limit) is ∙ recovered_some b ∙ ap₂ (λ (x : ℕ) (y : List ℕ). recovered x y) (sym number) (sym g)
+    told : (o : prelude.Option (Bor (List ℕ))) → block_says (ok_or o FindError.JournalEmpty) ≡ recovered_from limit (told_block o)
+    told (prelude.Some b) = refl
+    told prelude.None = refl
 
 -- one block alone
-pub look_bad : (a : List ℕ) (i : ℕ) (t : InFlight) → whole a ≡ false → waits_of t ≡ replicate limit free → Looks a i record { found = Found.BadArea; table = t }
+pub look_bad : (a : List ℕ) (i : ℕ) → whole a ≡ false → bad_area ≡ look limit a i
 unfolding look
-look_bad a i t e f = record { says = rw e; fresh = f }
+look_bad a i e = rw e
 
-pub look_past : (a : List ℕ) (i : ℕ) (t : InFlight) → whole a ≡ true → count_of a ≤ i → waits_of t ≡ replicate limit free → Looks a i record { found = Found.JournalEmpty; table = t }
+pub look_past : (a : List ℕ) (i : ℕ) {bs : List (List ℕ)} → whole a ≡ true → bs ≡ blocks (count_of a) a → length bs ≤ i → journal_empty ≡ look limit a i
 unfolding look
-look_past a i t e h f = record { says = rw (e, le-ltb i (count_of a) h); fresh = f }
+look_past a i e q h = let l : length a / 512 ≤ i = omega (arith, length_of_blocks a q, h) in rw (e, le-ltb i (count_of a) l)
 
-look_in : (a b : List ℕ) (i : ℕ) → whole a ≡ true → i < count_of a → BlockAt a i b → look limit a i ≡ look_at limit b
+look_in : (a : List ℕ) (i : ℕ) {bs : List (List ℕ)} → whole a ≡ true → bs ≡ blocks (count_of a) a → i < length bs → look limit a i ≡ look_at limit (get_or bs i [])
 unfolding look
-look_in a b i e h q = rw (e, lt-ltb i (count_of a) h) (ap (look_at limit) (sym q.is))
+look_in a i {bs} e q h =
+    let l : i < length a / 512 = omega (arith, length_of_blocks a q, h) in
+    rw (e, lt-ltb i (count_of a) l) (ap (look_at limit) (sym (ap (λ (cs : List (List ℕ)). get_or cs i []) q ∙ block_of_blocks (count_of a) a i l)))
 
-not_good_lem : (b : List ℕ) → good limit b ≡ false → look_at limit b ≡ journal_empty
+pub look_not : (a : List ℕ) (i : ℕ) {bs : List (List ℕ)} → whole a ≡ true → bs ≡ blocks (count_of a) a → i < length bs → good limit (get_or bs i []) ≡ false → journal_empty ≡ look limit a i
 unfolding look_at
-not_good_lem b g = rw g
+look_not a i {bs} e q h g = sym (look_in a i e q h ∙ rw g)
 
-is_good : (b : List ℕ) → good limit b ≡ true → look_at limit b ≡ recovered (number_of b) (table_in limit b)
+pub look_good : (a : List ℕ) (i : ℕ) {bs : List (List ℕ)} → whole a ≡ true → bs ≡ blocks (count_of a) a → i < length bs → good limit (get_or bs i []) ≡ true
+    → recovered (number_of (get_or bs i [])) (table_in limit (get_or bs i [])) ≡ look limit a i
 unfolding look_at
-is_good b g = rw g
-
-pub look_not : (a b : List ℕ) (i : ℕ) (t : InFlight) → whole a ≡ true → i < count_of a → BlockAt a i b → good limit b ≡ false → waits_of t ≡ replicate limit free
-    → Looks a i record { found = Found.JournalEmpty; table = t }
-look_not a b i t e h q g f = record { says = sym (look_in a b i e h q ∙ not_good_lem b g); fresh = f }
-
-pub look_good : (a b : List ℕ) (i n : ℕ) (t : InFlight) → whole a ≡ true → i < count_of a → BlockAt a i b → good limit b ≡ true → n ≡ number_of b
-    → waits_of t ≡ table_in limit b → Looks a i record { found = Found.Number n; table = t }
-look_good a b i n t e h q g m f = record {
-  says = ap₂ (λ (x : ℕ) (y : List ℕ). recovered x y) m f ∙ sym (look_in a b i e h q ∙ is_good b g);
-  fresh = tt;
-}
+look_good a i {bs} e q h g = sym (look_in a i e q h ∙ rw g)
 
 -- the block is stored through a part of the area
-pub save_put : (a t : List ℕ) (h : ℕ) {b : List ℕ} → whole a ≡ true → h ≡ highest (latest_in limit a) → (h ≡ 2 ^ 64 - 1 → ⊥) → b ≡ block_of (h + 1) t
-    → left (take (h % (length a / 512) * 512) a ++ (b ++ drop (h % (length a / 512) * 512 + 512 - h % (length a / 512) * 512) (drop (h % (length a / 512) * 512) a)))
-    (saved (h + 1) (h % (length a / 512)))
-    ≡ save limit t a
-save_put a t h {b} e f g q =
-    save_stored a t h (h % (length a / 512)) e f g refl
-    (put_back a b (h % (length a / 512)) (ap length q ∙ length_block (h + 1) t) (block_fits a h e) ∙ ap (sets a (h % (length a / 512) * 512)) q)
+pub save_put : (a t : List ℕ) (h : ℕ) {k : ℕ} {b c : List ℕ} → whole a ≡ true → k ≡ length a / 512 → h ≡ highest (latest_in limit a) → (h ≡ 2 ^ 64 - 1 → ⊥) → c ≡ b → b ≡ block_of (h + 1) t
+    → left (take (h % k * 512) a ++ (c ++ drop (h % k * 512 + 512 - h % k * 512) (drop (h % k * 512) a))) (saved (h + 1) (h % k)) ≡ save limit t a
+save_put a t h {k} {b} {c} e l f g p q =
+    save_stored a t h (h % k) e f g (ap (λ (n : ℕ). h % n) l)
+    (put_back a c (h % k) (ap length (p ∙ q) ∙ length_block (h + 1) t) (block_fits a h e l) ∙ ap (sets a (h % k * 512)) (p ∙ q))

@@ -4,24 +4,14 @@ use mathlib.Core.Path.{◌≡◌, refl, sym, ap, ap₂, ◌∙◌, subst}
 use mathlib.Core.Bool.{Bool, true, false, cond}
 use mathlib.Core.List.{List, []}
 use mathlib.Core.Option.{Option, none, some}
-use Prim.Native.Nat.{ℕ, zero, suc, ◌+◌, ◌*◌, ◌<◌, ◌≤◌}
-use native.Mathlib.Nat.{not-suc-le-zero}
+use Prim.Native.Nat.{ℕ, ◌<◌, ◌≤◌}
 use native.Mathlib.Omega.{arith}
-use lib.ListN.{get_or, take, drop}
-use lib.Seq.{drop-drop}
+use lib.ListN.{get_or}
 use Rattle.journal.specs.Block.{good, number_of, table_in}
 use Rattle.journal.specs.Area.{whole, blocks, count_of, latest, latest_in, recover, recovered_from, Says, recovered, journal_empty, bad_area}
 use Rattle.journal.specs.First.{block_at, First}
 use Rattle.journal.proofs.Latest.{Found, found, nothing, none_good, lead_is}
-use Rattle.journal.proofs.Places.{length_blocks}
-
-block_is : (k : ℕ) (a : List ℕ) (j : ℕ) → j < k → get_or (blocks k a) j [] ≡ block_at a j
-unfolding blocks
-block_is zero a j h = absurd (not-suc-le-zero h)
-block_is (suc k) a zero h = refl
-block_is (suc k) a (suc j) h =
-    block_is k (drop 512 a) j (omega arith)
-    ∙ ap (take 512) (drop-drop (j * 512) 512 a ∙ (let e : 512 + j * 512 ≡ suc j * 512 = omega arith in ap (λ (n : ℕ). drop n a) e))
+use Rattle.journal.proofs.Places.{length_blocks, block_of_blocks}
 
 recovered_number : {m n : ℕ} {t u : List ℕ} → recovered m t ≡ recovered n u → m ≡ n
 recovered_number e = cc
@@ -42,17 +32,17 @@ first_of_lem l a c f = record {
   fine = ap (good l) is ∙ f.fine;
   number = ap number_of is;
   table = ap (table_in l) is;
-  most = λ j h g. subst (λ (x : List ℕ). number_of x ≤ number_of c) (block_is (count_of a) a j h)
-      (f.most j (rw (length_blocks (count_of a) a) h) (ap (good l) (block_is (count_of a) a j h) ∙ g));
+  most = λ j h g. subst (λ (x : List ℕ). number_of x ≤ number_of c) (block_of_blocks (count_of a) a j h)
+      (f.most j (rw (length_blocks (count_of a) a) h) (ap (good l) (block_of_blocks (count_of a) a j h) ∙ g));
   first = λ j h g. let i : j < count_of a = omega (arith, h, within) in
-      subst (λ (x : List ℕ). number_of x < number_of c) (block_is (count_of a) a j i) (f.first j h (ap (good l) (block_is (count_of a) a j i) ∙ g));
+      subst (λ (x : List ℕ). number_of x < number_of c) (block_of_blocks (count_of a) a j i) (f.first j h (ap (good l) (block_of_blocks (count_of a) a j i) ∙ g));
 }
   where
     within : f.at < count_of a
     within = rw (length_blocks (count_of a) a) at f.inside
 
     is : block_at a f.at ≡ c
-    is = sym (block_is (count_of a) a f.at within) ∙ f.is
+    is = sym (block_of_blocks (count_of a) a f.at within) ∙ f.is
 
 -- "Recovery takes the good block with the highest number, the first of equals"
 pub recovers_first : (l : ℕ) (a : List ℕ) (n : ℕ) (t : List ℕ) → recover l a ≡ recovered n t → First l a n t
@@ -72,7 +62,7 @@ first_recovers l a n t w f =
     rw (w, latest_at) (ap₂ (λ (x : ℕ) (y : List ℕ). recovered x y) f.number f.table)
   where
     is : (j : ℕ) → j < count_of a → get_or (blocks (count_of a) a) j [] ≡ block_at a j
-    is j h = block_is (count_of a) a j h
+    is j h = block_of_blocks (count_of a) a j h
 
     high : number_of (get_or (blocks (count_of a) a) f.at []) ≡ n
     high = ap number_of (is f.at f.inside) ∙ f.number
@@ -92,7 +82,7 @@ unfolding recover recovered_from latest_in
 empty_when l a w e j h = go (latest l (blocks (count_of a) a)) refl (rw w at e)
   where
     go : (m : Option (List ℕ)) → latest l (blocks (count_of a) a) ≡ m → recovered_from l m ≡ journal_empty → good l (block_at a j) ≡ false
-    go none p e = sym (ap (good l) (block_is (count_of a) a j h)) ∙ nothing l (blocks (count_of a) a) p j (rw (length_blocks (count_of a) a) h)
+    go none p e = sym (ap (good l) (block_of_blocks (count_of a) a j h)) ∙ nothing l (blocks (count_of a) a) p j (rw (length_blocks (count_of a) a) h)
     go (some c) p e = not_recovered e refl
 
 pub when_empty : (l : ℕ) (a : List ℕ) → whole a ≡ true → ((j : ℕ) → j < count_of a → good l (block_at a j) ≡ false) → recover l a ≡ journal_empty
@@ -100,4 +90,4 @@ unfolding recover recovered_from latest_in
 when_empty l a w h = rw (w, none_good l (blocks (count_of a) a) (λ j g. none_there j (rw (length_blocks (count_of a) a) at g)))
   where
     none_there : (j : ℕ) → j < count_of a → good l (get_or (blocks (count_of a) a) j []) ≡ false
-    none_there j i = ap (good l) (block_is (count_of a) a j i) ∙ h j i
+    none_there j i = ap (good l) (block_of_blocks (count_of a) a j i) ∙ h j i

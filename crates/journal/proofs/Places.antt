@@ -2,13 +2,13 @@
 -- Assumes nothing.
 use mathlib.Core.Path.{◌≡◌, refl, ap, ap₂, ◌∙◌}
 use mathlib.Core.List.{List, [], ◌∷◌, ◌++◌}
-use Prim.Native.Nat.{ℕ, zero, suc, ◌+◌, ◌*◌, ◌-◌, ◌/◌, ◌%◌, ◌<◌, ◌≤◌}
+use Prim.Native.Nat.{ℕ, zero, suc, ◌+◌, ◌*◌, ◌/◌, ◌%◌, ◌<◌, ◌≤◌}
 use mathlib.Core.Logic.{◌⊎◌, inl, inr}
 use native.Mathlib.Nat.{not-suc-le-zero, mod-lt, div-add-mod', add-mul, eq-or-lt_of_le}
 use native.Mathlib.Omega.{arith}
 use lib.Arith.{digits_mod}
 use lib.ListN.{length, get_or, take, drop, set, length-drop}
-use lib.Seq.{sets, sets-eq, length-sets, take-set-le, drop-set-add, take_at, drop_at}
+use lib.Seq.{sets, sets-eq, drop-drop, length-sets, take-set-le, drop-set-add, take_at, drop_at}
 use Rattle.journal.specs.Area.{blocks, count_of}
 
 -- ---- stores past the first n elements
@@ -29,6 +29,15 @@ pub length_blocks : (k : ℕ) (a : List ℕ) → length (blocks k a) ≡ k
 unfolding blocks
 length_blocks zero a = refl
 length_blocks (suc k) a = ap suc (length_blocks k (drop 512 a))
+
+-- block i
+pub block_of_blocks : (k : ℕ) (a : List ℕ) (i : ℕ) → i < k → get_or (blocks k a) i [] ≡ take 512 (drop (i * 512) a)
+unfolding blocks
+block_of_blocks zero a i h = absurd (not-suc-le-zero h)
+block_of_blocks (suc k) a zero h = refl
+block_of_blocks (suc k) a (suc i) h =
+    block_of_blocks k (drop 512 a) i (omega arith)
+    ∙ ap (take 512) (drop-drop (i * 512) 512 a ∙ (let e : 512 + i * 512 ≡ suc i * 512 = omega arith in ap (λ (n : ℕ). drop n a) e))
 
 front : (a b : List ℕ) → length b ≡ 512 → 512 ≤ length a → sets a 0 b ≡ b ++ drop 512 a
 front a b e h = sets-eq b a 0 (omega (arith, e)) ∙ (let f : 0 + length b ≡ 512 = omega (arith, e) in ap (λ (k : ℕ). b ++ drop k a) f)

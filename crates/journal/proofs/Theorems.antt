@@ -18,7 +18,7 @@ use Rattle.inflight.specs.declared.Place.{Place}
 use Rattle.inflight.proofs.Laws.{waits_length}
 use Rattle.inflight.proofs.Theorems.{call_balanced, none_waiting}
 use Rattle.journal.specs.Block.{good, number_of, table_in, block_of}
-use Rattle.journal.specs.Area.{whole, blocks, count_of, newer, latest, latest_in, highest, stored, Says, journal_empty, journal_ended, recovered, started, saved, recover, recovered_from, save, save_after, start, left}
+use Rattle.journal.specs.Area.{whole, blocks, count_of, newer, latest, latest_in, highest, stored, Says, journal_empty, journal_ended, recovered, saved, recover, recovered_from, save, save_after, start, left}
 use Rattle.journal.specs.History.{Table, widened, next, Cut, Lived, Allows, In, here, later, as_it_was, as_it_should_be, not_good, Life}
 use Rattle.journal.proofs.Good.{length_block, number_is_lem, block_good, table_is}
 use Rattle.journal.proofs.Kept.{Kept, kept_start, kept_stored, latest_new, latest_old, latest_is, none_at_start}

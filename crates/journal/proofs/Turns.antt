@@ -2,16 +2,15 @@
 -- Assumes nothing.
 use mathlib.Core.Path.{◌≡◌, refl, sym, ap, ap₂, ◌∙◌}
 use mathlib.Core.Bool.{Bool, true, false}
-use mathlib.Core.List.{List, [], ◌∷◌, ◌++◌, append-nil}
+use mathlib.Core.List.{List, [], ◌∷◌, ◌++◌}
 use Prim.Native.Nat.{ℕ, zero, suc, ◌+◌, ◌*◌, ◌-◌, ◌/◌, ◌%◌, ◌^◌, ◌<◌, ◌≤◌}
-use native.Mathlib.Nat.{pow-suc, pow-le-pow_right, mod-lt, zero-lt-suc}
+use native.Mathlib.Nat.{mod-lt, zero-lt-suc, div-one}
 use native.Mathlib.Numerals.{add-one}
 use native.Mathlib.Omega.{arith}
-use borrow.Author.Fill.{fill_none, fill_more}
 use borrow.Author.Tests.{ne_eqb}
 use lib.Dec.{eqb}
-use lib.ListN.{length, get_or, take, drop, set, replicate, length-drop, drop_of_length-le, length-set}
-use lib.Seq.{sets, length-sets, drop-cons, take-suc-set, take_all, length-take-le}
+use lib.ListN.{length, get_or, take, drop, set, drop_of_length-le, length-set}
+use lib.Seq.{sets, drop-cons, take-suc-set, take_all, length-take-le}
 use Rattle.inflight.specs.Rules.{limit}
 use Rattle.inflight.specs.TableAnswer.{code_of, waits_of}
 use Rattle.inflight.proofs.Laws.{waits_length, wait_at, wait_set}
@@ -19,9 +18,13 @@ use Rattle.inflight.specs.declared.Wait.{Wait}
 use Rattle.inflight.specs.declared.Place.{Place}
 use Rattle.inflight.specs.declared.InFlight.{InFlight}
 use Rattle.journal.proofs.Stores.{sets_more}
-use Rattle.journal.specs.Block.{each, big_endian_from, big_endian, all_zero, packed_at, wait_in, number_of, good}
+use Rattle.journal.specs.Block.{each, bytes_of, big_endian_from, big_endian, all_zero, packed_at, wait_in, number_of, good}
 use Rattle.crc32.specs.Crc.{crc_of}
-use Rattle.journal.specs.JournalAnswer.{BlockAt}
+use Rattle.std.specs.Prelude.{◌&&◌}
+use Rattle.std.specs.List.{list_all}
+use Rattle.std.specs.Int.{byte_at, bytes_high_first, from_be_bytes}
+use Rattle.std.proofs.Common.{w32, w64}
+use Rattle.crc32.proofs.Laws.{eight_at, eight_of}
 use Rattle.journal.proofs.Bytes.{length_each}
 
 -- ---- marks one behind the other
@@ -39,9 +42,6 @@ pub mark_none : (f : ℕ → ℕ) (d : List ℕ) → Marked f d d 0
 unfolding each
 mark_none f d = record { within = omega arith; is = refl }
 
-pub mark_long : {f : ℕ → ℕ} {d out : List ℕ} {j : ℕ} → Marked f d out j → length out ≡ length d
-mark_long {f} {d} {out} {j} p = ap length p.is ∙ length-sets d 8 (each f 0 j)
-
 pub mark_more : {f : ℕ → ℕ} {d out : List ℕ} {j v : ℕ} → Marked f d out j → j < limit / 4 → v ≡ f j → Marked f d (set out (8 + j) v) (j + 1)
 mark_more {f} {d} {out} {j} {v} p h e = record {
   within = omega arith;
@@ -51,63 +51,51 @@ mark_more {f} {d} {out} {j} {v} p h e = record {
       ∙ ap (sets d 8) ((let g : j ≡ 0 + j = omega arith in ap (λ (n : ℕ). each f 0 j ++ (f n ∷ [])) g) ∙ each_more f 0 j ∙ ap (each f 0) (sym (add-one j)));
 }
 
-pub mark_all : {f : ℕ → ℕ} {d out : List ℕ} {j : ℕ} → Marked f d out j → limit / 4 ≤ j → out ≡ sets d 8 (each f 0 (limit / 4))
-mark_all {f} {d} {out} {j} p h = p.is ∙ (let e : j ≡ limit / 4 = omega (arith, p.within) in ap (λ (n : ℕ). sets d 8 (each f 0 n)) e)
+-- ---- a number in bytes, by the library
 
--- ---- a number of bytes
+-- a number written
+pub bytes_are : (k n : ℕ) → bytes_high_first k n ≡ bytes_of k n
+unfolding bytes_of
+bytes_are zero n = refl
+bytes_are (suc k) n = ap₂ (λ (x : ℕ) (s : List ℕ). x ∷ s) (byte_is k n) (bytes_are k n)
+  where
+    byte_is : (k n : ℕ) → byte_at k n ≡ n / 256 ^ k % 256
+    byte_is zero n = rw div-one
+    byte_is (suc k) n = refl
 
-pub record Read (s : List ℕ) (n i : ℕ) : Type 0 where
-  pub within : i ≤ length s
-  pub few : n < 256 ^ i
-  pub rest : big_endian s ≡ big_endian_from n (drop i s)
-
-pub read_none : (s : List ℕ) → Read s 0 0
-read_none s = record { within = omega arith; few = omega arith; rest = refl }
-
-pub read_small : {s : List ℕ} {n i : ℕ} → Read s n i → i < length s → length s ≤ 8 → n < 72057594037927936
-read_small {s} {n} {i} p h l =
-    let e : 256 ^ i ≤ 72057594037927936 = pow-le-pow_right {n = 256} (zero-lt-suc 255) {i = i} {j = 7} (omega arith) in
-    omega (arith, p.few, e)
-
-pub read_more : {s : List ℕ} {n i v : ℕ} → Read s n i → i < length s → v ≡ get_or s i 0 → v < 256 → Read s (n * 256 + v) (i + 1)
+-- a number read
+eight_read : (a b c d e f g h : ℕ) → from_be_bytes w64 (a ∷ b ∷ c ∷ d ∷ e ∷ f ∷ g ∷ h ∷ []) ≡ big_endian (a ∷ b ∷ c ∷ d ∷ e ∷ f ∷ g ∷ h ∷ [])
 unfolding big_endian_from
-read_more {s} {n} {i} {v} p h e b = record {
-  within = omega arith;
-  few = let q : 256 ^ suc i ≡ 256 ^ i * 256 = pow-suc 256 i in rw add-one (omega (arith, p.few, q));
-  rest = p.rest ∙ rw (add-one, drop-cons s i 0, e);
-}
+eight_read a b c d e f g h = omega arith
 
-pub read_all : {s : List ℕ} {n i : ℕ} → Read s n i → length s ≤ i → n ≡ big_endian s
+four_read : (a b c d : ℕ) → from_be_bytes w32 (a ∷ b ∷ c ∷ d ∷ []) ≡ big_endian (a ∷ b ∷ c ∷ d ∷ [])
 unfolding big_endian_from
-read_all {s} {n} {i} p h = sym (p.rest ∙ rw (drop_of_length-le s h))
+four_read a b c d = omega arith
+
+pub number_read : (b : List ℕ) → length b ≡ 512
+    → from_be_bytes w64 (get_or b 0 0 ∷ get_or b 1 0 ∷ get_or b 2 0 ∷ get_or b 3 0 ∷ get_or b 4 0 ∷ get_or b 5 0 ∷ get_or b 6 0 ∷ get_or b 7 0 ∷ []) ≡ number_of b
+unfolding number_of eight_at
+number_read b e = eight_read _ _ _ _ _ _ _ _ ∙ ap big_endian (sym (eight_of b 0 (omega (arith, e))))
+
+pub check_read : (b : List ℕ) → length b ≡ 512
+    → from_be_bytes w32 (get_or b 508 0 ∷ get_or b 509 0 ∷ get_or b 510 0 ∷ get_or b 511 0 ∷ []) ≡ big_endian (drop 508 b)
+check_read b e =
+    four_read _ _ _ _
+    ∙ ap big_endian (sym (drop-cons b 508 0 (omega (arith, e)) ∙ ap (λ (s : List ℕ). get_or b 508 0 ∷ s)
+    (drop-cons b 509 0 (omega (arith, e)) ∙ ap (λ (s : List ℕ). get_or b 509 0 ∷ s)
+    (drop-cons b 510 0 (omega (arith, e)) ∙ ap (λ (s : List ℕ). get_or b 510 0 ∷ s)
+    (drop-cons b 511 0 (omega (arith, e)) ∙ ap (λ (s : List ℕ). get_or b 511 0 ∷ s) (drop_of_length-le b {i = 512} (omega (arith, e))))))))
 
 -- ---- zeros
 
-pub record Zeros (s : List ℕ) (i : ℕ) : Type 0 where
-  pub within : i ≤ length s
-  pub rest : all_zero s ≡ all_zero (drop i s)
-
-pub zeros_none : (s : List ℕ) → Zeros s 0
-zeros_none s = record { within = omega arith; rest = refl }
-
-pub zeros_more : {s : List ℕ} {i : ℕ} → Zeros s i → i < length s → get_or s i 0 ≡ 0 → Zeros s (i + 1)
+pub zeros_all : (s : List ℕ) → list_all (λ (b : ℕ). eqb b 0) s ≡ all_zero s
 unfolding all_zero
-zeros_more {s} {i} p h e = record { within = omega arith; rest = p.rest ∙ rw (add-one, drop-cons s i 0, e) }
-
-pub zeros_not : {s : List ℕ} {i : ℕ} → Zeros s i → i < length s → (get_or s i 0 ≡ 0 → ⊥) → false ≡ all_zero s
-unfolding all_zero
-zeros_not {s} {i} p h e = sym (p.rest ∙ rw (drop-cons s i 0, ne_eqb (get_or s i 0) 0 e))
-
-pub zeros_all : {s : List ℕ} {i : ℕ} → Zeros s i → length s ≤ i → true ≡ all_zero s
-unfolding all_zero
-zeros_all {s} {i} p h = sym (p.rest ∙ rw (drop_of_length-le s h))
+zeros_all [] = refl
+zeros_all (b ∷ s) = ap (λ (x : Bool). eqb b 0 && x) (zeros_all s)
 
 pub record Above (f : ℕ → ℕ) (i : ℕ) : Type 0 where
   pub within : i ≤ 1024
   pub rest : all_zero (each f limit (1024 - limit)) ≡ all_zero (each f i (1024 - i))
-
-pub above_none : (f : ℕ → ℕ) → Above f limit
-above_none f = record { within = omega arith; rest = refl }
 
 each_first : (f : ℕ → ℕ) (i : ℕ) → i < 1024 → each f i (1024 - i) ≡ f i ∷ each f (i + 1) (1024 - (i + 1))
 unfolding each
@@ -158,17 +146,6 @@ pub wait_small : (b : List ℕ) (i : ℕ) → wait_in b i < 4
 unfolding wait_in
 wait_small b i = mod-lt (get_or b (8 + i / 4) 0 / 4 ^ (i % 4)) (zero-lt-suc 3)
 
--- ---- the area
-
-pub block_at : (a : List ℕ) (i : ℕ) → i * 512 + 512 ≤ length a → BlockAt a i (take (i * 512 + 512 - i * 512) (drop (i * 512) a))
-block_at a i h =
-    let e : i * 512 + 512 - i * 512 ≡ 512 = omega arith in
-    record {
-      is = ap (λ (n : ℕ). take n (drop (i * 512) a)) e;
-      long = ap (λ (n : ℕ). length (take n (drop (i * 512) a))) e
-          ∙ length-take-le 512 (drop (i * 512) a) (let g : length (drop (i * 512) a) ≡ length a - i * 512 = length-drop (i * 512) a in omega (arith, g));
-    }
-
 pub code_small : (w : Wait) → code_of w < 4
 code_small Wait.Free = omega arith
 code_small Wait.PubAck = omega arith
@@ -183,35 +160,10 @@ unfolding packed_at
 four_places t j a b c d h e =
     e ∙ rw (wait_at t (4 * j) a (omega arith), wait_at t (4 * j + 1) b (omega arith), wait_at t (4 * j + 2) c (omega arith), wait_at t (4 * j + 3) d (omega arith))
 
--- ---- zeroing
-
-pub record Zeroed (d out : List ℕ) (i : ℕ) : Type 0 where
-  pub within : i ≤ length d
-  pub long : length out ≡ length d
-  pub is : out ≡ replicate i 0 ++ drop i d
-
-pub zeroed_none : (d : List ℕ) → Zeroed d d 0
-zeroed_none d = record { within = omega arith; long = refl; is = fill_none d 0 }
-
-pub zeroed_more : {d out : List ℕ} {i : ℕ} → Zeroed d out i → i < length d → Zeroed d (set out i 0) (i + 1)
-zeroed_more {d} {out} {i} p h = record {
-  within = omega arith;
-  long = length-set out i 0 ∙ p.long;
-  is = ap (λ (o : List ℕ). set o i 0) p.is ∙ fill_more i 0 d h;
-}
-
-pub zeroed_all : {d out : List ℕ} {i : ℕ} → Zeroed d out i → length d ≤ i → out ≡ replicate (length d) 0
-zeroed_all {d} {out} {i} p g =
-    p.is ∙ ap (λ (s : List ℕ). replicate i 0 ++ s) (drop_of_length-le d g) ∙ append-nil (replicate i 0)
-    ∙ (let q : i ≡ length d = omega (arith, p.within) in ap (λ (n : ℕ). replicate {A = ℕ} n 0) q)
-
 -- ---- parts of a block
 
 pub part_long : (n : ℕ) (s : List ℕ) → n ≤ 512 → length s ≡ 512 → n ≡ length (take n s)
 part_long n s h e = sym (length-take-le n s (omega (arith, e)))
-
-pub rest_is_lem : (n : ℕ) (s : List ℕ) → take (length s - n) (drop n s) ≡ drop n s
-rest_is_lem n s = take_all (length s - n) (drop n s) (let e : length (drop n s) ≡ length s - n = length-drop n s in omega (arith, e))
 
 -- ---- a block is good by four tests
 
@@ -231,7 +183,3 @@ pub good_above : (b : List ℕ) {r : Bool} → eqb (crc_of (take 508 b)) (big_en
     → r ≡ all_zero (each (wait_in b) limit (1024 - limit)) → r ≡ good limit b
 unfolding good
 good_above b e f g h = h ∙ rw (e, f, ne_eqb (number_of b) 0 g)
-
-pub pos_of : (n : ℕ) → (n ≡ 0 → ⊥) → 0 < n
-pos_of zero h = absurd (h refl)
-pos_of (suc n) h = omega arith

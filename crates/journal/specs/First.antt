@@ -1,5 +1,5 @@
 -- "Recovery takes the good block with the highest number, the first of equals", said by the blocks' places and with no walk over them.
-use Rattle.std.specs.Prelude.{◌≡◌, Bool, true, List, ℕ, ◌*◌, ◌<◌, ◌≤◌, take, drop}
+use Rattle.std.specs.Prelude.{◌≡◌, true, List, ℕ, ◌*◌, ◌<◌, ◌≤◌, take, drop}
 use Rattle.journal.specs.Block.{good, number_of, table_in}
 use Rattle.journal.specs.Area.{count_of}
 

@@ -1,6 +1,6 @@
 -- "The area was started and only saves wrote to it; a cut during a save leaves the block being stored as it was, as it should be, or
 -- not good." `l` is the limit that saves go by; what a cut leaves is not good under `r`, which is `l` until P12 raises it.
-use Rattle.std.specs.Prelude.{◌≡◌, Bool, true, false, List, [], ◌∷◌, ◌++◌, ℕ, ◌+◌, ◌*◌, ◌-◌, ◌^◌, ◌<◌, ◌≤◌, length, get_or, replicate}
+use Rattle.std.specs.Prelude.{◌≡◌, false, List, [], ◌∷◌, ◌++◌, ℕ, ◌+◌, ◌*◌, ◌^◌, ◌<◌, length, get_or, replicate}
 use Rattle.inflight.specs.Rules.{free, Call, call, one_if_granted, one_if_freed, waiting}
 use Rattle.journal.specs.Block.{good, block_of}
 use Rattle.journal.specs.Area.{latest_in, highest, stored, Says, journal_empty, refused, recovered, save, recover}

@@ -2,52 +2,76 @@
 // blocks, so never onto the latest good block, and a save that was cut uses its number and its block again. Refusals are 32 to 34.
 #![tactic(auto)]
 
-ghost use Rattle.std.specs.Prelude.{◌≡◌, ◌+◌, ◌*◌, ◌-◌, ◌/◌, ◌%◌, ◌^◌, ◌≤◌, ◌<◌, eqb, length, get_or, take, drop, replicate};
+ghost use Rattle.std.specs.Prelude.{◌≡◌, ◌==◌, ◌+◌, ◌*◌, ◌-◌, ◌/◌, ◌%◌, ◌^◌, ◌<◌, eqb, length, take, drop, replicate, true, false, MatchResult};
+ghost use Rattle.std.specs.List.{list_all};
 ghost use Rattle.std.proofs.lemmas.List.Edits.{sets};
 ghost use Rattle.crc32.specs.Crc.{crc_of};
 ghost use Rattle.inflight.specs.Rules.{limit};
 ghost use Rattle.inflight.specs.TableAnswer.{code_of, waits_of};
-ghost use Rattle.journal.specs.Area.{whole, latest_in, left, start, save};
-ghost use Rattle.journal.specs.Block.{each, bytes_of, big_endian, all_zero, packed_at, wait_in, number_of, table_in, block_of, good};
-ghost use Rattle.journal.specs.JournalAnswer.{BlockAt, start_of, save_of, Recovers, Looks, Finds, Betters};
+ghost use Rattle.journal.specs.Area.{whole, blocks, count_of, newer, latest, latest_in, highest, left, start, save, recover, look};
+ghost use Rattle.journal.specs.Block.{each, big_endian, all_zero, packed_at, wait_in, number_of, table_in, block_of, good};
+ghost use Rattle.journal.specs.JournalAnswer.{start_of, save_of, told_block, block_says, Takes, Recovers, Looks};
 
 use crc32::crc32 as crc_of;
 use inflight::{InFlight, LIMIT, Place, code, wait_of};
 
-// What starting answers.
-#[derive(Clone, Copy)]
-pub enum Started {
-    Zeroed,
-    // 32: not two or more whole blocks
-    BadArea,
-}
+// 32: the area is not two or more whole blocks.
+#[derive(Clone, Copy, Debug, PartialEq, Eq)]
+pub struct BadArea;
 
-// What a save answers: the number, and the block of 512 bytes that changed.
-#[derive(Clone, Copy)]
-pub enum Saved {
-    Stored { number: u64, block: usize },
+// Why a save is refused.
+#[derive(Clone, Copy, Debug, PartialEq, Eq)]
+pub enum SaveError {
     // 32: not two or more whole blocks
     BadArea,
     // 34: the largest number is used
     JournalEnded,
 }
 
-// The number of the block whose table was taken, or a refusal.
-#[derive(Clone, Copy)]
-pub enum Found {
-    Number(u64),
+impl From<BadArea> for SaveError {
+    ghost use Rattle.journal.specs.declared.SaveError.{SaveError};
+
+    ghost from_gives = { λ _ r. r ≡ SaveError.BadArea };
+
+    fn from(_e: BadArea) -> SaveError {
+        SaveError::BadArea
+    }
+}
+
+// Why no table was found.
+#[derive(Clone, Copy, Debug, PartialEq, Eq)]
+pub enum FindError {
     // 32: not two or more whole blocks
     BadArea,
     // 33: no block is good
     JournalEmpty,
 }
 
-// What recovery answers; a fresh table unless one was found.
+impl From<BadArea> for FindError {
+    ghost use Rattle.journal.specs.declared.FindError.{FindError};
+
+    ghost from_gives = { λ _ r. r ≡ FindError.BadArea };
+
+    fn from(_e: BadArea) -> FindError {
+        FindError::BadArea
+    }
+}
+
+// What a save did: the number, and the block of 512 bytes that changed.
+#[derive(Clone, Copy, Debug, PartialEq, Eq)]
+pub struct Stored {
+    pub number: u64,
+    pub block: usize,
+}
+
+// What recovery answers: the number of the block whose table was taken; a fresh table unless one was found.
 #[derive(Clone, Copy)]
 pub struct Recovered {
-    pub found: Found,
+    pub found: Result<u64, FindError>,
     pub table: InFlight,
 }
+
+type Block = [u8; 512];
 
 // ---- the area
 
@@ -55,100 +79,33 @@ pub struct Recovered {
 pub fn is_whole(area: &[u8]) -> bool
     ensures { result ≡ whole area.now }
 {
-    if area.len() % 512 == 0 {
-        return 2 <= area.len() / 512;
-    }
-    false
+    area.len() % 512 == 0 && 2 <= area.len() / 512
 }
 
-// Block i of the area.
-fn block(area: &[u8], i: usize) -> &[u8]
-    requires { i * 512 + 512 ≤ length area.now }
-    ensures { BlockAt area.now i result.now }
+// Its blocks, from 0.
+fn blocks(area: &[u8]) -> Result<&[Block], BadArea>
+    ensures { MatchResult result (λ bs. (whole area.now ≡ true) × (bs.now ≡ blocks (count_of area.now) area.now)) (λ _. whole area.now ≡ false) }
 {
-    let from = i * 512;
-    let end = from + 512;
-    &area[from..end]
-}
-
-// Bytes stored one behind the other.
-fn put(out: &mut [u8], at: usize, s: &[u8])
-    requires { at + length s.now ≤ length out.old }
-    ensures { out.new ≡ sets out.old at s.now }
-{
-    let mut i = 0;
-    while i < s.len() {
-        out[at + i] = s[i];
-        i += 1;
+    if !is_whole(area) {
+        return Err(BadArea);
     }
+    let (blocks, _) = area.as_chunks();
+    Ok(blocks)
 }
 
 // Every byte zero.
 fn zero(out: &mut [u8])
     ensures { out.new ≡ replicate (length out.old) 0 }
 {
-    let mut i = 0;
-    while i < out.len() {
-        out[i] = 0;
-        i += 1;
-    }
-}
-
-// A number in eight bytes, big-endian.
-fn bytes8(n: u64) -> [u8; 8]
-    ensures { result ≡ bytes_of 8 n }
-{
-    [
-        (n / 72057594037927936 % 256) as u8,
-        (n / 281474976710656 % 256) as u8,
-        (n / 1099511627776 % 256) as u8,
-        (n / 4294967296 % 256) as u8,
-        (n / 16777216 % 256) as u8,
-        (n / 65536 % 256) as u8,
-        (n / 256 % 256) as u8,
-        (n % 256) as u8,
-    ]
-}
-
-// A number in four bytes, big-endian.
-fn bytes4(n: u32) -> [u8; 4]
-    ensures { result ≡ bytes_of 4 n }
-{
-    [
-        (n / 16777216 % 256) as u8,
-        (n / 65536 % 256) as u8,
-        (n / 256 % 256) as u8,
-        (n % 256) as u8,
-    ]
+    out.fill(0);
 }
 
 // ---- reading a block
 
-fn wide(x: u8) -> u64
-    ensures { result ≡ x }
-{
-    x as u64
-}
-
-// The number that the bytes are, big-endian.
-fn big_endian(s: &[u8]) -> u64
-    requires { length s.now ≤ 8 }
-    ensures { result ≡ big_endian s.now }
-{
-    let mut n: u64 = 0;
-    let mut i = 0;
-    while i < s.len() {
-        n = n * 256 + wide(s[i]);
-        i += 1;
-    }
-    n
-}
-
-fn number_of(b: &[u8]) -> u64
-    requires { length b.now ≡ 512 }
+fn number_of(b: &Block) -> u64
     ensures { result ≡ number_of b.now }
 {
-    big_endian(&b[..8])
+    u64::from_be_bytes([b[0], b[1], b[2], b[3], b[4], b[5], b[6], b[7]])
 }
 
 // Two bits of a byte, the m-th pair from the low end.
@@ -165,8 +122,8 @@ fn pair(x: u8, m: usize) -> u8
 }
 
 // What identifier i + 1 waits for.
-fn wait_in(b: &[u8], i: usize) -> u8
-    requires { (length b.now ≡ 512) × (i < 1024) }
+fn wait_in(b: &Block, i: usize) -> u8
+    requires { i < 1024 }
     ensures { result ≡ wait_in b.now i }
 {
     let j = 8 + i / 4;
@@ -174,53 +131,38 @@ fn wait_in(b: &[u8], i: usize) -> u8
 }
 
 fn all_zero(s: &[u8]) -> bool
-    ensures { result ≡ all_zero s.now }
+    ensures { result ≡ list_all (λ b. b == 0) s.now }
 {
-    let mut i = 0;
-    while i < s.len() {
-        if s[i] != 0 {
-            return false;
-        }
-        i += 1;
-    }
-    true
+    s.iter().all(|b| *b == 0)
 }
 
 // No identifier above the limit is marked.
-fn none_above(b: &[u8]) -> bool
-    requires { length b.now ≡ 512 }
+fn none_above(b: &Block) -> bool
     ensures { result ≡ all_zero (each (wait_in b.now) limit (1024 - limit)) }
 {
-    let mut i = LIMIT;
-    while i < 1024 {
+    for i in LIMIT..1024 {
         if wait_in(b, i) != 0 {
             return false;
         }
-        i += 1;
     }
     true
 }
 
 // The check is that of the bytes before it.
-fn check_right(b: &[u8]) -> bool
-    requires { length b.now ≡ 512 }
+fn check_right(b: &Block) -> bool
     ensures { result ≡ eqb (crc_of (take 508 b.now)) (big_endian (drop 508 b.now)) }
 {
-    let crc = crc_of(&b[..508]);
-    crc as u64 == big_endian(&b[508..])
+    crc_of(&b[..508]) == u32::from_be_bytes([b[508], b[509], b[510], b[511]])
 }
 
 // The bytes between marks and check are zero.
-fn zeros_right(b: &[u8]) -> bool
-    requires { length b.now ≡ 512 }
+fn zeros_right(b: &Block) -> bool
     ensures { result ≡ all_zero (drop 264 (take 508 b.now)) }
 {
-    let body = &b[..508];
-    all_zero(&body[264..])
+    all_zero(&b[264..508])
 }
 
-fn is_good(b: &[u8]) -> bool
-    requires { length b.now ≡ 512 }
+fn is_good(b: &Block) -> bool
     ensures { result ≡ good limit b.now }
 {
     if !check_right(b) {
@@ -235,18 +177,14 @@ fn is_good(b: &[u8]) -> bool
     none_above(b)
 }
 
-fn table_of(b: &[u8]) -> InFlight
-    requires { length b.now ≡ 512 }
+fn table_of(b: &Block) -> InFlight
     ensures { waits_of result ≡ table_in limit b.now }
 {
     let mut table = InFlight::new();
-    let mut i = 0;
-    while i < LIMIT {
-        let p = Place {
+    for i in 0..LIMIT {
+        table.places[i] = Place {
             wait: wait_of(wait_in(b, i)),
         };
-        table.places[i] = p;
-        i += 1;
     }
     table
 }
@@ -265,123 +203,126 @@ fn four(p: Place, q: Place, r: Place, s: Place) -> u8
 }
 
 // The marks of the table, behind the number: four identifiers to a byte.
-fn put_marks(out: &mut [u8], table: InFlight)
-    requires { length out.old ≡ 512 }
+fn put_marks(out: &mut Block, table: InFlight)
     ensures { out.new ≡ sets out.old 8 (each (packed_at (waits_of table)) 0 (limit / 4)) }
 {
-    let mut j = 0;
-    while j < LIMIT / 4 {
+    for j in 0..LIMIT / 4 {
         let i = 4 * j;
         let p = table.places[i];
         let q = table.places[i + 1];
         let r = table.places[i + 2];
         let s = table.places[i + 3];
         out[8 + j] = four(p, q, r, s);
-        j += 1;
     }
 }
 
-// The number, in front.
-fn put_number(out: &mut [u8], n: u64)
-    requires { length out.old ≡ 512 }
-    ensures { out.new ≡ sets out.old 0 (bytes_of 8 n) }
+// The block of that number and table: the number in front, the marks, zeros, and last the check of what stands before it.
+fn block_of(number: u64, table: InFlight) -> Block
+    ensures { result ≡ block_of number (waits_of table) }
 {
-    let b = bytes8(n);
-    put(&mut *out, 0, &b);
-}
-
-// The check of what stands before it.
-fn put_check(out: &mut [u8])
-    requires { length out.old ≡ 512 }
-    ensures { out.new ≡ sets out.old 508 (bytes_of 4 (crc_of (take 508 out.old))) }
-{
-    let crc = crc_of(&out[..508]);
-    let b = bytes4(crc);
-    put(&mut *out, 508, &b);
-}
-
-// The block of that number and table.
-fn put_block(out: &mut [u8], number: u64, table: InFlight)
-    requires { length out.old ≡ 512 }
-    ensures { out.new ≡ block_of number (waits_of table) }
-{
-    zero(&mut *out);
-    put_number(&mut *out, number);
-    put_marks(&mut *out, table);
-    put_check(&mut *out);
+    let mut b = [0; 512];
+    b[..8].copy_from_slice(&number.to_be_bytes());
+    put_marks(&mut b, table);
+    let check = crc_of(&b[..508]);
+    b[508..].copy_from_slice(&check.to_be_bytes());
+    b
 }
 
 // ---- the calls
 
-// The highest number of good blocks so far, 0 if there was none, and where that block stands.
-#[derive(Clone, Copy)]
-struct Best {
-    number: u64,
-    at: usize,
+// The number of the best block so far; 0 if there was none.
+fn highest(best: Option<&Block>) -> u64
+    ensures { result ≡ highest (told_block best.entry) }
+{
+    match best {
+        Some(b) => number_of(b),
+        None => 0,
+    }
 }
 
-// The better of block i and the best behind it.
-fn better(area: &[u8], i: usize, best: Best) -> Best
-    requires { i * 512 + 512 ≤ length area.now }
-    ensures { Betters area.now i best.number best.at result.number result.at }
+// The better of a block and the best behind it.
+fn better<'a>(b: &'a Block, best: Option<&'a Block>) -> Option<&'a Block>
+    ensures { told_block result ≡ newer limit b.now (told_block best.entry) }
 {
-    let b = block(area, i);
-    let n = number_of(b);
-    if best.number <= n {
-        if is_good(b) {
-            return Best { number: n, at: i };
-        }
-        return best;
+    if highest(best) <= number_of(b) && is_good(b) {
+        return Some(b);
     }
     best
 }
 
 // The good block with the highest number, the first of equals. Blocks are taken from the last to the first, and one is tested only
 // if its number is no less than the best so far: of an area that went round, two or three.
-fn find(area: &[u8], count: usize) -> Best
-    requires { length area.now ≡ count * 512 }
-    ensures { Finds area.now (latest_in limit area.now) result.number result.at }
+fn find(blocks: &[Block]) -> Option<&Block>
+    ensures { told_block result ≡ latest limit blocks.now }
 {
-    let mut best = Best { number: 0, at: 0 };
-    let mut i = count;
-    while 0 < i {
-        i -= 1;
-        best = better(area, i, best);
+    let mut best = None;
+    for b in blocks.iter().rev() {
+        best = better(b, best);
     }
     best
 }
 
 // Zeroes the area; 32 if it is not two or more whole blocks.
-pub fn start(area: &mut [u8]) -> Started
+pub fn start(area: &mut [u8]) -> Result<(), BadArea>
     ensures { left area.new (start_of result) ≡ start area.old }
 {
     if !is_whole(&*area) {
-        return Started::BadArea;
+        return Err(BadArea);
     }
     zero(&mut *area);
-    Started::Zeroed
+    Ok(())
 }
 
 // Stores the table under the number after the highest good one, in that number's block, and tells both; 32 or 34, and nothing changed.
-pub fn save(area: &mut [u8], table: InFlight) -> Saved
+pub fn save(area: &mut [u8], table: InFlight) -> Result<Stored, SaveError>
     ensures { left area.new (save_of result) ≡ save limit (waits_of table) area.old }
 {
-    if !is_whole(&*area) {
-        return Saved::BadArea;
+    let blocks = blocks(&*area)?;
+    let last = highest(find(blocks));
+    if last == u64::MAX {
+        return Err(SaveError::JournalEnded);
     }
-    let count = area.len() / 512;
-    let best = find(&*area, count);
-    let last = best.number;
-    if last == 18446744073709551615 {
-        return Saved::JournalEnded;
-    }
-    let i = (last % (count as u64)) as usize;
-    let from = i * 512;
+    let at = (last % (blocks.len() as u64)) as usize;
+    let from = at * 512;
     let end = from + 512;
-    put_block(&mut area[from..end], last + 1, table);
-    Saved::Stored {
+    area[from..end].copy_from_slice(&block_of(last + 1, table));
+    Ok(Stored {
         number: last + 1,
-        block: i,
+        block: at,
+    })
+}
+
+// The good block with the highest number, the first of equals.
+fn latest_block(area: &[u8]) -> Result<&Block, FindError>
+    ensures { block_says result ≡ recover limit area.now }
+{
+    find(blocks(area)?).ok_or(FindError::JournalEmpty)
+}
+
+// Block i, if it is good.
+fn good_at(area: &[u8], i: usize) -> Result<&Block, FindError>
+    ensures { block_says result ≡ look limit area.now i }
+{
+    let blocks = blocks(area)?;
+    if i < blocks.len() && is_good(&blocks[i]) {
+        return Ok(&blocks[i]);
+    }
+    Err(FindError::JournalEmpty)
+}
+
+// The number and the table of the block found.
+fn taken(found: Result<&Block, FindError>) -> Recovered
+    ensures { Takes found.entry result }
+{
+    match found {
+        Ok(b) => Recovered {
+            found: Ok(number_of(b)),
+            table: table_of(b),
+        },
+        Err(e) => Recovered {
+            found: Err(e),
+            table: InFlight::new(),
+        },
     }
 }
 
@@ -389,61 +330,12 @@ pub fn save(area: &mut [u8], table: InFlight) -> Saved
 pub fn recover(area: &[u8]) -> Recovered
     ensures { Recovers area.now result }
 {
-    if !is_whole(area) {
-        let table = InFlight::new();
-        return Recovered {
-            found: Found::BadArea,
-            table,
-        };
-    }
-    let count = area.len() / 512;
-    let best = find(area, count);
-    let n = best.number;
-    if n == 0 {
-        let table = InFlight::new();
-        return Recovered {
-            found: Found::JournalEmpty,
-            table,
-        };
-    }
-    let table = table_of(block(area, best.at));
-    Recovered {
-        found: Found::Number(n),
-        table,
-    }
+    taken(latest_block(area))
 }
 
 // The table of block i, by the same answers: JournalEmpty if that block is not good, or there is none.
 pub fn look(area: &[u8], i: usize) -> Recovered
     ensures { Looks area.now i result }
 {
-    if !is_whole(area) {
-        let table = InFlight::new();
-        return Recovered {
-            found: Found::BadArea,
-            table,
-        };
-    }
-    if i < area.len() / 512 {
-        let b = block(area, i);
-        let fine = is_good(b);
-        if fine {
-            let number = number_of(b);
-            let table = table_of(b);
-            return Recovered {
-                found: Found::Number(number),
-                table,
-            };
-        }
-        let table = InFlight::new();
-        return Recovered {
-            found: Found::JournalEmpty,
-            table,
-        };
-    }
-    let table = InFlight::new();
-    Recovered {
-        found: Found::JournalEmpty,
-        table,
-    }
+    taken(good_at(area, i))
 }

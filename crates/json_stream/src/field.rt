@@ -1,18 +1,19 @@
 // One field of an object: a comma, its name, a colon and its value. The name is lent with what stands around it, the first quote included.
 use crate::output;
-use records::span::{MaybeSpan, MaybeU8, MaybeU16, MaybeU32, Span};
+use crate::output::At;
+use records::span::Span;
 use std::io::Stdout;
 use wire::string;
 
-pub fn number(to: Stdout, out: &mut [u8], at: usize, name: &[u8], n: u64) -> usize {
+pub fn number(to: Stdout, out: &mut [u8], at: At, name: &[u8], n: u64) -> At {
     output::number(to, &mut *out, at, name, n)
 }
 
-pub fn id(to: Stdout, out: &mut [u8], at: usize, pkid: u16) -> usize {
+pub fn id(to: Stdout, out: &mut [u8], at: At, pkid: u16) -> At {
     number(to, &mut *out, at, b",\"id\":", pkid as u64)
 }
 
-pub fn flag(to: Stdout, out: &mut [u8], at: usize, name: &[u8], on: bool) -> usize {
+pub fn flag(to: Stdout, out: &mut [u8], at: At, name: &[u8], on: bool) -> At {
     let value = output::word(to, &mut *out, at, name);
     if on {
         return output::word(to, &mut *out, value, b"true");
@@ -21,18 +22,18 @@ pub fn flag(to: Stdout, out: &mut [u8], at: usize, name: &[u8], on: bool) -> usi
 }
 
 // Bytes, as a text or in hexadecimal, and the quote behind them.
-fn bytes(to: Stdout, out: &mut [u8], at: usize, name: &[u8], s: &[u8], is_text: bool) -> usize {
+fn bytes(to: Stdout, out: &mut [u8], at: At, name: &[u8], s: &[u8], is_text: bool) -> At {
     let value = output::word(to, &mut *out, at, name);
     let end = output::quoted(to, &mut *out, value, s, is_text);
     output::word(to, &mut *out, end, b"\"")
 }
 
 // The text of s at a place.
-pub fn text(to: Stdout, out: &mut [u8], at: usize, name: &[u8], s: &[u8], place: Span) -> usize {
+pub fn text(to: Stdout, out: &mut [u8], at: At, name: &[u8], s: &[u8], place: Span) -> At {
     bytes(to, &mut *out, at, name, string::part(s, place), true)
 }
 
-fn hex(to: Stdout, out: &mut [u8], at: usize, name: &[u8], s: &[u8], place: Span) -> usize {
+fn hex(to: Stdout, out: &mut [u8], at: At, name: &[u8], s: &[u8], place: Span) -> At {
     bytes(to, &mut *out, at, name, string::part(s, place), false)
 }
 
@@ -40,12 +41,12 @@ fn hex(to: Stdout, out: &mut [u8], at: usize, name: &[u8], s: &[u8], place: Span
 pub fn text_or_hex(
     to: Stdout,
     out: &mut [u8],
-    at: usize,
+    at: At,
     name: &[u8],
     hex_name: &[u8],
     s: &[u8],
     place: Span,
-) -> usize {
+) -> At {
     if utf8::is_utf8(string::part(s, place)) {
         return text(to, &mut *out, at, name, s, place);
     }
@@ -53,51 +54,51 @@ pub fn text_or_hex(
 }
 
 // The fields that may be absent, and are then no field.
-pub fn u8_if(to: Stdout, out: &mut [u8], at: usize, name: &[u8], n: MaybeU8) -> usize {
+pub fn u8_if(to: Stdout, out: &mut [u8], at: At, name: &[u8], n: Option<u8>) -> At {
     match n {
-        MaybeU8::Absent => at,
-        MaybeU8::Present(x) => number(to, &mut *out, at, name, x as u64),
+        None => at,
+        Some(x) => number(to, &mut *out, at, name, x as u64),
     }
 }
 
-pub fn u16_if(to: Stdout, out: &mut [u8], at: usize, name: &[u8], n: MaybeU16) -> usize {
+pub fn u16_if(to: Stdout, out: &mut [u8], at: At, name: &[u8], n: Option<u16>) -> At {
     match n {
-        MaybeU16::Absent => at,
-        MaybeU16::Present(x) => number(to, &mut *out, at, name, x as u64),
+        None => at,
+        Some(x) => number(to, &mut *out, at, name, x as u64),
     }
 }
 
-pub fn u32_if(to: Stdout, out: &mut [u8], at: usize, name: &[u8], n: MaybeU32) -> usize {
+pub fn u32_if(to: Stdout, out: &mut [u8], at: At, name: &[u8], n: Option<u32>) -> At {
     match n {
-        MaybeU32::Absent => at,
-        MaybeU32::Present(x) => number(to, &mut *out, at, name, x as u64),
+        None => at,
+        Some(x) => number(to, &mut *out, at, name, x as u64),
     }
 }
 
 pub fn text_if(
     to: Stdout,
     out: &mut [u8],
-    at: usize,
+    at: At,
     name: &[u8],
     s: &[u8],
-    place: MaybeSpan,
-) -> usize {
+    place: Option<Span>,
+) -> At {
     match place {
-        MaybeSpan::Absent => at,
-        MaybeSpan::Present(p) => text(to, &mut *out, at, name, s, p),
+        None => at,
+        Some(p) => text(to, &mut *out, at, name, s, p),
     }
 }
 
 pub fn hex_if(
     to: Stdout,
     out: &mut [u8],
-    at: usize,
+    at: At,
     name: &[u8],
     s: &[u8],
-    place: MaybeSpan,
-) -> usize {
+    place: Option<Span>,
+) -> At {
     match place {
-        MaybeSpan::Absent => at,
-        MaybeSpan::Present(p) => hex(to, &mut *out, at, name, s, p),
+        None => at,
+        Some(p) => hex(to, &mut *out, at, name, s, p),
     }
 }

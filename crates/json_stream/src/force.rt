@@ -1,4 +1,5 @@
 // The field of the topic in force, where a Publish leaves its own empty; or of the refusal, where it has none.
+use crate::output::At;
 use crate::{field, output};
 use alias::{AliasError, Placed};
 use records::publish_record::Publish;
@@ -7,7 +8,7 @@ use std::io::Stdout;
 use wire::string;
 
 // The number and the name, as an object.
-fn refused(to: Stdout, out: &mut [u8], at: usize, e: AliasError) -> usize {
+fn refused(to: Stdout, out: &mut [u8], at: At, e: AliasError) -> At {
     let number = alias::number(e);
     let name = refusal_names::name_at(number as u32);
     let bytes = name.bytes;
@@ -27,10 +28,10 @@ fn refused(to: Stdout, out: &mut [u8], at: usize, e: AliasError) -> usize {
     output::word(to, &mut *out, c, b"\"}")
 }
 
-pub fn topic(to: Stdout, out: &mut [u8], at: usize, s: &[u8], table: &[u8], m: Publish) -> usize {
+pub fn topic(to: Stdout, out: &mut [u8], at: At, s: &[u8], table: &[u8], m: Publish) -> At {
     match alias::place_in_force(s, table, m) {
-        Placed::InPacket(_) => at,
-        Placed::InTable(p) => field::text_or_hex(
+        Ok(Placed::InPacket(_)) => at,
+        Ok(Placed::InTable(p)) => field::text_or_hex(
             to,
             &mut *out,
             at,
@@ -39,6 +40,6 @@ pub fn topic(to: Stdout, out: &mut [u8], at: usize, s: &[u8], table: &[u8], m: P
             table,
             p,
         ),
-        Placed::Refused(e) => refused(to, &mut *out, at, e),
+        Err(e) => refused(to, &mut *out, at, e),
     }
 }

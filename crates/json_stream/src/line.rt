@@ -1,11 +1,12 @@
 // The object of a packet, the index-th of the stream, whose frame starts at `offset` of it and takes `taken` bytes, put into the output from
 // place `at` on, and the end of its line.
+use crate::output::At;
 use crate::{field, force, list, output};
 use qos_numbers;
 use records::ack_record::Ack;
 use records::packet_record::Packet;
-use records::properties_record::{MaybeProperties, Properties};
-use records::publish_record::{MaybePublishProperties, Publish, PublishProperties};
+use records::properties_record::Properties;
+use records::publish_record::{Publish, PublishProperties};
 use records::reply_record::Reply;
 use records::span::Span;
 use records::subscribe_record::Subscribe;
@@ -18,27 +19,20 @@ use wire::string;
 const NONE: Span = Span { start: 0, len: 0 };
 
 // The identifier, which a Publish has at QoS 1 and 2.
-fn identifier(to: Stdout, out: &mut [u8], at: usize, q: u8, pkid: u16) -> usize {
+fn identifier(to: Stdout, out: &mut [u8], at: At, q: u8, pkid: u16) -> At {
     if q == 0 {
         return at;
     }
     field::id(to, &mut *out, at, pkid)
 }
 
-fn flags(to: Stdout, out: &mut [u8], at: usize, dup: bool, q: u8, retain: bool) -> usize {
+fn flags(to: Stdout, out: &mut [u8], at: At, dup: bool, q: u8, retain: bool) -> At {
     let a = field::flag(to, &mut *out, at, b",\"dup\":", dup);
     let b = field::number(to, &mut *out, a, b",\"qos\":", q as u64);
     field::flag(to, &mut *out, b, b",\"retain\":", retain)
 }
 
-fn publish_head(
-    to: Stdout,
-    out: &mut [u8],
-    at: usize,
-    s: &[u8],
-    table: &[u8],
-    m: Publish,
-) -> usize {
+fn publish_head(to: Stdout, out: &mut [u8], at: At, s: &[u8], table: &[u8], m: Publish) -> At {
     let qos = m.qos;
     let q = qos_numbers::qos_number(qos);
     let a = flags(to, &mut *out, at, m.dup, q, m.retain);
@@ -56,7 +50,7 @@ fn publish_head(
     identifier(to, &mut *out, c, q, m.pkid)
 }
 
-fn publish_singles(to: Stdout, out: &mut [u8], at: usize, s: &[u8], p: PublishProperties) -> usize {
+fn publish_singles(to: Stdout, out: &mut [u8], at: At, s: &[u8], p: PublishProperties) -> At {
     let format = p.payload_format_indicator;
     let expiry = p.message_expiry_interval;
     let alias = p.topic_alias;
@@ -77,18 +71,12 @@ fn publish_singles(to: Stdout, out: &mut [u8], at: usize, s: &[u8], p: PublishPr
 }
 
 // The two lists of a Publish.
-fn publish_lists(to: Stdout, out: &mut [u8], at: usize, s: &[u8], block: Span) -> usize {
+fn publish_lists(to: Stdout, out: &mut [u8], at: At, s: &[u8], block: Span) -> At {
     let a = list::users(to, &mut *out, at, PropertyRow::Publish, s, block);
     list::identifiers(to, &mut *out, a, s, block)
 }
 
-fn publish_properties(
-    to: Stdout,
-    out: &mut [u8],
-    at: usize,
-    s: &[u8],
-    p: PublishProperties,
-) -> usize {
+fn publish_properties(to: Stdout, out: &mut [u8], at: At, s: &[u8], p: PublishProperties) -> At {
     let block = p.block;
     let content = p.content_type;
     let a = publish_singles(to, &mut *out, at, s, p);
@@ -99,17 +87,17 @@ fn publish_properties(
 fn publish_block(
     to: Stdout,
     out: &mut [u8],
-    at: usize,
+    at: At,
     s: &[u8],
-    properties: MaybePublishProperties,
-) -> usize {
+    properties: Option<PublishProperties>,
+) -> At {
     match properties {
-        MaybePublishProperties::Absent => publish_lists(to, &mut *out, at, s, NONE),
-        MaybePublishProperties::Present(p) => publish_properties(to, &mut *out, at, s, p),
+        None => publish_lists(to, &mut *out, at, s, NONE),
+        Some(p) => publish_properties(to, &mut *out, at, s, p),
     }
 }
 
-fn publish_of(to: Stdout, out: &mut [u8], at: usize, s: &[u8], table: &[u8], m: Publish) -> usize {
+fn publish_of(to: Stdout, out: &mut [u8], at: At, s: &[u8], table: &[u8], m: Publish) -> At {
     let properties = m.properties;
     let a = publish_head(to, &mut *out, at, s, table, m);
     let b = publish_block(to, &mut *out, a, s, properties);
@@ -128,11 +116,11 @@ fn publish_of(to: Stdout, out: &mut [u8], at: usize, s: &[u8], table: &[u8], m: 
 fn properties_of(
     to: Stdout,
     out: &mut [u8],
-    at: usize,
+    at: At,
     place: PropertyRow,
     s: &[u8],
     p: Properties,
-) -> usize {
+) -> At {
     let text = p.reason_string;
     let id = p.id;
     let a = field::text_if(to, &mut *out, at, b",\"reason_string\":\"", s, text);
@@ -143,26 +131,26 @@ fn properties_of(
 fn block(
     to: Stdout,
     out: &mut [u8],
-    at: usize,
+    at: At,
     place: PropertyRow,
     s: &[u8],
-    properties: MaybeProperties,
-) -> usize {
+    properties: Option<Properties>,
+) -> At {
     match properties {
-        MaybeProperties::Absent => list::users(to, &mut *out, at, place, s, NONE),
-        MaybeProperties::Present(p) => properties_of(to, &mut *out, at, place, s, p),
+        None => list::users(to, &mut *out, at, place, s, NONE),
+        Some(p) => properties_of(to, &mut *out, at, place, s, p),
     }
 }
 
 // PubAck, PubRec, PubRel, PubComp.
-fn ack_of(to: Stdout, out: &mut [u8], at: usize, s: &[u8], m: Ack) -> usize {
+fn ack_of(to: Stdout, out: &mut [u8], at: At, s: &[u8], m: Ack) -> At {
     let properties = m.properties;
     let a = field::id(to, &mut *out, at, m.pkid);
     let b = field::number(to, &mut *out, a, b",\"reason\":", m.reason as u64);
     block(to, &mut *out, b, PropertyRow::Ack, s, properties)
 }
 
-fn subscribe_of(to: Stdout, out: &mut [u8], at: usize, s: &[u8], m: Subscribe) -> usize {
+fn subscribe_of(to: Stdout, out: &mut [u8], at: At, s: &[u8], m: Subscribe) -> At {
     let properties = m.properties;
     let filters = m.filters;
     let a = field::id(to, &mut *out, at, m.pkid);
@@ -171,7 +159,7 @@ fn subscribe_of(to: Stdout, out: &mut [u8], at: usize, s: &[u8], m: Subscribe) -
 }
 
 // SubAck, UnsubAck.
-fn reply_of(to: Stdout, out: &mut [u8], at: usize, s: &[u8], m: Reply) -> usize {
+fn reply_of(to: Stdout, out: &mut [u8], at: At, s: &[u8], m: Reply) -> At {
     let properties = m.properties;
     let reasons = m.reasons;
     let a = field::id(to, &mut *out, at, m.pkid);
@@ -179,7 +167,7 @@ fn reply_of(to: Stdout, out: &mut [u8], at: usize, s: &[u8], m: Reply) -> usize 
     list::reasons(to, &mut *out, b, s, reasons)
 }
 
-fn unsubscribe_of(to: Stdout, out: &mut [u8], at: usize, s: &[u8], m: Unsubscribe) -> usize {
+fn unsubscribe_of(to: Stdout, out: &mut [u8], at: At, s: &[u8], m: Unsubscribe) -> At {
     let properties = m.properties;
     let topics = m.topics;
     let a = field::id(to, &mut *out, at, m.pkid);
@@ -188,7 +176,7 @@ fn unsubscribe_of(to: Stdout, out: &mut [u8], at: usize, s: &[u8], m: Unsubscrib
 }
 
 // The fields of the kind; a ping has none.
-fn fields(to: Stdout, out: &mut [u8], at: usize, s: &[u8], table: &[u8], p: Packet) -> usize {
+fn fields(to: Stdout, out: &mut [u8], at: At, s: &[u8], table: &[u8], p: Packet) -> At {
     match p {
         Packet::Publish(m) => publish_of(to, &mut *out, at, s, table, m),
         Packet::Ack(_, m) => ack_of(to, &mut *out, at, s, m),
@@ -201,15 +189,7 @@ fn fields(to: Stdout, out: &mut [u8], at: usize, s: &[u8], table: &[u8], p: Pack
 }
 
 // What every object begins with, with the word for a number's kind.
-fn head(
-    to: Stdout,
-    out: &mut [u8],
-    at: usize,
-    index: u64,
-    offset: u64,
-    num: u8,
-    taken: usize,
-) -> usize {
+fn head(to: Stdout, out: &mut [u8], at: At, index: u64, offset: u64, num: u8, taken: usize) -> At {
     let shown = kinds::word_of(num);
     let bytes = shown.bytes;
     let text = Span {
@@ -231,14 +211,14 @@ fn head(
 pub fn packet(
     to: Stdout,
     out: &mut [u8],
-    at: usize,
+    at: At,
     index: u64,
     offset: u64,
     s: &[u8],
     table: &[u8],
     p: Packet,
     taken: usize,
-) -> usize {
+) -> At {
     let a = head(
         to,
         &mut *out,

@@ -1,103 +1,71 @@
 // What is put into the lent output before it is written: words, numbers, texts and bytes in hexadecimal, each from index `at` on, and the index
-// after it. A full output is written to standard output. An index past the end of the output says that something could not be written, and why.
-ghost use Rattle.std.specs.Prelude.{◌≡◌, min};
-
+// after it. A full output is written to standard output.
 use json_text::{put_bytes_hex, put_number, put_text, put_word};
 use records::error::Error;
 use records::span::Span;
 use std::io::{Print, Stderr, Stdout};
 use wire::string;
 
-// The index that no output has.
-const LOST: usize = 18446744073709551615;
+// Where the output goes on, or the system's number of why what was put could not be written, 0 if it gave none.
+pub type At = Result<usize, i32>;
 
 // The system's number where nobody takes any more what is written.
 pub const BROKEN_PIPE: i32 = 32;
 
-// The index of what could not be written: below LOST by the system's number of what failed.
-fn lost(number: i32) -> usize {
-    std::num::wrapping_sub_usize(LOST, usize::try_from(number).unwrap_or(0))
-}
-
-// That number.
-pub fn number_of_lost(at: usize) -> i32 {
-    i32::try_from(LOST - at).unwrap_or(0)
-}
-
-pub fn is_lost(out: &[u8], at: usize) -> bool {
-    out.len() < at
-}
-
 // Writes what was put.
-pub fn flush(to: Stdout, out: &[u8], at: usize) -> usize {
-    if is_lost(out, at) {
-        return at;
-    }
-    match Print::write_all(&to, string::part(out, Span { start: 0, len: at })) {
-        Ok(()) => 0,
-        Err(e) => lost(outside::number_of(e)),
+pub fn flush(to: Stdout, out: &[u8], at: At) -> At {
+    let put = Span { start: 0, len: at? };
+    match Print::write_all(&to, string::part(out, put)) {
+        Ok(()) => Ok(0),
+        Err(e) => Err(outside::number_of(e)),
     }
 }
 
 // An index with room for n bytes: the same, or the first once what was put is written.
-fn room(to: Stdout, out: &[u8], at: usize, n: usize) -> usize {
-    if out.len() < at {
-        return at;
-    }
-    if n <= out.len() - at {
+fn room(to: Stdout, out: &[u8], at: At, n: usize) -> At {
+    if n <= out.len().saturating_sub(at?) {
         return at;
     }
     flush(to, out, at)
 }
 
-pub fn word(to: Stdout, out: &mut [u8], at: usize, w: &[u8]) -> usize {
-    let from = room(to, &*out, at, w.len());
-    if is_lost(&*out, from) {
-        return from;
+// The index behind what was put, if it had room.
+fn within(out: &[u8], next: usize) -> At {
+    if out.len() < next {
+        return Err(0);
     }
-    put_word(&mut *out, from, w)
+    Ok(next)
+}
+
+pub fn word(to: Stdout, out: &mut [u8], at: At, w: &[u8]) -> At {
+    let from = room(to, &*out, at, w.len())?;
+    let next = put_word(&mut *out, from, w);
+    within(&*out, next)
 }
 
 // Words of less than 80 bytes, and a number behind them.
-pub fn number(to: Stdout, out: &mut [u8], at: usize, w: &[u8], n: u64) -> usize {
-    let from = room(to, &*out, at, 100);
-    if is_lost(&*out, from) {
-        return from;
-    }
-    put_number(&mut *out, from, w, n)
+pub fn number(to: Stdout, out: &mut [u8], at: At, w: &[u8], n: u64) -> At {
+    let from = room(to, &*out, at, 100)?;
+    let next = put_number(&mut *out, from, w, n);
+    within(&*out, next)
 }
 
-// How many of the bytes that are left are put at once.
-fn piece(left: usize) -> usize
-    ensures { result ≡ min left 4096 }
-{
-    if left < 4096 {
-        return left;
-    }
-    4096
-}
-
-// A piece: of a text, or in hexadecimal. No byte of a text is put in more than six.
-fn put_piece(to: Stdout, out: &mut [u8], at: usize, s: &[u8], is_text: bool) -> usize {
-    let from = room(to, &*out, at, 24576);
-    if is_lost(&*out, from) {
-        return from;
-    }
+// A piece of at most 4,096 bytes: of a text, or in hexadecimal. No byte of a text is put in more than six.
+fn put_piece(to: Stdout, out: &mut [u8], at: At, s: &[u8], is_text: bool) -> At {
+    let from = room(to, &*out, at, 24576)?;
     if is_text {
-        return put_text(&mut *out, from, s);
+        let next = put_text(&mut *out, from, s);
+        return within(&*out, next);
     }
-    put_bytes_hex(&mut *out, from, s)
+    let next = put_bytes_hex(&mut *out, from, s);
+    within(&*out, next)
 }
 
 // The bytes of s as they stand between quotes: a text, or in hexadecimal.
-pub fn quoted(to: Stdout, out: &mut [u8], at: usize, s: &[u8], is_text: bool) -> usize {
+pub fn quoted(to: Stdout, out: &mut [u8], at: At, s: &[u8], is_text: bool) -> At {
     let mut next = at;
-    let mut i: usize = 0;
-    while i < s.len() {
-        let n = piece(s.len() - i);
-        let part = string::part(s, Span { start: i, len: n });
-        next = put_piece(to, &mut *out, next, part, is_text);
-        i = i + n;
+    for piece in s.chunks(4096) {
+        next = put_piece(to, &mut *out, next, piece, is_text);
     }
     next
 }
@@ -106,51 +74,45 @@ pub fn quoted(to: Stdout, out: &mut [u8], at: usize, s: &[u8], is_text: bool) ->
 pub fn head(
     to: Stdout,
     out: &mut [u8],
-    at: usize,
+    at: At,
     index: u64,
     offset: u64,
     kind: &[u8],
     taken: u64,
-) -> usize {
-    let from = room(to, &*out, at, 256);
-    if is_lost(&*out, from) {
-        return from;
-    }
-    json_lines::put_head(&mut *out, from, index, offset, kind, taken)
+) -> At {
+    let from = room(to, &*out, at, 256)?;
+    let next = json_lines::put_head(&mut *out, from, index, offset, kind, taken);
+    within(&*out, next)
 }
 
 // The line of a refusal, which is shorter than 256 bytes.
 pub fn refused(
     to: Stdout,
     out: &mut [u8],
-    at: usize,
+    at: At,
     index: u64,
     offset: u64,
     e: Error,
     taken: usize,
-) -> usize {
-    let from = room(to, &*out, at, 256);
-    if is_lost(&*out, from) {
-        return from;
-    }
-    json_lines::put_refused(&mut *out, from, index, offset, e, taken)
+) -> At {
+    let from = room(to, &*out, at, 256)?;
+    let next = json_lines::put_refused(&mut *out, from, index, offset, e, taken);
+    within(&*out, next)
 }
 
 // The line of a frame that was passed over, which is shorter than 256 bytes.
 pub fn skipped(
     to: Stdout,
     out: &mut [u8],
-    at: usize,
+    at: At,
     index: u64,
     offset: u64,
     taken: u64,
     kind: u8,
-) -> usize {
-    let from = room(to, &*out, at, 256);
-    if is_lost(&*out, from) {
-        return from;
-    }
-    json_lines::put_skipped(&mut *out, from, index, offset, taken, kind)
+) -> At {
+    let from = room(to, &*out, at, 256)?;
+    let next = json_lines::put_skipped(&mut *out, from, index, offset, taken, kind);
+    within(&*out, next)
 }
 
 // ---- standard error

@@ -1,8 +1,8 @@
 // The stream, frame by frame: what is held of it in the buffer is read, an object is put for each frame, and more is read where a frame is
 // unfinished. An unfinished frame moves to the front of the buffer, once at most. A frame that the buffer does not hold is passed over.
+use crate::output::At;
 use crate::{line, output};
 use outside::Source;
-use records::answer::{Limit, Read};
 use records::error::Error;
 use records::packet_record::Packet;
 use records::span::Span;
@@ -10,16 +10,20 @@ use std::io::{Stderr, Stdout};
 use wire::string;
 use write_bytes::put_bytes;
 
-// There is more to read.
-const GOING: u8 = 0;
-// The input has ended; what is held is still to be read.
-const ENDED: u8 = 1;
-// All was read.
-const DONE: u8 = 2;
-// A refusal took nothing.
-const STOPPED: u8 = 3;
-// The input could not be read.
-const UNREADABLE: u8 = 4;
+// How far the stream is read.
+#[derive(Clone, Copy)]
+enum State {
+    // there is more to read
+    Going,
+    // the input has ended; what is held is still to be read
+    Ended,
+    // all was read
+    Done,
+    // a refusal took nothing
+    Stopped,
+    // the input could not be read, and the system's number of why
+    Unreadable(i32),
+}
 
 #[derive(Clone, Copy)]
 struct Desk {
@@ -27,7 +31,7 @@ struct Desk {
     start: usize,
     len: usize,
     // where the output goes on
-    put: usize,
+    put: At,
     // so many bytes of the stream are lacking at least, for the next frame
     wants: usize,
     // so many bytes of a frame that is passed over are still to come, how many it has in all, and its first byte
@@ -37,11 +41,9 @@ struct Desk {
     // where the next frame starts in the stream, and how many were before it
     offset: u64,
     index: u64,
-    state: u8,
+    state: State,
     // no filter is given: refusals have their lines too
     all: bool,
-    // the system's number of why the input could not be read
-    failed: i32,
 }
 
 // 1 MiB
@@ -75,17 +77,17 @@ fn dropped(mut d: Desk, n: usize) -> Desk {
 }
 
 // After a frame of `taken` bytes, whose line ends before `put`. A frame that took nothing is the last that is read.
-fn passed(mut d: Desk, put: usize, taken: usize) -> Desk {
+fn passed(mut d: Desk, put: At, taken: usize) -> Desk {
     d.put = put;
     if taken == 0 {
-        d.state = STOPPED;
+        d.state = State::Stopped;
         return d;
     }
     counted(dropped(d, taken), taken as u64)
 }
 
 // Where the output goes on after the line of a refusal, which is put if no filter is given.
-fn refused_line(to: Stdout, out: &mut [u8], d: Desk, e: Error, taken: usize) -> usize {
+fn refused_line(to: Stdout, out: &mut [u8], d: Desk, e: Error, taken: usize) -> At {
     if d.all {
         return output::refused(to, &mut *out, d.put, d.index, d.offset, e, taken);
     }
@@ -99,14 +101,11 @@ fn refused(to: Stdout, out: &mut [u8], tally: &mut [u64], d: Desk, e: Error, tak
 }
 
 // How many bytes refusal 1 says are lacking, while there is more to read; else 0.
-fn lacking(state: u8, e: Error) -> usize {
-    if state != GOING {
-        return 0;
+fn lacking(state: State, e: Error) -> usize {
+    match (state, e) {
+        (State::Going, Error::InsufficientBytes(n)) => n,
+        _ => 0,
     }
-    if let Error::InsufficientBytes(n) = e {
-        return n;
-    }
-    0
 }
 
 // A refusal, for which more is to be read first if it lacks bytes; that of no byte at all is the end of the stream.
@@ -123,7 +122,7 @@ fn unread(
         return d;
     }
     if d.len == 0 {
-        d.state = DONE;
+        d.state = State::Done;
         return d;
     }
     refused(to, &mut *out, &mut *tally, d, e, taken)
@@ -139,7 +138,7 @@ fn packet_line(
     d: Desk,
     p: Packet,
     taken: usize,
-) -> usize {
+) -> At {
     if desk_topic::is_shown(filter, s, table, p) {
         return line::packet(to, &mut *out, d.put, d.index, d.offset, s, table, p, taken);
     }
@@ -164,7 +163,7 @@ fn accepted(
 }
 
 fn frame(
-    limit: Limit,
+    limit: Option<usize>,
     filter: &[u8],
     buf: &[u8],
     table: &mut [u8],
@@ -179,7 +178,7 @@ fn frame(
     };
     let s = string::part(buf, held);
     match packet::read(s, limit) {
-        Read::Packet(p, _, taken) => accepted(
+        Ok((p, _, taken)) => accepted(
             s,
             filter,
             &mut *table,
@@ -190,14 +189,14 @@ fn frame(
             p,
             taken,
         ),
-        Read::Refused(e, taken) => unread(to, &mut *out, &mut *tally, d, e, taken),
+        Err((e, taken)) => unread(to, &mut *out, &mut *tally, d, e, taken),
     }
 }
 
 // ---- a frame that is passed over
 
 // Where the output goes on after its line, which is put if no filter is given.
-fn skipped_line(to: Stdout, out: &mut [u8], d: Desk) -> usize {
+fn skipped_line(to: Stdout, out: &mut [u8], d: Desk) -> At {
     if d.all {
         return output::skipped(
             to,
@@ -237,7 +236,7 @@ fn cut(to: Stdout, out: &mut [u8], tally: &mut [u64], d: Desk) -> Desk {
 fn within(to: Stdout, out: &mut [u8], tally: &mut [u64], mut d: Desk) -> Desk {
     d.skip = std::num::wrapping_sub_u64(d.skip, d.len as u64);
     d.len = 0;
-    if d.state == GOING {
+    if let State::Going = d.state {
         d.wants = 1;
         return d;
     }
@@ -278,10 +277,7 @@ fn to_front(buf: &mut [u8], out: &mut [u8], mut d: Desk) -> Desk {
 
 // The first byte of what is held, which stands at the front.
 fn first(buf: &[u8]) -> u8 {
-    if 0 < buf.len() {
-        return buf[0];
-    }
-    0
+    buf.first().copied().unwrap_or(0)
 }
 
 // The frame fills the buffer, and lacks bytes: it is passed over.
@@ -296,15 +292,14 @@ fn too_long(buf: &[u8], mut d: Desk) -> Desk {
 fn filled(mut d: Desk, n: usize) -> Desk {
     d.len = std::num::wrapping_add_usize(d.len, n);
     if n == 0 {
-        d.state = ENDED;
+        d.state = State::Ended;
     }
     d
 }
 
 // The input could not be read.
 fn unreadable(mut d: Desk, number: i32) -> Desk {
-    d.state = UNREADABLE;
-    d.failed = number;
+    d.state = State::Unreadable(number);
     d
 }
 
@@ -326,7 +321,7 @@ fn more(source: &mut Source, buf: &mut [u8], to: Stdout, out: &mut [u8], mut d: 
         return d;
     }
     d.put = output::flush(to, &*out, d.put);
-    if output::is_lost(&*out, d.put) {
+    if d.put.is_err() {
         return d;
     }
     let front = to_front(&mut *buf, &mut *out, d);
@@ -336,7 +331,7 @@ fn more(source: &mut Source, buf: &mut [u8], to: Stdout, out: &mut [u8], mut d: 
 // ---- the stream
 
 fn step(
-    limit: Limit,
+    limit: Option<usize>,
     filter: &[u8],
     buf: &[u8],
     table: &mut [u8],
@@ -365,7 +360,7 @@ fn step(
 // One frame, or one read.
 fn turn(
     source: &mut Source,
-    limit: Limit,
+    limit: Option<usize>,
     filter: &[u8],
     buf: &mut [u8],
     table: &mut [u8],
@@ -387,17 +382,14 @@ fn turn(
     more(&mut *source, &mut *buf, to, &mut *out, next)
 }
 
-fn is_going(out: &[u8], d: Desk) -> bool {
-    if output::is_lost(out, d.put) {
-        return false;
-    }
-    d.state <= ENDED
+fn is_going(d: Desk) -> bool {
+    d.put.is_ok() && matches!(d.state, State::Going | State::Ended)
 }
 
-// A proved loop has to end, and nothing says that a stream does. So the loop counts its turns down, from a number that no run uses up.
+// A proved loop has to end, and nothing says that a stream does. So the loop counts its turns, up to a number that no run reaches.
 fn read_all(
     source: &mut Source,
-    limit: Limit,
+    limit: Option<usize>,
     filter: &[u8],
     buf: &mut [u8],
     table: &mut [u8],
@@ -408,19 +400,17 @@ fn read_all(
     let mut d = Desk {
         start: 0,
         len: 0,
-        put: 0,
+        put: Ok(0),
         wants: 0,
         skip: 0,
         size: 0,
         first: 0,
         offset: 0,
         index: 0,
-        state: GOING,
+        state: State::Going,
         all: filter.len() == 0,
-        failed: 0,
     };
-    let mut turns: u64 = 18446744073709551615;
-    while 0 < turns {
+    for _ in 0..u64::MAX {
         d = turn(
             &mut *source,
             limit,
@@ -432,10 +422,9 @@ fn read_all(
             &mut *tally,
             d,
         );
-        if !is_going(&*out, d) {
+        if !is_going(d) {
             return d;
         }
-        turns = turns - 1;
     }
     d
 }
@@ -455,20 +444,25 @@ fn lost(to: Stderr, number: i32) -> u8 {
 // Writes what is left of the output, then what was read, on standard error; gives the exit status.
 fn finish(rt: HostRuntime, out: &mut [u8], tally: &[u64], d: Desk) -> u8 {
     let to = rt.stderr();
-    let end = output::flush(rt.stdout(), &*out, d.put);
-    if output::is_lost(&*out, end) {
-        return lost(to, output::number_of_lost(end));
+    if let Err(number) = output::flush(rt.stdout(), &*out, d.put) {
+        return lost(to, number);
     }
     let len = desk_summary::put_summary(&mut *out, tally, d.offset);
     output::tell(to, &*out, len);
-    if d.state == DONE {
+    if let State::Done = d.state {
         return 0;
     }
     1
 }
 
 // Reads the stream to its end, or to where it stops; gives the exit status.
-pub fn read(rt: HostRuntime, mut source: Source, name: &[u8], limit: Limit, filter: &[u8]) -> u8 {
+pub fn read(
+    rt: HostRuntime,
+    mut source: Source,
+    name: &[u8],
+    limit: Option<usize>,
+    filter: &[u8],
+) -> u8 {
     let mut buf = buffer();
     let mut table = fresh();
     let mut out = buffer();
@@ -483,8 +477,8 @@ pub fn read(rt: HostRuntime, mut source: Source, name: &[u8], limit: Limit, filt
         &mut out,
         &mut tally,
     );
-    if d.state == UNREADABLE {
-        output::fail(rt.stderr(), name, d.failed);
+    if let State::Unreadable(number) = d.state {
+        output::fail(rt.stderr(), name, number);
     }
     finish(rt, &mut out, &tally, d)
 }

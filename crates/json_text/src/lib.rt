@@ -2,7 +2,7 @@
 // and bytes in hexadecimal. What would lie past the end of the output is not stored, and then the index behind it is one that no output has.
 #![tactic(auto)]
 
-ghost use Rattle.std.specs.Prelude.{◌≡◌, ◌++◌, ◌∷◌, [], ◌+◌, length};
+ghost use Rattle.std.specs.Prelude.{◌≡◌, ℕ, List, ◌++◌, ◌∷◌, [], ◌+◌, length};
 ghost use Rattle.std.proofs.lemmas.List.Edits.{sets};
 ghost use Rattle.desk_render.specs.Shown.{decimal_of, hex_of};
 ghost use Rattle.json_text.specs.Text.{escaped_of, each};
@@ -11,7 +11,7 @@ ghost use Rattle.json_text.specs.Put.{end_in, PutIn};
 use write_bytes::put_bytes;
 
 // The index that no output has.
-const LOST: usize = 18446744073709551615;
+const LOST: usize = usize::MAX;
 
 // The index behind n bytes from `at` on.
 fn behind(room: usize, at: usize, n: usize) -> usize
@@ -104,44 +104,65 @@ fn put_escaped(out: &mut [u8], at: usize, b: u8) -> usize
     put_plain(&mut *out, at, b)
 }
 
-// A text, or a piece of one, as it stands between the quotes.
-pub fn put_text(out: &mut [u8], at: usize, s: &[u8]) -> usize
-    ensures { PutIn out.old at (each escaped_of s.now) out.new result }
+// How a byte is put: the bytes of its form, and how many they are.
+trait Form {
+    ghost form: { ℕ → List ℕ };
+
+    fn put(out: &mut [u8], at: usize, b: u8) -> usize
+        ensures count { result ≡ length (form b) }
+        ensures stores { out.new ≡ sets out.old at (form b) };
+}
+
+struct Escaped {}
+
+impl Form for Escaped {
+    ghost form = { escaped_of };
+
+    fn put(out: &mut [u8], at: usize, b: u8) -> usize {
+        put_escaped(&mut *out, at, b)
+    }
+}
+
+struct Hexadecimal {}
+
+impl Form for Hexadecimal {
+    ghost form = { hex_of };
+
+    fn put(out: &mut [u8], at: usize, b: u8) -> usize {
+        desk_render::put_hex(&mut *out, at, b);
+        2
+    }
+}
+
+// Bytes, each in its form.
+fn put_each<F: Form>(out: &mut [u8], at: usize, s: &[u8]) -> usize
+    ensures { PutIn out.old at (each F.form s.now) out.new result }
 {
     if out.len() < at {
         return LOST;
     }
     let mut next = at;
-    let mut i: usize = 0;
-    while i < s.len() {
+    for b in s {
         let room = out.len() - next;
-        let n = put_escaped(&mut *out, next, s[i]);
+        let n = F::put(&mut *out, next, *b);
         if room < n {
             return LOST;
         }
-        next = next + n;
-        i = i + 1;
+        next += n;
     }
     next
+}
+
+// A text, or a piece of one, as it stands between the quotes.
+pub fn put_text(out: &mut [u8], at: usize, s: &[u8]) -> usize
+    ensures { PutIn out.old at (each escaped_of s.now) out.new result }
+{
+    put_each::<Escaped>(&mut *out, at, s)
 }
 
 // Bytes that need be no text, two hexadecimal digits for each.
 pub fn put_bytes_hex(out: &mut [u8], at: usize, s: &[u8]) -> usize
     ensures { PutIn out.old at (each hex_of s.now) out.new result }
 {
-    if out.len() < at {
-        return LOST;
-    }
-    let mut next = at;
-    let mut i: usize = 0;
-    while i < s.len() {
-        let room = out.len() - next;
-        desk_render::put_hex(&mut *out, next, s[i]);
-        if room < 2 {
-            return LOST;
-        }
-        next = next + 2;
-        i = i + 1;
-    }
-    next
+    put_each::<Hexadecimal>(&mut *out, at, s)
 }

@@ -1,5 +1,6 @@
 -- What a row of the table of kinds tells. Assumes nothing.
-use Rattle.std.specs.Prelude.{Bool, true, false, List, [], ◌∷◌, ◌++◌, ℕ, ◌-◌, length, replicate}
+use Rattle.std.specs.Prelude as std
+use Rattle.std.specs.Prelude.{Bool, true, false, List, [], ◌∷◌, ◌++◌, ℕ, ◌-◌, length, replicate, Some, None}
 use Rattle.std.proofs.Math.Option.{Option, none, some}
 use Prim.Native.String.{String}
 use Rattle.grammar.specs.Choice.{is_in, lookup}
@@ -9,8 +10,8 @@ use Rattle.records.specs.AsNumbers.{told_ack_kind, told_reply_kind}
 use Rattle.tables.specs.Property.{table_row}
 use Rattle.kinds.specs.declared.Kind.{Kind}
 use Rattle.kinds.specs.declared.Kind.TheVariants as kind
-use Rattle.kinds.specs.declared.KindRow.{KindRow}
 use Rattle.kinds.specs.declared.Word.{Word}
+use Rattle.tables.specs.declared.property.PropertyRow.{PropertyRow}
 
 -- the number of a kind, whether it is reserved (01, row 4), and the layout of a kind that is carried
 abbrev pub told_kind : Kind → ℕ × Bool × Option Layout
@@ -33,9 +34,9 @@ abbrev pub number_of : Kind → ℕ
 number_of k = (told_kind k).0
 
 -- the row of the block, if there is one
-abbrev pub told_row : KindRow → Option Row
-told_row (KindRow.Of row) = some (table_row row)
-told_row KindRow.NoBlock = none
+abbrev pub told_row : std.Option PropertyRow → Option Row
+told_row (Some row) = some (table_row row)
+told_row None = none
 
 -- docs/DESK.md: the word that a line has for a kind
 unfoldable pub words : List (ℕ × String)

@@ -27,13 +27,6 @@ pub enum Kind {
     NotCarried(u8),
 }
 
-// The place of a kind's block.
-#[derive(Clone, Copy)]
-pub enum KindRow {
-    Of(PropertyRow),
-    NoBlock,
-}
-
 // The first len of the bytes; the rest are 0.
 #[derive(Drop)]
 pub struct Word {
@@ -100,22 +93,22 @@ pub fn number_of(kind: Kind) -> u8
 }
 
 // The place whose row the block of a number's kind has; none for a ping and for a kind that is not carried.
-pub fn row_of(num: u8) -> KindRow
+pub fn row_of(num: u8) -> Option<PropertyRow>
     ensures { told_row result ≡ row_of_kind num }
 {
     match num {
-        3 => KindRow::Of(PropertyRow::Publish),
-        4 => KindRow::Of(PropertyRow::Ack),
-        5 => KindRow::Of(PropertyRow::Ack),
-        6 => KindRow::Of(PropertyRow::Ack),
-        7 => KindRow::Of(PropertyRow::Ack),
-        8 => KindRow::Of(PropertyRow::Subscribe),
-        9 => KindRow::Of(PropertyRow::Ack),
-        10 => KindRow::Of(PropertyRow::Unsubscribe),
-        11 => KindRow::Of(PropertyRow::Ack),
-        12 => KindRow::NoBlock,
-        13 => KindRow::NoBlock,
-        0..=2 | 14..=255 => KindRow::NoBlock,
+        3 => Some(PropertyRow::Publish),
+        4 => Some(PropertyRow::Ack),
+        5 => Some(PropertyRow::Ack),
+        6 => Some(PropertyRow::Ack),
+        7 => Some(PropertyRow::Ack),
+        8 => Some(PropertyRow::Subscribe),
+        9 => Some(PropertyRow::Ack),
+        10 => Some(PropertyRow::Unsubscribe),
+        11 => Some(PropertyRow::Ack),
+        12 => None,
+        13 => None,
+        0..=2 | 14..=255 => None,
     }
 }
 

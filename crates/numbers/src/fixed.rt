@@ -5,9 +5,8 @@ ghost use Rattle.reading.specs.Refusal.{cut};
 ghost use Rattle.reading.specs.Read.{byte_of, big_of};
 ghost use Rattle.positions.specs.Position.{from_at};
 ghost use Rattle.records.specs.AsNumbers.{told_bool};
-ghost use Rattle.numbers.specs.NumberRead.{told_got_u8, told_got_u16, told_got_u32};
+ghost use Rattle.numbers.specs.NumberRead.{told_got_number};
 
-use crate::got::{GotU8, GotU16, GotU32};
 use records::error::Error;
 
 // How many bytes stand from `at` on.
@@ -33,42 +32,42 @@ pub fn flag(n: u8) -> bool
 }
 
 // The byte at index `at` and the index after it, or 7.
-pub fn read_u8(s: &[u8], at: usize) -> GotU8
-    ensures { told_got_u8 result ≡ from_at (byte_of cut) s.now at }
+pub fn read_u8(s: &[u8], at: usize) -> Result<(u8, usize), Error>
+    ensures { told_got_number result ≡ from_at (byte_of cut) s.now at }
 {
     if left(s, at) < 1 {
-        return GotU8::Refused(Error::MalformedPacket);
+        return Err(Error::MalformedPacket);
     }
-    GotU8::Value(s[at], at + 1)
+    Ok((s[at], at + 1))
 }
 
 // The big-endian number of the two bytes from index `at` on and the index after them, or 7.
-pub fn read_u16(s: &[u8], at: usize) -> GotU16
-    ensures { told_got_u16 result ≡ from_at (big_of cut 2) s.now at }
+pub fn read_u16(s: &[u8], at: usize) -> Result<(u16, usize), Error>
+    ensures { told_got_number result ≡ from_at (big_of cut 2) s.now at }
 {
     if s.len() < 2 {
-        return GotU16::Refused(Error::MalformedPacket);
+        return Err(Error::MalformedPacket);
     }
     if s.len() - 2 < at {
-        return GotU16::Refused(Error::MalformedPacket);
+        return Err(Error::MalformedPacket);
     }
     let high = s[at];
     let low = s[at + 1];
-    GotU16::Value(digit(digit(0, high), low) as u16, at + 2)
+    Ok((digit(digit(0, high), low) as u16, at + 2))
 }
 
 // The big-endian number of the four bytes from index `at` on and the index after them, or 7.
-pub fn read_u32(s: &[u8], at: usize) -> GotU32
-    ensures { told_got_u32 result ≡ from_at (big_of cut 4) s.now at }
+pub fn read_u32(s: &[u8], at: usize) -> Result<(u32, usize), Error>
+    ensures { told_got_number result ≡ from_at (big_of cut 4) s.now at }
 {
     if left(s, at) < 4 {
-        return GotU32::Refused(Error::MalformedPacket);
+        return Err(Error::MalformedPacket);
     }
-    GotU32::Value(
+    Ok((
         digit(
             digit(digit(digit(0, s[at]), s[at + 1]), s[at + 2]),
             s[at + 3],
         ),
         at + 4,
-    )
+    ))
 }

@@ -43,8 +43,7 @@ pub fn word(rt: &impl Env, i: usize, buf: &mut [u8]) -> Option<usize>
 {
     match rt.arg(i, buf) {
         Ok(n) if n < buf.len() => Some(n),
-        Ok(_) => None,
-        Err(_) => None,
+        _ => None,
     }
 }
 
@@ -75,12 +74,12 @@ pub fn read(from: &mut Source, buf: &mut [u8]) -> Result<usize, Error>
 pub fn read_full(from: &mut impl Read, buf: &mut [u8]) -> usize
     ensures { IsPrefixLen result buf.new }
 {
+    // a read gives as many bytes as it likes: `done` is a cursor
     let mut done: usize = 0;
     while done < buf.len() {
         match from.read(&mut buf[done..]) {
-            Ok(0) => return done,
-            Ok(n) => done = done + n,
-            Err(_) => return done,
+            Ok(0) | Err(_) => return done,
+            Ok(n) => done += n,
         }
     }
     done
@@ -98,14 +97,10 @@ pub fn number_of(e: Error) -> i32
 fn words_end(text: &[u8]) -> usize
     ensures { result ≤ length text.now }
 {
-    let mut i: usize = 0;
-    while i < text.len() {
-        if text[i..].starts_with(b" (os error ") {
-            return i;
-        }
-        i = i + 1;
-    }
-    i
+    let sign = b" (os error ".as_slice();
+    text.windows(sign.len())
+        .position(|w| w == sign)
+        .unwrap_or(text.len())
 }
 
 // What `std` writes of the number, at the start of an array, and zeros behind it.

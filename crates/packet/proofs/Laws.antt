@@ -1,4 +1,6 @@
 -- What the tables say of a kind decides what becomes of a frame: 4, 5 and 6 in order, then the fields; and the bytes taken. Assumes nothing.
+use Rattle.std.specs.Prelude as std
+use Rattle.std.specs.Prelude.{Result, Ok, Err}
 use mathlib.Core.Path.{◌≡◌, refl, sym, ap, ◌∙◌}
 use mathlib.Core.Bool.{Bool, true, false, not, ◌||◌}
 use mathlib.Core.Option.{Option, none, some}
@@ -19,16 +21,16 @@ use Rattle.reading.proofs.Reading.{got_inj}
 use Rattle.reading.proofs.Faults.{answered}
 use Rattle.reading.proofs.Places.{placed_says}
 use Rattle.reading.proofs.Bounds.{read_bounds}
-use Rattle.records.specs.AsNumbers.{limit_of}
-use Rattle.records.specs.Answered.{told, Bounded}
+use Rattle.records.specs.AsNumbers.{limit_of, told_error}
+use Rattle.records.specs.Answered.{told, Bounded, ReadResult}
 use Rattle.records.proofs.Answered.{refusal_bounded}
 use Rattle.records.specs.declared.error.Error.{Error}
-use Rattle.records.specs.declared.answer.Limit.{Limit}
-use Rattle.records.specs.declared.answer.Read.{Read}
+use Rattle.records.specs.declared.packet_record.Packet as code
+use Rattle.records.specs.declared.span.Bounds.{Bounds}
 use Rattle.framing.specs.HeaderRead.{frame_at}
 use Rattle.kinds.specs.Kinds.{kind_row}
 use Rattle.framing.proofs.Laws.{checked_within, checked_read, checked_refused}
-use Rattle.packet.specs.PacketRead.{Tells, Meets, taken_in, Judged}
+use Rattle.packet.specs.PacketRead.{TellsBody, Tells, Meets, taken_in, Judged}
 
 -- ---- the body of a frame whose first byte is x
 
@@ -83,18 +85,25 @@ left_some s at h = rw (drop-cons s at 0 h)
 
 -- ---- the answer
 
--- what is told may be said in other words
-pub through : {r : Read} {a b : Answer Placed} → Tells r a → a ≡ b → Tells r b
-through t e = record { answer = t.answer ∙ e; bounded = t.bounded }
-
 -- 02, P7: a refusal has no numbers to carry
-pub refusing : {e : Error} {n : ℕ} {a : Answer Placed} → told (Read.Refused e n) ≡ a → Tells (Read.Refused e n) a
+pub refusing : {e : Error} {n : ℕ} {a : Answer Placed} → told (Err (e, n)) ≡ a → Tells (Err (e, n)) a
 refusing {e = e} {n = n} i = record { answer = i; bounded = refusal_bounded e n }
 
--- what the body of a whole frame says is the answer to it
-pub whole_as : (n x : ℕ) (b : List ℕ) {f : Fit Placed} → f ≡ body_fit as_places x n b → body_answer n f ≡ whole_answer as_places n (x, b)
-unfolding whole_answer
-whole_as n x b e = ap (body_answer n) e
+-- what is told may be said in other words
+pub through : {n : ℕ} {r : Result (code.Packet × Bounds) Error} {f g : Fit Placed} → TellsBody n r f → f ≡ g → TellsBody n r g
+through t e = record { answer = t.answer ∙ e; bounded = t.bounded }
+
+pub refusing_body : {n : ℕ} {e : Error} {f : Fit Placed} → bad (told_error e) ≡ f → TellsBody n (Err e) f
+refusing_body h = record { answer = h; bounded = refl }
+
+-- what tells the body of a frame of n bytes tells the frame
+pub telling : {n : ℕ} {p : code.Packet} {o : Bounds} {f : Fit Placed} → TellsBody n (Ok (p, o)) f → Tells (Ok (p, o, n)) (body_answer n f)
+unfolding body_answer
+telling {n = n} t = record { answer = ap (body_answer n) t.answer; bounded = t.bounded }
+
+pub telling_refused : {n : ℕ} {e : Error} {f : Fit Placed} → TellsBody n (Err e) f → Tells (Err (e, n)) (body_answer n f)
+unfolding body_answer
+telling_refused {n = n} t = refusing (ap (body_answer n) t.answer)
 
 pub answer_none : (limit : Option ℕ) (s : List ℕ) (k : Refusal) → bad k ≡ frame_at limit s → refused_as k 0 ≡ read_placed_of limit s
 answer_none limit s (nr k vs) e = sym (checked_refused limit s as_places k vs e)
@@ -123,7 +132,7 @@ unfolding body_answer
 body_taken n (got v) = refl
 body_taken n (bad (nr k vs)) = refl
 
-pub taken_within : (limit : Option ℕ) (s : List ℕ) (r : Read) → told r ≡ read_placed_of limit s → taken_in (told r) ≤ length s
+pub taken_within : (limit : Option ℕ) (s : List ℕ) (r : ReadResult) → told r ≡ read_placed_of limit s → taken_in (told r) ≤ length s
 unfolding read_as frame_answer whole_answer
 taken_within limit s r e = rw e (go (frame_of limit (length s) s))
   where
@@ -133,7 +142,7 @@ taken_within limit s r e = rw e (go (frame_of limit (length s) s))
 
 -- ---- what is promised
 
-module _ (limit : Option ℕ) (s : List ℕ) (r : Read) (e : told r ≡ read_placed_of limit s) where
+module _ (limit : Option ℕ) (s : List ℕ) (r : ReadResult) (e : told r ≡ read_placed_of limit s) where
   -- what the answer says is what the definition answers
   pub says_read : say_answer s (told r) ≡ got (read_of limit s)
   says_read = ap (say_answer s) e ∙ placed_says limit s
@@ -142,11 +151,11 @@ module _ (limit : Option ℕ) (s : List ℕ) (r : Read) (e : told r ≡ read_pla
   judged a = (λ i. (answered limit s a).0 (got_inj (sym says_read ∙ i)), λ v. says_read ∙ ap got ((answered limit s a).1 v))
 
 -- 02, P7: what the record says of its two numbers is what the frame says of them
-pub promised : (limit : Limit) (s : List ℕ) (r : Read) → Tells r (read_placed_of (limit_of limit) s) → Meets limit s r × ((taken_in (told r) ≤ length s) × Judged (limit_of limit) s r)
+pub promised : (limit : std.Option ℕ) (s : List ℕ) (r : ReadResult) → Tells r (read_placed_of (limit_of limit) s) → Meets limit s r × ((taken_in (told r) ≤ length s) × Judged (limit_of limit) s r)
 promised limit s r t =
     let m : Meets limit s r = record { answer = t.answer; carries = t.bounded ∙ ap bounds_by t.answer ∙ sym (read_bounds (limit_of limit) s) } in
     (m, (taken_within (limit_of limit) s r t.answer, judged (limit_of limit) s r t.answer))
 
 -- and back
-pub meets_bounded : {limit : Limit} {s : List ℕ} {r : Read} → Meets limit s r → Bounded r
+pub meets_bounded : {limit : std.Option ℕ} {s : List ℕ} {r : ReadResult} → Meets limit s r → Bounded r
 meets_bounded {limit = limit} {s = s} m = m.carries ∙ read_bounds (limit_of limit) s ∙ ap bounds_by (sym m.answer)

@@ -6,14 +6,13 @@ mod parts;
 
 ghost use Rattle.std.specs.Prelude.{◌≡◌};
 ghost use Rattle.records.specs.AsNumbers.{limit_of};
-ghost use Rattle.records.specs.Answered.{told_sized, told_written};
+ghost use Rattle.records.specs.Answered.{told_size};
 ghost use Rattle.packet_write.specs.Parts.{parts};
 ghost use Rattle.writing.specs.Write.{sized_behind, WrittenBehind};
 ghost use Rattle.packet_write.specs.Union.{union_of};
 
 use crate::head::PacketHead;
 use crate::parts::nothing_else;
-use records::answer::{Limit, Sized, Written};
 use records::error::Error;
 
 // How many bytes the frame is: refused with 20, for what does not belong to the record too, then 17 for R.
@@ -31,8 +30,8 @@ pub fn size(
     entry_bytes: &[u8],
     entry_lengths: &[usize],
     entries: &[u8],
-) -> Sized
-    ensures { told_sized result ≡ sized_behind (union_of head (parts topic.now response_topic.now correlation_data.now user.now user_lengths.now subscription_identifiers.now content_type.now payload.now reason_string.now entry_bytes.now entry_lengths.now entries.now)) }
+) -> Result<usize, Error>
+    ensures { told_size result ≡ sized_behind (union_of head (parts topic.now response_topic.now correlation_data.now user.now user_lengths.now subscription_identifiers.now content_type.now payload.now reason_string.now entry_bytes.now entry_lengths.now entries.now)) }
 {
     let alone = nothing_else(
         head,
@@ -50,7 +49,7 @@ pub fn size(
         entries,
     );
     if !alone {
-        return Sized::Refused(Error::ListMismatch);
+        return Err(Error::ListMismatch);
     }
     match head {
         PacketHead::Publish(m) => publish_write::size(
@@ -97,10 +96,10 @@ pub fn write(
     entry_bytes: &[u8],
     entry_lengths: &[usize],
     entries: &[u8],
-    limit: Limit,
+    limit: Option<usize>,
     out: &mut [u8],
-) -> Written
-    ensures { WrittenBehind (limit_of limit) (union_of head (parts topic.now response_topic.now correlation_data.now user.now user_lengths.now subscription_identifiers.now content_type.now payload.now reason_string.now entry_bytes.now entry_lengths.now entries.now)) out.old out.new (told_written result) }
+) -> Result<usize, Error>
+    ensures { WrittenBehind (limit_of limit) (union_of head (parts topic.now response_topic.now correlation_data.now user.now user_lengths.now subscription_identifiers.now content_type.now payload.now reason_string.now entry_bytes.now entry_lengths.now entries.now)) out.old out.new (told_size result) }
 {
     let alone = nothing_else(
         head,
@@ -118,7 +117,7 @@ pub fn write(
         entries,
     );
     if !alone {
-        return Written::Refused(Error::ListMismatch);
+        return Err(Error::ListMismatch);
     }
     match head {
         PacketHead::Publish(m) => publish_write::write(

@@ -1,6 +1,10 @@
 -- A header, read where it stands or from its first five bytes, decides what a call gives; and what a put leaves in the buffer. Assumes nothing.
+use Rattle.std.specs.Prelude as std
+use Rattle.std.specs.Prelude.{Some, None, Result, Err, IsErrAnd}
+use Rattle.std.specs.Option.{is_some}
+use Rattle.std.proofs.lemmas.Result.{err_from_is_err_and}
 use mathlib.Core.Path.{◌≡◌, refl, sym, ap, ◌∙◌}
-use mathlib.Core.Bool.{Bool, true, false, cond}
+use mathlib.Core.Bool.{Bool, true, false, cond, false≢true}
 use mathlib.Core.Option.{Option, none, some}
 use mathlib.Core.List.{List, [], ◌∷◌, ◌++◌}
 use Prim.Native.Nat.{ℕ, suc, ◌+◌, ◌-◌, ◌≤◌, ◌<◌, min}
@@ -15,7 +19,8 @@ use Rattle.reading.specs.Read.{byte_of, num_of}
 use Rattle.reading.proofs.Reading.{bad_got}
 use Rattle.positions.specs.Position.{from_at}
 use Rattle.positions.proofs.Position.{bad_left}
-use Rattle.records.specs.AsNumbers.{row_of}
+use Rattle.records.specs.AsNumbers.{row_of, told_error}
+use Rattle.records.specs.declared.error.Error.{Error}
 use Rattle.framing.specs.HeaderRead.{header_of, limited_to}
 use Rattle.framing.proofs.Laws.{behind_first, header_within, header_left, frame_count}
 use Rattle.write_bytes.proofs.Laws.{sets_out}
@@ -26,7 +31,8 @@ use Rattle.pieces_rules.proofs.Head.{bad_inj}
 use Rattle.pieces_rules.proofs.Says.{unknown_short, judge_front}
 use Rattle.pieces_rules.proofs.Feed.{put_front}
 use Rattle.pieces_rules.proofs.Calls.{from_buffer_lem, joined_length, call_piece}
-use Rattle.pieces.specs.PieceAnswer.{WholeIn}
+use Rattle.pieces.specs.PieceAnswer.{told_end, told_judged, WholeIn}
+use Rattle.pieces.specs.declared.Stop.{Stop}
 
 -- ---- the header, as `framing` reads it
 
@@ -101,6 +107,36 @@ module _ (limit : Option ℕ) (cap : ℕ) (s : List ℕ) where
 
     pub judge_spans : (z : (ℕ × ℕ) × ℕ) → got z ≡ limited_to limit (m + l) ((x, l), m) → m + l ≤ cap → spans (m + l) ≡ judge_of limit cap s
     judge_spans z j c = sym (judge_passed z j ∙ rw (le-ltb cap (m + l) c))
+
+-- 1 is the number of a frame that lacks bytes, and of no other refusal
+pub other_row : (e : Error) → ((n : ℕ) → e ≡ Error.InsufficientBytes n → ⊥) → row_of (told_error e) ≡ 1 → ⊥
+other_row (Error.InsufficientBytes n) h e = h n refl
+other_row Error.MalformedRemainingLength h e = omega (arith, e)
+other_row (Error.PayloadSizeLimitExceeded m n) h e = omega (arith, e)
+other_row (Error.InvalidPacketType n) h e = omega (arith, e)
+other_row Error.PayloadRequired h e = omega (arith, e)
+other_row (Error.KindNotCarried n) h e = omega (arith, e)
+other_row Error.MalformedPacket h e = omega (arith, e)
+other_row (Error.BoundaryCrossed n) h e = omega (arith, e)
+other_row Error.TopicNotUtf8 h e = omega (arith, e)
+other_row (Error.InvalidPropertyType n) h e = omega (arith, e)
+other_row (Error.InvalidQoS n) h e = omega (arith, e)
+other_row Error.PacketIdZero h e = omega (arith, e)
+other_row Error.EmptySubscription h e = omega (arith, e)
+other_row (Error.InvalidRetainForwardRule n) h e = omega (arith, e)
+other_row (Error.InvalidReason n) h e = omega (arith, e)
+other_row (Error.OutgoingPacketTooLarge m n) h e = omega (arith, e)
+other_row Error.PayloadTooLong h e = omega (arith, e)
+other_row (Error.StringTooLong n) h e = omega (arith, e)
+other_row (Error.NoRoom n) h e = omega (arith, e)
+other_row Error.ListMismatch h e = omega (arith, e)
+other_row Error.NoItem h e = omega (arith, e)
+other_row (Error.DuplicateProperty n) h e = omega (arith, e)
+other_row Error.SubscriptionIdZero h e = omega (arith, e)
+
+-- the refusal e of a header leaves by a `?`, as the answer r, which tells what e tells
+pub header_on : (r : Result (std.Option ℕ) Stop) (e : Error) {j : Judge} → IsErrAnd r (λ k. k ≡ Stop.Header e) → forbids (told_error e) ≡ j → told_judged r ≡ j
+header_on r e i h = let p = err_from_is_err_and r i in ap told_judged (p.1 ∙ ap Err p.2) ∙ h
 
 -- ---- the first five bytes, put together
 
@@ -201,6 +237,11 @@ pub whole_in_lem : (limit : Option ℕ) (cap : ℕ) (s : List ℕ) (x l m : ℕ)
 whole_in_lem limit cap s x l m i r w h =
     let y = w h in
     (y.3, rw y.0 y.1, rw y.0 (judge_spans limit cap s x l m i ((x, l), m) (rw y.4) y.2))
+
+-- where nothing has ended the stream
+pub not_ended : (o : std.Option Stop) → is_some o ≡ false → told_end o ≡ none
+not_ended None e = refl
+not_ended (Some k) e = absurd (false≢true (sym e))
 
 pub is_fresh : {i : ℕ} {e : Option Refusal} → i ≡ 0 → e ≡ none → ◌≡◌ {A = State} (record { held = i; end = e }) fresh
 is_fresh p q = rw (p, q)

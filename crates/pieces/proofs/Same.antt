@@ -1,4 +1,6 @@
 -- The answers of `pieces`: each comes back from what it tells, so that an input admits one answer only. Assumes nothing.
+use Rattle.std.specs.Prelude as std
+use Rattle.std.specs.Prelude.{Some, None, Result, Ok, Err}
 use mathlib.Core.Path.{◌≡◌, refl, ap, ◌∙◌}
 use mathlib.Core.Bool.{cond}
 use mathlib.Core.Option.{Option, none, some}
@@ -14,7 +16,6 @@ use Rattle.pieces_rules.specs.Step.{Gives, more, inPiece, inBuffer, stops}
 use Rattle.pieces_rules.specs.Step as step
 use Rattle.pieces.specs.PieceAnswer.{told_stop, told_end, told_state, told_given, told_step}
 use Rattle.pieces.specs.declared.Stop.{Stop}
-use Rattle.pieces.specs.declared.End.{End}
 use Rattle.pieces.specs.declared.State.{State}
 use Rattle.pieces.specs.declared.Given.{Given}
 use Rattle.pieces.specs.declared.Step.{Step}
@@ -55,13 +56,13 @@ back_stop_lem (Stop.Header e) = back_header_lem e ∙ ap Stop.Header (back_error
 back_stop_lem Stop.BadBuffer = refl
 back_stop_lem Stop.FrameTooLong = refl
 
-abbrev back_end : Option Refusal → End
-back_end none = End.Open
-back_end (some k) = End.Ended (back_stop k)
+abbrev back_end : Option Refusal → std.Option Stop
+back_end none = None
+back_end (some k) = Some (back_stop k)
 
-back_end_lem : (e : End) → back_end (told_end e) ≡ e
-back_end_lem End.Open = refl
-back_end_lem (End.Ended k) = ap End.Ended (back_stop_lem k)
+back_end_lem : (e : std.Option Stop) → back_end (told_end e) ≡ e
+back_end_lem None = refl
+back_end_lem (Some k) = ap Some (back_stop_lem k)
 
 abbrev pub back_state : step.State → State
 back_state s = record { held = s.held; end = back_end s.end }
@@ -69,17 +70,17 @@ back_state s = record { held = s.held; end = back_end s.end }
 pub back_state_lem : (s : State) → back_state (told_state s) ≡ s
 back_state_lem s = simp back_end_lem
 
-abbrev back_given : Gives ℕ → Given
-back_given more = Given.More
-back_given (inPiece n) = Given.InPiece n
-back_given (inBuffer n) = Given.InBuffer n
-back_given (stops k) = Given.Stopped (back_stop k)
+abbrev back_given : Gives ℕ → Result Given Stop
+back_given more = Ok Given.More
+back_given (inPiece n) = Ok (Given.InPiece n)
+back_given (inBuffer n) = Ok (Given.InBuffer n)
+back_given (stops k) = Err (back_stop k)
 
-back_given_lem : (g : Given) → back_given (told_given g) ≡ g
-back_given_lem Given.More = refl
-back_given_lem (Given.InPiece n) = refl
-back_given_lem (Given.InBuffer n) = refl
-back_given_lem (Given.Stopped k) = ap Given.Stopped (back_stop_lem k)
+back_given_lem : (g : Result Given Stop) → back_given (told_given g) ≡ g
+back_given_lem (Ok Given.More) = refl
+back_given_lem (Ok (Given.InPiece n)) = refl
+back_given_lem (Ok (Given.InBuffer n)) = refl
+back_given_lem (Err k) = ap Err (back_stop_lem k)
 
 abbrev back_step : step.Step ℕ → Step × List ℕ
 back_step o = (record { given = back_given o.gives; used = o.used; state = back_state o.state }, o.buffer)

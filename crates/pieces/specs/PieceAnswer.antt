@@ -1,5 +1,6 @@
 -- What a state and the answer to a piece tell, in numbers and values. Assumes nothing.
-use Rattle.std.specs.Prelude.{◌≡◌, true, List, ℕ, ◌≤◌, ◌<◌, length}
+use Rattle.std.specs.Prelude as std
+use Rattle.std.specs.Prelude.{◌≡◌, true, List, ℕ, ◌≤◌, ◌<◌, length, Some, None, Result, Ok, Err}
 use Rattle.std.proofs.Math.Option.{Option, none, some}
 use Rattle.reading.specs.Refusal.{Refusal}
 use Rattle.records.specs.AsNumbers.{told_error}
@@ -8,11 +9,9 @@ use Rattle.pieces_rules.specs.Step.{bad_buffer, Gives, more, inPiece, inBuffer, 
 use Rattle.pieces_rules.specs.Step as step
 use Rattle.pieces_rules.specs.Judge.{Judge, unknown, forbids, spans, judge_of}
 use Rattle.pieces.specs.declared.Stop.{Stop}
-use Rattle.pieces.specs.declared.End.{End}
 use Rattle.pieces.specs.declared.State.{State}
 use Rattle.pieces.specs.declared.Given.{Given}
 use Rattle.pieces.specs.declared.Step.{Step}
-use Rattle.pieces.specs.declared.Judged.{Judged}
 
 -- 02, P10: "BadBuffer", "FrameTooLong", and "Refusals 2 and 3 of the header", by their numbers
 abbrev pub told_stop : Stop → Refusal
@@ -21,30 +20,30 @@ told_stop Stop.BadBuffer = bad_buffer
 told_stop Stop.FrameTooLong = frame_too_long
 
 -- 02, P10: what has ended the stream, if it has ended
-abbrev pub told_end : End → Option Refusal
-told_end End.Open = none
-told_end (End.Ended k) = some (told_stop k)
+abbrev pub told_end : std.Option Stop → Option Refusal
+told_end None = none
+told_end (Some k) = some (told_stop k)
 
 -- what is kept
 abbrev pub told_state : State → step.State
 told_state s = record { held = s.held; end = told_end s.end }
 
 -- where a frame lies, and F; or the refusal
-abbrev pub told_given : Given → Gives ℕ
-told_given Given.More = more
-told_given (Given.InPiece n) = inPiece n
-told_given (Given.InBuffer n) = inBuffer n
-told_given (Given.Stopped k) = stops (told_stop k)
+abbrev pub told_given : Result Given Stop → Gives ℕ
+told_given (Ok Given.More) = more
+told_given (Ok (Given.InPiece n)) = inPiece n
+told_given (Ok (Given.InBuffer n)) = inBuffer n
+told_given (Err k) = stops (told_stop k)
 
 -- the answer, with the buffer afterwards
 abbrev pub told_step : Step → List ℕ → step.Step ℕ
 told_step s b = record { gives = told_given s.given; used = s.used; state = told_state s.state; buffer = b }
 
 -- what a header says
-abbrev pub told_judged : Judged → Judge
-told_judged Judged.Unknown = unknown
-told_judged (Judged.Length n) = spans n
-told_judged (Judged.Stopped k) = forbids (told_stop k)
+abbrev pub told_judged : Result (std.Option ℕ) Stop → Judge
+told_judged (Ok None) = unknown
+told_judged (Ok (Some n)) = spans n
+told_judged (Err k) = forbids (told_stop k)
 
 -- 0, or F of a frame that stands whole at the start of s, and that neither the limit nor a buffer of cap bytes refuses
 abbrev pub WholeIn : Option ℕ → ℕ → List ℕ → ℕ → Type 0

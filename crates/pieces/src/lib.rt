@@ -2,6 +2,7 @@
 // A frame that lies in one piece stays there, and no byte of it is copied.
 #![tactic(auto)]
 
+ghost use Rattle.pieces.specs.declared.Stop.TheVariants.{Header};
 ghost use Rattle.std.specs.Prelude.{◌≡◌, true, ◌++◌, ◌+◌, ◌-◌, ◌≤◌, ◌<◌, min, length, take};
 ghost use Rattle.reading.specs.Refusal.{within};
 ghost use Rattle.records.specs.AsNumbers.{row_of, values_of, told_values, limit_of};
@@ -11,8 +12,6 @@ ghost use Rattle.pieces_rules.specs.Judge.{judge_of, spans};
 ghost use Rattle.pieces.specs.PieceAnswer.{told_stop, told_judged, told_state, told_step, WholeIn};
 
 use framing::check;
-use framing::check::Checked;
-use records::answer::Limit;
 use records::error::Error;
 use records::values::Values;
 use refusal_numbers;
@@ -29,18 +28,19 @@ pub enum Stop {
     FrameTooLong,
 }
 
-// Whether the stream goes on, or what ended it.
-#[derive(Clone, Copy)]
-pub enum End {
-    Open,
-    Ended(Stop),
+impl From<Error> for Stop {
+    ghost from_gives = { λ e r. r ≡ Header e };
+
+    fn from(e: Error) -> Stop {
+        Stop::Header(e)
+    }
 }
 
-// How many bytes the front of the buffer keeps of an unfinished frame, and whether the stream has ended.
+// How many bytes the front of the buffer keeps of an unfinished frame, and what has ended the stream, if it has ended.
 #[derive(Clone, Copy)]
 pub struct State {
     pub held: usize,
-    pub end: End,
+    pub end: Option<Stop>,
 }
 
 #[derive(Clone, Copy)]
@@ -51,24 +51,14 @@ pub enum Given {
     InPiece(usize),
     // a frame of so many bytes, from the start of the buffer on
     InBuffer(usize),
-    // no frame, now or later
-    Stopped(Stop),
 }
 
-// Where the next frame lies, how many bytes of the piece were used up, and the state for the next call.
+// Where the next frame lies, or why there is none, now or later; how many bytes of the piece were used up, and the state for the next call.
 #[derive(Clone, Copy)]
 pub struct Step {
-    pub given: Given,
+    pub given: Result<Given, Stop>,
     pub used: usize,
     pub state: State,
-}
-
-// What a header says: how long its frame is, or why the stream ends there.
-#[derive(Clone, Copy)]
-enum Judged {
-    Unknown,
-    Length(usize),
-    Stopped(Stop),
 }
 
 // The number of a refusal: one of 01's, 35 or 36.
@@ -88,8 +78,7 @@ pub fn values(why: Stop) -> Values
 {
     match why {
         Stop::Header(e) => refusal_numbers::values(e),
-        Stop::BadBuffer => Values::None,
-        Stop::FrameTooLong => Values::None,
+        Stop::BadBuffer | Stop::FrameTooLong => Values::None,
     }
 }
 
@@ -97,38 +86,38 @@ pub fn values(why: Stop) -> Values
 pub fn start() -> State
     ensures { told_state result ≡ fresh }
 {
-    let end = End::Open;
-    State { held: 0, end }
+    State { held: 0, end: None }
 }
 
-// The header at the start of `s`: 1 or 2 of it, then 3, then whether its frame is longer than the buffer.
-fn judge(s: &[u8], limit: Limit, cap: usize) -> Judged
+// What the header at the start of `s` says: how long its frame is, if it has all its bytes; 2 of it, then 3, then whether its frame is longer
+// than the buffer.
+fn judge(s: &[u8], limit: Option<usize>, cap: usize) -> Result<Option<usize>, Stop>
     ensures { told_judged result ≡ judge_of (limit_of limit) cap s.now }
 {
-    match check::parse_fixed_header(s) {
-        Checked::Refused(e) => {
-            if refusal_numbers::number(e) == 1 {
-                return Judged::Unknown;
+    let h = match check::parse_fixed_header(s) {
+        Ok(h) => h,
+        Err(e) => {
+            if let Error::InsufficientBytes(_) = e {
+                return Ok(None);
             }
-            return Judged::Stopped(Stop::Header(e));
+            return Err(Stop::Header(e));
         }
-        Checked::Header(h) => {
-            let f = h.fixed_header_len + h.remaining_len;
-            match check::limited(h, f, limit) {
-                Checked::Refused(e) => return Judged::Stopped(Stop::Header(e)),
-                Checked::Header(_) => {
-                    if cap < f {
-                        return Judged::Stopped(Stop::FrameTooLong);
-                    }
-                    return Judged::Length(f);
-                }
-            }
-        }
+    };
+    let f = h.fixed_header_len + h.remaining_len;
+    check::limited(h, f, limit)?;
+    if cap < f {
+        return Err(Stop::FrameTooLong);
     }
+    Ok(Some(f))
 }
 
 // The same of the fewer than five bytes held and the piece behind them: a header has five bytes at most.
-fn judge_joined(held: usize, limit: Limit, buffer: &[u8], piece: &[u8]) -> Judged
+fn judge_joined(
+    held: usize,
+    limit: Option<usize>,
+    buffer: &[u8],
+    piece: &[u8],
+) -> Result<Option<usize>, Stop>
     requires { (held ≤ length buffer.now) × (held < 5) }
     ensures { told_judged result ≡ judge_of (limit_of limit) (length buffer.now) (take held buffer.now ++ piece.now) }
 {
@@ -144,14 +133,16 @@ fn head_length(held: usize, more: usize) -> usize
     requires { held < 5 }
     ensures { result ≡ held + min more (5 - held) }
 {
-    if 5 - held <= more {
-        return 5;
-    }
-    held + more
+    held + more.min(5 - held)
 }
 
 // The same of the bytes held and the piece behind them.
-fn judge_held(held: usize, limit: Limit, buffer: &[u8], piece: &[u8]) -> Judged
+fn judge_held(
+    held: usize,
+    limit: Option<usize>,
+    buffer: &[u8],
+    piece: &[u8],
+) -> Result<Option<usize>, Stop>
     requires { (5 ≤ length buffer.now) × (held ≤ length buffer.now) }
     ensures { told_judged result ≡ judge_of (limit_of limit) (length buffer.now) (take held buffer.now ++ piece.now) }
 {
@@ -169,15 +160,14 @@ fn keep(held: usize, buffer: &mut [u8], piece: &[u8]) -> Step
     requires { (length buffer.old ≤ 65536) × (held + length piece.now ≤ length buffer.old) }
     ensures { told_step result buffer.new ≡ step_from (waiting held) buffer.old piece.now lacks }
 {
-    write_bytes::put_bytes(&mut *buffer, held, piece);
-    let state = State {
-        held: held + piece.len(),
-        end: End::Open,
-    };
+    write_bytes::put_bytes(buffer, held, piece);
     Step {
-        given: Given::More,
+        given: Ok(Given::More),
         used: piece.len(),
-        state,
+        state: State {
+            held: held + piece.len(),
+            end: None,
+        },
     }
 }
 
@@ -186,83 +176,87 @@ fn complete(held: usize, f: usize, n: usize, buffer: &mut [u8], piece: &[u8]) ->
     requires { (0 < held) × (n ≡ f - held) × (n ≤ length piece.now) }
     ensures { told_step result buffer.new ≡ step_from (waiting held) buffer.old piece.now (frame f f) }
 {
-    write_bytes::put_bytes(&mut *buffer, held, &piece[..n]);
+    write_bytes::put_bytes(buffer, held, &piece[..n]);
     Step {
-        given: Given::InBuffer(f),
+        given: Ok(Given::InBuffer(f)),
         used: n,
         state: start(),
     }
 }
 
 // The frame has f bytes.
-fn next_length(held: usize, f: usize, limit: Limit, buffer: &mut [u8], piece: &[u8]) -> Step
+fn next_length(held: usize, f: usize, limit: Option<usize>, buffer: &mut [u8], piece: &[u8]) -> Step
     requires { (length buffer.old ≤ 65536) × (f ≤ length buffer.old) × (held ≤ length buffer.old) × (spans f ≡ judge_of (limit_of limit) (length buffer.old) (take held buffer.old ++ piece.now)) }
     ensures { told_step result buffer.new ≡ called (limit_of limit) buffer.old piece.now held }
 {
     let n = lacking(f, held);
     if piece.len() < n {
-        return keep(held, &mut *buffer, piece);
+        return keep(held, buffer, piece);
     }
     if held == 0 {
         return Step {
-            given: Given::InPiece(f),
+            given: Ok(Given::InPiece(f)),
             used: n,
             state: start(),
         };
     }
-    complete(held, f, n, &mut *buffer, piece)
+    complete(held, f, n, buffer, piece)
 }
 
 // How many bytes a frame of f bytes lacks.
 fn lacking(f: usize, held: usize) -> usize
     ensures { result ≡ f - held }
 {
-    if f < held {
-        return 0;
+    f.saturating_sub(held)
+}
+
+// A refusal, which takes nothing and leaves this state.
+fn refused(why: Stop, state: State) -> Step
+    ensures { result ≡ record { given = Err why; used = 0; state = state } }
+{
+    Step {
+        given: Err(why),
+        used: 0,
+        state,
     }
-    f - held
 }
 
 // The next frame of a stream that has not ended.
-fn next_open(held: usize, limit: Limit, buffer: &mut [u8], piece: &[u8]) -> Step
+fn next_open(held: usize, limit: Option<usize>, buffer: &mut [u8], piece: &[u8]) -> Step
     requires { (5 ≤ length buffer.old) × (length buffer.old ≤ 65536) × (held ≤ length buffer.old) }
     ensures { told_step result buffer.new ≡ called (limit_of limit) buffer.old piece.now held }
 {
-    match judge_held(held, limit, &*buffer, piece) {
-        Judged::Unknown => return keep(held, &mut *buffer, piece),
-        Judged::Length(f) => return next_length(held, f, limit, &mut *buffer, piece),
-        Judged::Stopped(why) => {
+    match judge_held(held, limit, buffer, piece) {
+        Ok(None) => keep(held, buffer, piece),
+        Ok(Some(f)) => next_length(held, f, limit, buffer, piece),
+        Err(why) => {
             let state = State {
                 held,
-                end: End::Ended(why),
+                end: Some(why),
             };
-            return Step {
-                given: Given::Stopped(why),
-                used: 0,
-                state,
-            };
+            refused(why, state)
         }
     }
 }
+
+// A header has so many bytes at most.
+const LEAST: usize = 5;
 
 // Whether a buffer of so many bytes serves, and holds what is held.
 fn buffer_serves(held: usize, cap: usize) -> bool
     ensures { result ≡ serves held cap }
 {
-    if cap < 5 {
-        return false;
-    }
-    if 65536 < cap {
+    if cap < LEAST || 65536 < cap {
         return false;
     }
     held <= cap
 }
 
 // f if the limit lets a frame of f bytes pass; else 0.
-fn if_under(f: usize, limit: Limit) -> usize
+fn if_under(f: usize, limit: Option<usize>) -> usize
     ensures { 0 < result → (result ≡ f) × (within (limit_of limit) f ≡ true) }
 {
-    if let Limit::AtMost(most) = limit {
+    if let Some(most) = limit {
         if most < f {
             return 0;
         }
@@ -271,7 +265,7 @@ fn if_under(f: usize, limit: Limit) -> usize
 }
 
 // f if n bytes, a buffer of cap bytes and the limit let a frame of f bytes pass; else 0.
-fn if_whole(f: usize, n: usize, limit: Limit, cap: usize) -> usize
+fn if_whole(f: usize, n: usize, limit: Option<usize>, cap: usize) -> usize
     ensures { 0 < result → (result ≡ f) × (f ≤ n) × (f ≤ cap) × (serves 0 cap ≡ true) × (within (limit_of limit) f ≡ true) }
 {
     if f <= n {
@@ -285,66 +279,55 @@ fn if_whole(f: usize, n: usize, limit: Limit, cap: usize) -> usize
 }
 
 // F of a frame that is whole in the piece, and that no refusal stops; else 0. One number, which stays in a register.
-fn whole_length(piece: &[u8], limit: Limit, cap: usize) -> usize
+fn whole_length(piece: &[u8], limit: Option<usize>, cap: usize) -> usize
     ensures { WholeIn (limit_of limit) cap piece.now result }
 {
     match check::parse_fixed_header(piece) {
-        Checked::Refused(_) => return 0,
-        Checked::Header(h) => {
-            let f = h.fixed_header_len + h.remaining_len;
-            return if_whole(f, piece.len(), limit, cap);
-        }
+        Err(_) => 0,
+        Ok(h) => if_whole(
+            h.fixed_header_len + h.remaining_len,
+            piece.len(),
+            limit,
+            cap,
+        ),
     }
 }
 
 // The same from a state that holds nothing and has not ended; else 0.
-fn fresh_length(state: State, limit: Limit, cap: usize, piece: &[u8]) -> usize
+fn fresh_length(state: State, limit: Option<usize>, cap: usize, piece: &[u8]) -> usize
     ensures { 0 < result → (told_state state ≡ fresh) × WholeIn (limit_of limit) cap piece.now result }
 {
-    let end = state.end;
-    if state.held == 0 {
-        if let End::Open = end {
-            return whole_length(piece, limit, cap);
-        }
+    if state.held == 0 && state.end.is_none() {
+        return whole_length(piece, limit, cap);
     }
     0
 }
 
 // The next frame, as the state, the buffer and the header decide.
-fn next_judged(state: State, limit: Limit, buffer: &mut [u8], piece: &[u8]) -> Step
+fn next_judged(state: State, limit: Option<usize>, buffer: &mut [u8], piece: &[u8]) -> Step
     ensures { told_step result buffer.new ≡ found_of (told_state state) buffer.old piece.now (limit_of limit) }
 {
-    let held = state.held;
-    let end = state.end;
-    if !buffer_serves(held, buffer.len()) {
-        return Step {
-            given: Given::Stopped(Stop::BadBuffer),
-            used: 0,
-            state,
-        };
+    if !buffer_serves(state.held, buffer.len()) {
+        return refused(Stop::BadBuffer, state);
     }
-    match end {
-        End::Open => return next_open(held, limit, &mut *buffer, piece),
-        End::Ended(why) => return Step {
-            given: Given::Stopped(why),
-            used: 0,
-            state,
-        },
+    match state.end {
+        None => next_open(state.held, limit, buffer, piece),
+        Some(why) => refused(why, state),
     }
 }
 
 // The next frame, of the bytes held and the piece behind them. It is called again with the rest of the piece after each `InPiece` and
 // `InBuffer`, until there is none.
-pub fn next_frame(state: State, limit: Limit, buffer: &mut [u8], piece: &[u8]) -> Step
+pub fn next_frame(state: State, limit: Option<usize>, buffer: &mut [u8], piece: &[u8]) -> Step
     ensures { told_step result buffer.new ≡ found_of (told_state state) buffer.old piece.now (limit_of limit) }
 {
     let f = fresh_length(state, limit, buffer.len(), piece);
     if 0 < f {
         return Step {
-            given: Given::InPiece(f),
+            given: Ok(Given::InPiece(f)),
             used: f,
             state: start(),
         };
     }
-    next_judged(state, limit, &mut *buffer, piece)
+    next_judged(state, limit, buffer, piece)
 }

@@ -1,4 +1,5 @@
 -- 02, P10, of every answer that meets the contract of `pieces_read::next`. Assumes nothing.
+use Rattle.std.specs.Prelude as std
 use mathlib.Core.Path.{◌≡◌, refl, sym, ap, ◌∙◌}
 use mathlib.Core.Option.{Option, some}
 use mathlib.Core.List.{List, [], ◌∷◌, ◌++◌, map, flatten, append_assoc, append-nil}
@@ -10,7 +11,6 @@ use Rattle.reading.specs.Refusal.{Refusal, Answer}
 use Rattle.reading.specs.Reader.{Fit, got}
 use Rattle.reading.specs.Place.{Placed, say_answer}
 use Rattle.records.specs.AsNumbers.{limit_of}
-use Rattle.records.specs.declared.answer.Limit.{Limit}
 use Rattle.pieces_rules.specs.Whole.{lacks, list_of}
 use Rattle.pieces_rules.specs.Step.{fresh, more, inPiece, inBuffer, stops, Step, step_by, step_of}
 use Rattle.pieces_rules.specs.Step as step
@@ -49,7 +49,7 @@ unfolding zeros
 zeros_length zero = refl
 zeros_length (suc n) = ap suc (zeros_length n)
 
-module _ (limit : Limit) where
+module _ (limit : std.Option ℕ) where
   -- with enough turns the definition goes the same way
   abbrev Bounded : State → List ℕ → List ℕ → Fed → Type 0
   Bounded st b p o = (n : ℕ) × ((f : List ℕ) → n < length f → feed_from (limit_of limit) f (told_state st) b p ≡ o)

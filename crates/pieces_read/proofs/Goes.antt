@@ -1,5 +1,6 @@
 -- 02, P10: whatever answers meet the contract of `pieces_read::next`, the calls for a piece come to an end; what one call does to the piece and
 -- the buffer. Assumes nothing.
+use Rattle.std.specs.Prelude as std
 use mathlib.Core.Path.{◌≡◌, refl, sym, ap, ◌∙◌, subst}
 use mathlib.Core.Bool.{Bool, true, false}
 use mathlib.Core.Option.{Option, some}
@@ -13,7 +14,6 @@ use Rattle.reading.specs.Refusal.{Refusal, Answer}
 use Rattle.reading.specs.Reader.{Fit}
 use Rattle.reading.specs.Place.{Placed, as_places, say_answer}
 use Rattle.records.specs.AsNumbers.{limit_of}
-use Rattle.records.specs.declared.answer.Limit.{Limit}
 use Rattle.pieces_rules.specs.Whole.{Turn, frame, turn_of, answer_as}
 use Rattle.pieces_rules.specs.Step.{bad_buffer, fresh, more, inPiece, inBuffer, stops, Step, serves, step_from, step_by, step_of}
 use Rattle.pieces_rules.specs.Step as step
@@ -63,7 +63,7 @@ module _ (limit : Option ℕ) (b p : List ℕ) where
       go true d (some k) = rw d (halts k refl)
       go true d option.none = let (w, u, h) = served i (length b) d in rw d (moves_open i w h)
 
-module _ (limit : Limit) (st : State) (b p : List ℕ) (r : Reply) (b' : List ℕ) (a : Meets limit st b p r b') where
+module _ (limit : std.Option ℕ) (st : State) (b p : List ℕ) (r : Reply) (b' : List ℕ) (a : Meets limit st b p r b') where
   reply_moves : Moves b p st.held (told_reply r b')
   reply_moves = subst (λ (o : Step (Answer Placed)). Moves b p st.held o) (sym a) (moves (limit_of limit) b p st.held (told_end st.end))
 
@@ -116,7 +116,7 @@ module _ (limit : Limit) (st : State) (b p : List ℕ) (r : Reply) (b' : List �
 -- ---- all calls
 
 -- lists that can be lent, as a slice can: the rest of one is one; and answers to all of them, the buffer afterwards among them
-module _ (limit : Limit) (Lent : List ℕ → Type 0) (rest : (n : ℕ) (p : List ℕ) → Lent p → Lent (drop n p))
+module _ (limit : std.Option ℕ) (Lent : List ℕ → Type 0) (rest : (n : ℕ) (p : List ℕ) → Lent p → Lent (drop n p))
     (answers : (st : State) (b p : List ℕ) → Lent b → Lent p → (r : Reply) × (b' : List ℕ) × Meets limit st b p r b' × Lent b') where
   -- a transcript of the calls for a piece
   abbrev pub Ended : State → List ℕ → List ℕ → Type 0

@@ -1,5 +1,6 @@
 -- The answers of `pieces_read`: each comes back from what it tells and carries, and what it carries is what it tells, so that an input admits
 -- one answer only. Assumes nothing.
+use Rattle.std.specs.Prelude.{Result, Ok, Err}
 use mathlib.Core.Path.{◌≡◌, refl, sym, ap, ◌∙◌}
 use mathlib.Core.List.{List, []}
 use Prim.Native.Nat.{ℕ}
@@ -13,6 +14,7 @@ use Rattle.records.proofs.Answered.{back_read, back_read_lem}
 use Rattle.pieces_rules.specs.Step.{Gives, more, inPiece, inBuffer, stops, Step}
 use Rattle.pieces.proofs.Same.{back_stop, back_stop_lem, back_state, back_state_lem}
 use Rattle.pieces_read.specs.PacketAnswer.{told_answer, told_reply, Carries}
+use Rattle.pieces.specs.declared.Stop.{Stop}
 use Rattle.pieces_read.specs.declared.Answer.{Answer}
 use Rattle.pieces_read.specs.declared.Reply.{Reply}
 
@@ -21,11 +23,11 @@ abbrev no_numbers : Fit (ℕ × ℕ)
 no_numbers = bad (refusal.nr 0 [])
 
 -- 02, P7: the two numbers of an answer's record
-abbrev carried_in : Answer → Fit (ℕ × ℕ)
-carried_in Answer.More = no_numbers
-carried_in (Answer.InPiece r) = carried r
-carried_in (Answer.InBuffer r) = carried r
-carried_in (Answer.Stopped k) = no_numbers
+abbrev carried_in : Result Answer Stop → Fit (ℕ × ℕ)
+carried_in (Ok Answer.More) = no_numbers
+carried_in (Ok (Answer.InPiece r)) = carried r
+carried_in (Ok (Answer.InBuffer r)) = carried r
+carried_in (Err k) = no_numbers
 
 -- those that it says itself
 abbrev said_in : Gives (refusal.Answer Placed) → Fit (ℕ × ℕ)
@@ -34,28 +36,28 @@ said_in (inPiece a) = bounds_by a
 said_in (inBuffer a) = bounds_by a
 said_in (stops k) = no_numbers
 
-said : (a : Answer) → Carries a → carried_in a ≡ said_in (told_answer a)
-said Answer.More c = refl
-said (Answer.InPiece r) c = c
-said (Answer.InBuffer r) c = c
-said (Answer.Stopped k) c = refl
+said : (a : Result Answer Stop) → Carries a → carried_in a ≡ said_in (told_answer a)
+said (Ok Answer.More) c = refl
+said (Ok (Answer.InPiece r)) c = c
+said (Ok (Answer.InBuffer r)) c = c
+said (Err k) c = refl
 
-abbrev back_answer : Gives (refusal.Answer Placed) × Fit (ℕ × ℕ) → Answer
-back_answer (more, f) = Answer.More
-back_answer (inPiece a, f) = Answer.InPiece (back_read (a, f))
-back_answer (inBuffer a, f) = Answer.InBuffer (back_read (a, f))
-back_answer (stops k, f) = Answer.Stopped (back_stop k)
+abbrev back_answer : Gives (refusal.Answer Placed) × Fit (ℕ × ℕ) → Result Answer Stop
+back_answer (more, f) = Ok Answer.More
+back_answer (inPiece a, f) = Ok (Answer.InPiece (back_read (a, f)))
+back_answer (inBuffer a, f) = Ok (Answer.InBuffer (back_read (a, f)))
+back_answer (stops k, f) = Err (back_stop k)
 
-abbrev answer_told : Answer → Gives (refusal.Answer Placed) × Fit (ℕ × ℕ)
+abbrev answer_told : Result Answer Stop → Gives (refusal.Answer Placed) × Fit (ℕ × ℕ)
 answer_told a = (told_answer a, carried_in a)
 
-back_answer_lem : (a : Answer) → back_answer (answer_told a) ≡ a
-back_answer_lem Answer.More = refl
-back_answer_lem (Answer.InPiece r) = ap Answer.InPiece (back_read_lem r)
-back_answer_lem (Answer.InBuffer r) = ap Answer.InBuffer (back_read_lem r)
-back_answer_lem (Answer.Stopped k) = ap Answer.Stopped (back_stop_lem k)
+back_answer_lem : (a : Result Answer Stop) → back_answer (answer_told a) ≡ a
+back_answer_lem (Ok Answer.More) = refl
+back_answer_lem (Ok (Answer.InPiece r)) = ap (λ x. Ok (Answer.InPiece x)) (back_read_lem r)
+back_answer_lem (Ok (Answer.InBuffer r)) = ap (λ x. Ok (Answer.InBuffer x)) (back_read_lem r)
+back_answer_lem (Err k) = ap Err (back_stop_lem k)
 
-pub answer_same : {a b : Answer} → Carries a → Carries b → told_answer a ≡ told_answer b → a ≡ b
+pub answer_same : {a b : Result Answer Stop} → Carries a → Carries b → told_answer a ≡ told_answer b → a ≡ b
 answer_same {a} {b} ca cb e =
     injective_by answer_told back_answer back_answer_lem
     (ap (λ f. (told_answer a, f)) (said a ca) ∙ ap (λ g. (g, said_in g)) e ∙ sym (ap (λ f. (told_answer b, f)) (said b cb)))

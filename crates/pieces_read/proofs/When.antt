@@ -1,4 +1,5 @@
 -- 02, P10: when BadBuffer and FrameTooLong are given, and what ends a stream. Assumes nothing.
+use Rattle.std.specs.Prelude as std
 use mathlib.Core.Path.{◌≡◌, refl, sym, ap, ◌∙◌}
 use mathlib.Core.Bool.{Bool, true, false}
 use mathlib.Core.Logic.{◌⊎◌, inl, inr, ◌↔◌}
@@ -16,7 +17,6 @@ use Rattle.reading.specs.Read.{byte_of, group_of, groups_of, num_of}
 use Rattle.reading.specs.Place.{Placed, as_places}
 use Rattle.reading.proofs.Reading.{bad_got}
 use Rattle.records.specs.AsNumbers.{row_of, limit_of}
-use Rattle.records.specs.declared.answer.Limit.{Limit}
 use Rattle.pieces_rules.specs.Whole.{frame_too_long, header_under, frame_bytes, answer_as, Turn, frame, turn_of}
 use Rattle.pieces_rules.specs.Step.{bad_buffer, Gives, more, stops, Step, serves, waiting, step_from, step_by}
 use Rattle.pieces_rules.specs.Judge.{Judge, unknown, forbids, spans, judge_of}
@@ -152,7 +152,7 @@ module _ (limit : Option ℕ) (b p : List ℕ) (i : ℕ) where
   stops_open : (w : Refusal) → judge_of limit (length b) joined ≡ forbids w → (step_from (waiting i) b p turn).gives ≡ stops w
   stops_open w e = rw (forbids_ends limit (length b) joined w (sym e) as_places)
 
-module _ (limit : Limit) (st : State) (b p : List ℕ) (r : Reply) (b' : List ℕ) (a : Meets limit st b p r b') (o : told_end st.end ≡ none) where
+module _ (limit : std.Option ℕ) (st : State) (b p : List ℕ) (r : Reply) (b' : List ℕ) (a : Meets limit st b p r b') (o : told_end st.end ≡ none) where
   gives_open : serves st.held (length b) ≡ true → told_answer r.answer ≡ (step_from (waiting st.held) b p (turn (limit_of limit) b p st.held)).gives
   unfolding step_by
   gives_open w = ap (λ (u : Step (Answer Placed)). u.gives) a ∙ rw (o, w)

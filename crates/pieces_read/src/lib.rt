@@ -10,7 +10,7 @@ ghost use Rattle.pieces_read.specs.PacketAnswer.{told_answer, told_reply, Carrie
 use packet;
 use pieces;
 use pieces::{Given, State, Stop};
-use records::answer::{Limit, Read};
+use records::answer::Read;
 
 #[derive(Clone, Copy)]
 pub enum Answer {
@@ -20,14 +20,12 @@ pub enum Answer {
     InPiece(Read),
     // a frame's record or refusal; the record's places lie in the buffer
     InBuffer(Read),
-    // no frame, now or later
-    Stopped(Stop),
 }
 
-// The answer, how many bytes of the piece it used up, and the state for the next call.
+// The answer, or why there is no frame, now or later; how many bytes of the piece it used up, and the state for the next call.
 #[derive(Clone, Copy)]
 pub struct Reply {
-    pub answer: Answer,
+    pub answer: Result<Answer, Stop>,
     pub used: usize,
     pub state: State,
 }
@@ -43,30 +41,31 @@ fn front(s: &[u8], n: usize) -> &[u8]
 }
 
 // The answer to a frame that was found, read where it lies.
-fn answer_in(given: Given, limit: Limit, buffer: &[u8], piece: &[u8]) -> Answer
+fn answer_in(
+    given: Result<Given, Stop>,
+    limit: Option<usize>,
+    buffer: &[u8],
+    piece: &[u8],
+) -> Result<Answer, Stop>
     ensures answer { told_answer result ≡ read_in (limit_of limit) piece.now buffer.now (told_given given) }
     ensures carries { Carries result }
 {
-    match given {
-        Given::More => return Answer::More,
-        Given::InPiece(n) => return Answer::InPiece(packet::read(front(piece, n), limit)),
-        Given::InBuffer(n) => return Answer::InBuffer(packet::read(front(buffer, n), limit)),
-        Given::Stopped(why) => return Answer::Stopped(why),
-    }
+    Ok(match given? {
+        Given::More => Answer::More,
+        Given::InPiece(n) => Answer::InPiece(packet::read(front(piece, n), limit)),
+        Given::InBuffer(n) => Answer::InBuffer(packet::read(front(buffer, n), limit)),
+    })
 }
 
 // The next answer, of the bytes held and the piece behind them. After `InPiece` and `InBuffer` it is called again with the rest of the piece.
-pub fn next(state: State, limit: Limit, buffer: &mut [u8], piece: &[u8]) -> Reply
+pub fn next(state: State, limit: Option<usize>, buffer: &mut [u8], piece: &[u8]) -> Reply
     ensures answer { told_reply result buffer.new ≡ step_of (told_state state) buffer.old piece.now (limit_of limit) }
     ensures carries { Carries result.answer }
 {
-    let step = pieces::next_frame(state, limit, &mut *buffer, piece);
-    let given = step.given;
-    let after = step.state;
-    let answer = answer_in(given, limit, &*buffer, piece);
+    let step = pieces::next_frame(state, limit, buffer, piece);
     Reply {
-        answer,
+        answer: answer_in(step.given, limit, buffer, piece),
         used: step.used,
-        state: after,
+        state: step.state,
     }
 }

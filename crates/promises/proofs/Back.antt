@@ -1,5 +1,6 @@
 -- Reading back: what `packet::read` answers, with no limit, to a stream that begins with what was written. Assumes nothing.
-use mathlib.Core.Path.{◌≡◌, refl, sym, subst, ◌∙◌}
+use Rattle.std.specs.Prelude.{Option, Some, None, Result, Ok}
+use mathlib.Core.Path.{◌≡◌, refl, sym, ap, subst, ◌∙◌}
 use mathlib.Core.Bool.{Bool, true, false, cond}
 use mathlib.Core.Option.{none, some}
 use mathlib.Core.List.{List, ◌++◌, map}
@@ -24,19 +25,14 @@ use Rattle.writing.specs.Meant.{meant, said, publish_set, subscribe_set, ack_set
 use Rattle.writing.proofs.Demand.{said_meant}
 use Rattle.records.specs.AsNumbers.{told_bool, told_qos, told_ack_kind, told_reply_kind, limit_of}
 use Rattle.records.specs.Said.{told_packet}
-use Rattle.records.specs.Answered.{told_written}
-use Rattle.records.specs.declared.answer.Limit.{Limit}
-use Rattle.records.specs.declared.answer.Read.{Read}
+use Rattle.records.specs.Answered.{told_size, ReadResult}
 use Rattle.records.specs.declared.span.Bounds.{Bounds}
-use Rattle.records.specs.declared.answer.Written.{Written}
 use Rattle.records.specs.declared.packet_record.Packet as code
 use Rattle.records.specs.declared.ack_record.Ack.{Ack}
 use Rattle.records.specs.declared.ack_record.AckKind.{AckKind}
 use Rattle.records.specs.declared.properties_record.Properties.{Properties}
-use Rattle.records.specs.declared.properties_record.MaybeProperties.{MaybeProperties}
 use Rattle.records.specs.declared.publish_record.Publish.{Publish}
 use Rattle.records.specs.declared.publish_record.PublishProperties.{PublishProperties}
-use Rattle.records.specs.declared.publish_record.MaybePublishProperties.{MaybePublishProperties}
 use Rattle.records.specs.declared.qos.QoS.{QoS}
 use Rattle.records.specs.declared.subscribe_record.Subscribe.{Subscribe}
 use Rattle.records.specs.declared.reply_record.Reply.{Reply}
@@ -54,6 +50,7 @@ use Rattle.packet_write.specs.Union.{own, union_of}
 use Rattle.packet_write.specs.declared.head.PacketHead.{PacketHead}
 use Rattle.promises.specs.Writing.{Obeys, ReadsAs, Widths, LentOctets}
 use Rattle.promises.proofs.Writing as writing
+use Rattle.records.specs.declared.error.Error.{Error}
 
 -- ---- what the types of the arguments ensure
 
@@ -139,11 +136,11 @@ the_set : {A : Type 0} (t : Bool) (a b : A) → cond t none (some a) ≡ some b 
 the_set true a b e = let z : ◌≡◌ {A = ℕ} 0 1 = cc in absurd (omega arith)
 the_set false a b e = cc
 
-module _ (limit : Limit) (alone : Bool) (h : Handed) (before after : List ℕ) (w : Written) (m : Obeys limit alone h before after w) (n : ℕ) (i : w ≡ Written.Size n) (t : Typed h) where
+module _ (limit : Option ℕ) (alone : Bool) (h : Handed) (before after : List ℕ) (w : Result ℕ Error) (m : Obeys limit alone h before after w) (n : ℕ) (i : w ≡ Ok n) (t : Typed h) where
   begins : (rest : List ℕ) → Begins Sentence (frame_bytes h ++ rest) (said h) n
   begins rest = (frame_bytes h, rest, refl, writing.frame_sentence limit alone h before after w m n i t, writing.frame_size limit alone h before after w m n i)
 
-  module _ (rest : List ℕ) (r : Read) (j : reading.Meets Limit.Unlimited (frame_bytes h ++ rest) r) where
+  module _ (rest : List ℕ) (r : ReadResult) (j : reading.Meets None (frame_bytes h ++ rest) r) where
     -- whatever follows, what is read is what the bytes say, and taken is the size
     pub reads_said : ReadsAs (frame_bytes h ++ rest) r (said h) n
     reads_said =
@@ -165,110 +162,111 @@ module _ (limit : Limit) (alone : Bool) (h : Handed) (before after : List ℕ) (
 
     -- ---- the parts of a Publish, an acknowledgement and a reply, as the functions of `publish_parts` and `ack` give them
 
-    told_by : (p : code.Packet) (o : Bounds) → r ≡ Read.Packet p o n → say (frame_bytes h ++ rest) (told_packet p) ≡ got (said h)
+    told_by : (p : code.Packet) (o : Bounds) → r ≡ Ok (p, o, n) → say (frame_bytes h ++ rest) (told_packet p) ≡ got (said h)
     told_by p o e =
         let (q, o', f, g) = sentence_read (frame_bytes h ++ rest) r j (said h) n (begins rest) in
-        let a : Read.Packet q o' n ≡ Read.Packet p o n = sym f ∙ e in
-        let b : q ≡ p = cc in
+        let a : Ok (q, o', n) ≡ Ok (p, o, n) = sym f ∙ e in
+        let t : ◌≡◌ {A = code.Packet × Bounds × ℕ} (q, o', n) (p, o, n) = cc in
+        let b : q ≡ p = ap (λ z. z.0) t in
         subst (λ (x : code.Packet). say (frame_bytes h ++ rest) (told_packet x) ≡ got (said h)) b g
 
-    pub publish_back : (x : Publish) (o : Bounds) → r ≡ Read.Packet (code.Packet.Publish x) o n → (v : record_of.Publish (List ℕ) List) × (said h ≡ record_of.publish v) × PublishParts (frame_bytes h ++ rest) x v
+    pub publish_back : (x : Publish) (o : Bounds) → r ≡ Ok (code.Packet.Publish x, o, n) → (v : record_of.Publish (List ℕ) List) × (said h ≡ record_of.publish v) × PublishParts (frame_bytes h ++ rest) x v
     publish_back x o e = publish_parts_lem (frame_bytes h ++ rest) x (said h) (told_by (code.Packet.Publish x) o e)
 
-    pub ack_back : (k : AckKind) (x : Ack) (o : Bounds) → r ≡ Read.Packet (code.Packet.Ack k x) o n → (v : record_of.Ack (List ℕ) List) × (said h ≡ record_of.ack (told_ack_kind k) v) × ReasonPart (frame_bytes h ++ rest) x.properties v.props
+    pub ack_back : (k : AckKind) (x : Ack) (o : Bounds) → r ≡ Ok (code.Packet.Ack k x, o, n) → (v : record_of.Ack (List ℕ) List) × (said h ≡ record_of.ack (told_ack_kind k) v) × ReasonPart (frame_bytes h ++ rest) x.properties v.props
     ack_back k x o e = ack_parts (frame_bytes h ++ rest) k x (said h) (told_by (code.Packet.Ack k x) o e)
 
-    pub reply_back : (k : ReplyKind) (x : Reply) (o : Bounds) → r ≡ Read.Packet (code.Packet.Reply k x) o n → (v : record_of.Reply (List ℕ) List) × (said h ≡ record_of.reply (told_reply_kind k) v) × ReasonPart (frame_bytes h ++ rest) x.properties v.props
+    pub reply_back : (k : ReplyKind) (x : Reply) (o : Bounds) → r ≡ Ok (code.Packet.Reply k x, o, n) → (v : record_of.Reply (List ℕ) List) × (said h ≡ record_of.reply (told_reply_kind k) v) × ReasonPart (frame_bytes h ++ rest) x.properties v.props
     reply_back k x o e = reply_parts (frame_bytes h ++ rest) k x (said h) (told_by (code.Packet.Reply k x) o e)
 
   -- the output itself, read
-  pub output_read : (r : Read) → reading.Meets Limit.Unlimited after r → ReadsAs after r (said h) n
+  pub output_read : (r : ReadResult) → reading.Meets None after r → ReadsAs after r (said h) n
   output_read r j =
       let e = writing.frame_out limit alone h before after w m n i in
-      subst (λ (s : List ℕ). ReadsAs s r (said h) n) (sym e) (reads_said (drop n before) r (subst (λ (s : List ℕ). reading.Meets Limit.Unlimited s r) e j))
+      subst (λ (s : List ℕ). ReadsAs s r (said h) n) (sym e) (reads_said (drop n before) r (subst (λ (s : List ℕ). reading.Meets None s r) e j))
 
 -- ---- the items, as the functions of `items`, `filter_runs` and `entry_runs` give them: the lists that were handed over, in order, and then 21
 
-module _ (limit : Limit) (alone : Bool) (before after : List ℕ) (w : Written) (n : ℕ) (i : w ≡ Written.Size n) (rest : List ℕ) (r : Read) (o : Bounds) where
-  pub publish_items_back : (h : PublishHanded) → Obeys limit alone (publish h) before after w → Typed (publish h) → reading.Meets Limit.Unlimited (frame_bytes (publish h) ++ rest) r
-      → (x : Publish) (p : PublishProperties) → r ≡ Read.Packet (code.Packet.Publish x) o n → x.properties ≡ MaybePublishProperties.Present p
+module _ (limit : Option ℕ) (alone : Bool) (before after : List ℕ) (w : Result ℕ Error) (n : ℕ) (i : w ≡ Ok n) (rest : List ℕ) (r : ReadResult) (o : Bounds) where
+  pub publish_items_back : (h : PublishHanded) → Obeys limit alone (publish h) before after w → Typed (publish h) → reading.Meets None (frame_bytes (publish h) ++ rest) r
+      → (x : Publish) (p : PublishProperties) → r ≡ Ok (code.Packet.Publish x, o, n) → x.properties ≡ Some p
       → UserItems (frame_bytes (publish h) ++ rest) publish_row p.block (duos (strings h.user)) × IdentifierItems (frame_bytes (publish h) ++ rest) p.block (map num h.subscriptions)
   unfolding said
   publish_items_back h m t j x p e f =
       let s = frame_bytes (publish h) ++ rest in
-      let (v, qs, a, b, us, ns) = publish_items Limit.Unlimited s r j o n x p e f in
+      let (v, qs, a, b, us, ns) = publish_items None s r j o n x p e f in
       let c : ◌≡◌ {A = Packet} (said (publish h)) (record_of.publish v) = says_said limit alone (publish h) before after w m n i t rest r j (record_of.publish v) a in
       let d : publish_set h ≡ qs = the_set (none_publish h) (publish_set h) qs (publish_props_lem c ∙ b) in
       (subst (λ (q : PublishProps (List ℕ) List). UserItems s publish_row p.block q.user) (sym d) us, subst (λ (q : PublishProps (List ℕ) List). IdentifierItems s p.block q.subscriptions) (sym d) ns)
 
-  pub ack_items_back : (k : AckKind) (h : AckHanded) → Obeys limit alone (ack (told_ack_kind k) h) before after w → Typed (ack (told_ack_kind k) h) → reading.Meets Limit.Unlimited (frame_bytes (ack (told_ack_kind k) h) ++ rest) r
-      → (x : Ack) (p : Properties) → r ≡ Read.Packet (code.Packet.Ack k x) o n → x.properties ≡ MaybeProperties.Present p
+  pub ack_items_back : (k : AckKind) (h : AckHanded) → Obeys limit alone (ack (told_ack_kind k) h) before after w → Typed (ack (told_ack_kind k) h) → reading.Meets None (frame_bytes (ack (told_ack_kind k) h) ++ rest) r
+      → (x : Ack) (p : Properties) → r ≡ Ok (code.Packet.Ack k x, o, n) → x.properties ≡ Some p
       → UserItems (frame_bytes (ack (told_ack_kind k) h) ++ rest) ack_row p.block (duos (strings h.user))
   unfolding said
   ack_items_back k h m t j x p e f =
       let s = frame_bytes (ack (told_ack_kind k) h) ++ rest in
-      let (v, qs, a, b, us) = ack_items Limit.Unlimited s r j o n k x p e f in
+      let (v, qs, a, b, us) = ack_items None s r j o n k x p e f in
       let c : ◌≡◌ {A = Packet} (said (ack (told_ack_kind k) h)) (record_of.ack (told_ack_kind k) v) = says_said limit alone (ack (told_ack_kind k) h) before after w m n i t rest r j (record_of.ack (told_ack_kind k) v) a in
       let d : ack_set h.text h.user ≡ qs = the_set (none_ack h.text h.user) (ack_set h.text h.user) qs (ack_props (told_ack_kind k) c ∙ b) in
       subst (λ (q : Props (List ℕ) List). UserItems s ack_row p.block q.user) (sym d) us
 
-  pub subscribe_items_back : (h : SubscribeHanded) → Obeys limit alone (subscribe h) before after w → Typed (subscribe h) → reading.Meets Limit.Unlimited (frame_bytes (subscribe h) ++ rest) r
-      → (x : Subscribe) (p : Properties) → r ≡ Read.Packet (code.Packet.Subscribe x) o n → x.properties ≡ MaybeProperties.Present p
+  pub subscribe_items_back : (h : SubscribeHanded) → Obeys limit alone (subscribe h) before after w → Typed (subscribe h) → reading.Meets None (frame_bytes (subscribe h) ++ rest) r
+      → (x : Subscribe) (p : Properties) → r ≡ Ok (code.Packet.Subscribe x, o, n) → x.properties ≡ Some p
       → UserItems (frame_bytes (subscribe h) ++ rest) subscribe_row p.block (duos (strings h.user))
   unfolding said
   subscribe_items_back h m t j x p e f =
       let s = frame_bytes (subscribe h) ++ rest in
-      let (v, qs, a, b, us) = subscribe_items Limit.Unlimited s r j o n x p e f in
+      let (v, qs, a, b, us) = subscribe_items None s r j o n x p e f in
       let c : ◌≡◌ {A = Packet} (said (subscribe h)) (record_of.subscribe v) = says_said limit alone (subscribe h) before after w m n i t rest r j (record_of.subscribe v) a in
       let d : subscribe_set h ≡ qs = the_set (none_subscribe h) (subscribe_set h) qs (subscribe_props c ∙ b) in
       subst (λ (q : Props (List ℕ) List). UserItems s subscribe_row p.block q.user) (sym d) us
 
-  pub reply_items_back : (k : ReplyKind) (h : ReplyHanded) → Obeys limit alone (reply (told_reply_kind k) h) before after w → Typed (reply (told_reply_kind k) h) → reading.Meets Limit.Unlimited (frame_bytes (reply (told_reply_kind k) h) ++ rest) r
-      → (x : Reply) (p : Properties) → r ≡ Read.Packet (code.Packet.Reply k x) o n → x.properties ≡ MaybeProperties.Present p
+  pub reply_items_back : (k : ReplyKind) (h : ReplyHanded) → Obeys limit alone (reply (told_reply_kind k) h) before after w → Typed (reply (told_reply_kind k) h) → reading.Meets None (frame_bytes (reply (told_reply_kind k) h) ++ rest) r
+      → (x : Reply) (p : Properties) → r ≡ Ok (code.Packet.Reply k x, o, n) → x.properties ≡ Some p
       → UserItems (frame_bytes (reply (told_reply_kind k) h) ++ rest) ack_row p.block (duos (strings h.user))
   unfolding said
   reply_items_back k h m t j x p e f =
       let s = frame_bytes (reply (told_reply_kind k) h) ++ rest in
-      let (v, qs, a, b, us) = reply_items Limit.Unlimited s r j o n k x p e f in
+      let (v, qs, a, b, us) = reply_items None s r j o n k x p e f in
       let c : ◌≡◌ {A = Packet} (said (reply (told_reply_kind k) h)) (record_of.reply (told_reply_kind k) v) = says_said limit alone (reply (told_reply_kind k) h) before after w m n i t rest r j (record_of.reply (told_reply_kind k) v) a in
       let d : ack_set h.text h.user ≡ qs = the_set (none_ack h.text h.user) (ack_set h.text h.user) qs (reply_props (told_reply_kind k) c ∙ b) in
       subst (λ (q : Props (List ℕ) List). UserItems s ack_row p.block q.user) (sym d) us
 
-  pub unsubscribe_items_back : (h : UnsubscribeHanded) → Obeys limit alone (unsubscribe h) before after w → Typed (unsubscribe h) → reading.Meets Limit.Unlimited (frame_bytes (unsubscribe h) ++ rest) r
-      → (x : Unsubscribe) (p : Properties) → r ≡ Read.Packet (code.Packet.Unsubscribe x) o n → x.properties ≡ MaybeProperties.Present p
+  pub unsubscribe_items_back : (h : UnsubscribeHanded) → Obeys limit alone (unsubscribe h) before after w → Typed (unsubscribe h) → reading.Meets None (frame_bytes (unsubscribe h) ++ rest) r
+      → (x : Unsubscribe) (p : Properties) → r ≡ Ok (code.Packet.Unsubscribe x, o, n) → x.properties ≡ Some p
       → UserItems (frame_bytes (unsubscribe h) ++ rest) unsubscribe_row p.block (duos (strings h.user))
   unfolding said
   unsubscribe_items_back h m t j x p e f =
       let s = frame_bytes (unsubscribe h) ++ rest in
-      let (v, qs, a, b, us) = unsubscribe_items Limit.Unlimited s r j o n x p e f in
+      let (v, qs, a, b, us) = unsubscribe_items None s r j o n x p e f in
       let c : ◌≡◌ {A = Packet} (said (unsubscribe h)) (record_of.unsubscribe v) = says_said limit alone (unsubscribe h) before after w m n i t rest r j (record_of.unsubscribe v) a in
       let d : unsubscribe_set h.user ≡ qs = the_set (none_unsubscribe h.user) (unsubscribe_set h.user) qs (unsubscribe_props c ∙ b) in
       subst (λ (q : Props (List ℕ) List). UserItems s unsubscribe_row p.block q.user) (sym d) us
 
-  pub filter_items_back : (h : SubscribeHanded) → Obeys limit alone (subscribe h) before after w → Typed (subscribe h) → reading.Meets Limit.Unlimited (frame_bytes (subscribe h) ++ rest) r
-      → (x : Subscribe) → r ≡ Read.Packet (code.Packet.Subscribe x) o n → FilterItems (frame_bytes (subscribe h) ++ rest) x.filters (map mk_filter (filters h))
+  pub filter_items_back : (h : SubscribeHanded) → Obeys limit alone (subscribe h) before after w → Typed (subscribe h) → reading.Meets None (frame_bytes (subscribe h) ++ rest) r
+      → (x : Subscribe) → r ≡ Ok (code.Packet.Subscribe x, o, n) → FilterItems (frame_bytes (subscribe h) ++ rest) x.filters (map mk_filter (filters h))
   unfolding said
   filter_items_back h m t j x e =
       let s = frame_bytes (subscribe h) ++ rest in
-      let (v, a, fs) = filter_items Limit.Unlimited s r j o n x e in
+      let (v, a, fs) = filter_items None s r j o n x e in
       let c : ◌≡◌ {A = Packet} (said (subscribe h)) (record_of.subscribe v) = says_said limit alone (subscribe h) before after w m n i t rest r j (record_of.subscribe v) a in
       subst (λ (l : List (record_of.Filter (List ℕ))). FilterItems s x.filters l) (sym (subscribe_filters c)) fs
 
-  pub reason_items_back : (k : ReplyKind) (h : ReplyHanded) → Obeys limit alone (reply (told_reply_kind k) h) before after w → Typed (reply (told_reply_kind k) h) → reading.Meets Limit.Unlimited (frame_bytes (reply (told_reply_kind k) h) ++ rest) r
-      → (x : Reply) → r ≡ Read.Packet (code.Packet.Reply k x) o n → ReasonItems (frame_bytes (reply (told_reply_kind k) h) ++ rest) k x.reasons h.reasons
+  pub reason_items_back : (k : ReplyKind) (h : ReplyHanded) → Obeys limit alone (reply (told_reply_kind k) h) before after w → Typed (reply (told_reply_kind k) h) → reading.Meets None (frame_bytes (reply (told_reply_kind k) h) ++ rest) r
+      → (x : Reply) → r ≡ Ok (code.Packet.Reply k x, o, n) → ReasonItems (frame_bytes (reply (told_reply_kind k) h) ++ rest) k x.reasons h.reasons
   unfolding said
   reason_items_back k h m t j x e =
       let s = frame_bytes (reply (told_reply_kind k) h) ++ rest in
-      let (v, a, fs) = reason_items Limit.Unlimited s r j o n k x e in
+      let (v, a, fs) = reason_items None s r j o n k x e in
       let c : ◌≡◌ {A = Packet} (said (reply (told_reply_kind k) h)) (record_of.reply (told_reply_kind k) v) = says_said limit alone (reply (told_reply_kind k) h) before after w m n i t rest r j (record_of.reply (told_reply_kind k) v) a in
       subst (λ (l : List ℕ). ReasonItems s k x.reasons l) (sym (reply_reasons (told_reply_kind k) c)) fs
 
-  pub topic_items_back : (h : UnsubscribeHanded) → Obeys limit alone (unsubscribe h) before after w → Typed (unsubscribe h) → reading.Meets Limit.Unlimited (frame_bytes (unsubscribe h) ++ rest) r
-      → (x : Unsubscribe) → r ≡ Read.Packet (code.Packet.Unsubscribe x) o n → TopicItems (frame_bytes (unsubscribe h) ++ rest) x.topics (strings h.topics)
+  pub topic_items_back : (h : UnsubscribeHanded) → Obeys limit alone (unsubscribe h) before after w → Typed (unsubscribe h) → reading.Meets None (frame_bytes (unsubscribe h) ++ rest) r
+      → (x : Unsubscribe) → r ≡ Ok (code.Packet.Unsubscribe x, o, n) → TopicItems (frame_bytes (unsubscribe h) ++ rest) x.topics (strings h.topics)
   unfolding said
   topic_items_back h m t j x e =
       let s = frame_bytes (unsubscribe h) ++ rest in
-      let (v, a, fs) = topic_items Limit.Unlimited s r j o n x e in
+      let (v, a, fs) = topic_items None s r j o n x e in
       let c : ◌≡◌ {A = Packet} (said (unsubscribe h)) (record_of.unsubscribe v) = says_said limit alone (unsubscribe h) before after w m n i t rest r j (record_of.unsubscribe v) a in
       subst (λ (l : List (List ℕ)). TopicItems s x.topics l) (sym (unsubscribe_topics c)) fs
 
@@ -302,10 +300,10 @@ subscribe_no_set h e = rw e
 
 -- ---- all of it, of `packet_write::write`
 
-pub packet_reads_back : (limit : Limit) (m : PacketHead) (p : Parts) (before after : List ℕ) (w : Written) → WrittenBehind (limit_of limit) (union_of m p) before after (told_written w) → Widths m → LentOctets p
-    → (n : ℕ) → w ≡ Written.Size n → Plain (own m p) → (r : Read) → reading.Meets Limit.Unlimited after r → ReadsAs after r (meant (own m p)) n
+pub packet_reads_back : (limit : Option ℕ) (m : PacketHead) (p : Parts) (before after : List ℕ) (w : Result ℕ Error) → WrittenBehind (limit_of limit) (union_of m p) before after (told_size w) → Widths m → LentOctets p
+    → (n : ℕ) → w ≡ Ok n → Plain (own m p) → (r : ReadResult) → reading.Meets None after r → ReadsAs after r (meant (own m p)) n
 packet_reads_back limit m p before after w c b l n i q r j =
     let d = writing.of_packet limit m p before after w c in
     let k = writing.frame_out limit (all is_empty (foreign m p)) (own m p) before after w d n i in
     subst (λ (s : List ℕ). ReadsAs s r (meant (own m p)) n) (sym k)
-    (reads_back limit (all is_empty (foreign m p)) (own m p) before after w d n i (typed m p b l) (drop n before) r (subst (λ (s : List ℕ). reading.Meets Limit.Unlimited s r) k j) q)
+    (reads_back limit (all is_empty (foreign m p)) (own m p) before after w d n i (typed m p b l) (drop n before) r (subst (λ (s : List ℕ). reading.Meets None s r) k j) q)

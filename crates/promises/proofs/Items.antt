@@ -1,5 +1,7 @@
 -- The n-th items of a record that was read: the answers of the item functions, each by its contract, are the lists of the sentence in
 -- order, and then 21. Assumes nothing.
+use Rattle.std.specs.Prelude as std
+use Rattle.std.specs.Prelude.{Some, Ok}
 use mathlib.Core.Path.{◌≡◌, refl, ap, ◌∙◌, subst}
 use mathlib.Core.Option.{Option, some}
 use mathlib.Core.List.{List}
@@ -15,17 +17,13 @@ use Rattle.reading.specs.Place.{as_places, Placed, filter_at, reason_at, topic_a
 use Rattle.reading.specs.Place as place
 use Rattle.records.specs.AsNumbers.{told_span, told_ack_kind, told_reply_kind}
 use Rattle.records.specs.Said.{told_publish_properties, told_properties, told_publish_block, told_block, told_publish, told_subscribe, told_ack, told_reply, told_unsubscribe}
-use Rattle.records.specs.declared.answer.Limit.{Limit}
-use Rattle.records.specs.declared.answer.Read.{Read}
 use Rattle.records.specs.declared.span.Bounds.{Bounds}
 use Rattle.records.specs.declared.packet_record.Packet as code
 use Rattle.records.specs.declared.ack_record.Ack.{Ack}
 use Rattle.records.specs.declared.ack_record.AckKind.{AckKind}
 use Rattle.records.specs.declared.properties_record.Properties.{Properties}
-use Rattle.records.specs.declared.properties_record.MaybeProperties.{MaybeProperties}
 use Rattle.records.specs.declared.publish_record.Publish.{Publish}
 use Rattle.records.specs.declared.publish_record.PublishProperties.{PublishProperties}
-use Rattle.records.specs.declared.publish_record.MaybePublishProperties.{MaybePublishProperties}
 use Rattle.records.specs.declared.reply_record.Reply.{Reply}
 use Rattle.records.specs.declared.reply_record.ReplyKind.{ReplyKind}
 use Rattle.records.specs.declared.subscribe_record.Subscribe.{Subscribe}
@@ -33,6 +31,7 @@ use Rattle.records.specs.declared.unsubscribe_record.Unsubscribe.{Unsubscribe}
 use Rattle.packet.specs.PacketRead.{Meets, Says}
 use Rattle.promises.specs.Reading.{UserItems, IdentifierItems, FilterItems, ReasonItems, TopicItems}
 use Rattle.promises.proofs.Reading.{items}
+use Rattle.records.specs.Answered.{ReadResult}
 
 -- two different constructors are not equal
 never : {X : Type 0} → ◌≡◌ {A = ℕ} 0 1 → X
@@ -122,7 +121,7 @@ module _ (s : List ℕ) where
   of_unsubscribe_lem of_ping m e = never (cc)
 
   -- user properties of a block in a row
-  block_items : (row : Row) {w : Option (Props (List ℕ) List)} (b : MaybeProperties) (p : Properties) → OnBoth (PropsItems s row) (told_block b) w → b ≡ MaybeProperties.Present p
+  block_items : (row : Row) {w : Option (Props (List ℕ) List)} (b : std.Option Properties) (p : Properties) → OnBoth (PropsItems s row) (told_block b) w → b ≡ Some p
       → (qs : Props (List ℕ) List) × (w ≡ some qs) × UserItems s row p.block qs.user
   block_items row b p o f =
       let (qs, j, l) = present o (told_properties p) (ap told_block f) in
@@ -135,9 +134,9 @@ itself (bad k) = refl
 
 -- ---- of an answer that meets the contract of `packet::read`
 
-module _ (limit : Limit) (s : List ℕ) (r : Read) (h : Meets limit s r) (o : Bounds) (n : ℕ) where
+module _ (limit : std.Option ℕ) (s : List ℕ) (r : ReadResult) (h : Meets limit s r) (o : Bounds) (n : ℕ) where
   -- user properties and subscription identifiers of a Publish that has a block
-  pub publish_items : (m : Publish) (p : PublishProperties) → r ≡ Read.Packet (code.Packet.Publish m) o n → m.properties ≡ MaybePublishProperties.Present p
+  pub publish_items : (m : Publish) (p : PublishProperties) → r ≡ Ok (code.Packet.Publish m, o, n) → m.properties ≡ Some p
       → (w : record_of.Publish (List ℕ) List) × (qs : PublishProps (List ℕ) List)
       × Says s r (accepted (publish w) n) × (w.props ≡ some qs) × UserItems s publish_row p.block qs.user × IdentifierItems s p.block qs.subscriptions
   publish_items m p e f =
@@ -147,7 +146,7 @@ module _ (limit : Limit) (s : List ℕ) (r : Read) (h : Meets limit s r) (o : Bo
       (w, qs, subst (λ (x : Packet). Says s r (accepted x n)) i a, j, λ k u c. ap (on_got (say_val s)) c ∙ l.0 k, λ k u c. ap (on_got (say_val s)) c ∙ l.1 k)
 
   -- user properties of a publish acknowledgement that has a block
-  pub ack_items : (k : AckKind) (m : Ack) (p : Properties) → r ≡ Read.Packet (code.Packet.Ack k m) o n → m.properties ≡ MaybeProperties.Present p
+  pub ack_items : (k : AckKind) (m : Ack) (p : Properties) → r ≡ Ok (code.Packet.Ack k m, o, n) → m.properties ≡ Some p
       → (w : record_of.Ack (List ℕ) List) × (qs : Props (List ℕ) List) × Says s r (accepted (ack (told_ack_kind k) w) n) × (w.props ≡ some qs) × UserItems s ack_row p.block qs.user
   ack_items k m p e f =
       let (v, a, t) = items limit s r h (code.Packet.Ack k m) o n e in
@@ -156,7 +155,7 @@ module _ (limit : Limit) (s : List ℕ) (r : Read) (h : Meets limit s r) (o : Bo
       (w, qs, subst (λ (x : Packet). Says s r (accepted x n)) i a, j, l)
 
   -- user properties of a Subscribe that has a block
-  pub subscribe_items : (m : Subscribe) (p : Properties) → r ≡ Read.Packet (code.Packet.Subscribe m) o n → m.properties ≡ MaybeProperties.Present p
+  pub subscribe_items : (m : Subscribe) (p : Properties) → r ≡ Ok (code.Packet.Subscribe m, o, n) → m.properties ≡ Some p
       → (w : record_of.Subscribe (List ℕ) List) × (qs : Props (List ℕ) List) × Says s r (accepted (subscribe w) n) × (w.props ≡ some qs) × UserItems s subscribe_row p.block qs.user
   subscribe_items m p e f =
       let (v, a, t) = items limit s r h (code.Packet.Subscribe m) o n e in
@@ -165,7 +164,7 @@ module _ (limit : Limit) (s : List ℕ) (r : Read) (h : Meets limit s r) (o : Bo
       (w, qs, subst (λ (x : Packet). Says s r (accepted x n)) i a, j, l)
 
   -- user properties of a SubAck or UnsubAck that has a block
-  pub reply_items : (k : ReplyKind) (m : Reply) (p : Properties) → r ≡ Read.Packet (code.Packet.Reply k m) o n → m.properties ≡ MaybeProperties.Present p
+  pub reply_items : (k : ReplyKind) (m : Reply) (p : Properties) → r ≡ Ok (code.Packet.Reply k m, o, n) → m.properties ≡ Some p
       → (w : record_of.Reply (List ℕ) List) × (qs : Props (List ℕ) List) × Says s r (accepted (reply (told_reply_kind k) w) n) × (w.props ≡ some qs) × UserItems s ack_row p.block qs.user
   reply_items k m p e f =
       let (v, a, t) = items limit s r h (code.Packet.Reply k m) o n e in
@@ -174,7 +173,7 @@ module _ (limit : Limit) (s : List ℕ) (r : Read) (h : Meets limit s r) (o : Bo
       (w, qs, subst (λ (x : Packet). Says s r (accepted x n)) i a, j, l)
 
   -- user properties of an Unsubscribe that has a block
-  pub unsubscribe_items : (m : Unsubscribe) (p : Properties) → r ≡ Read.Packet (code.Packet.Unsubscribe m) o n → m.properties ≡ MaybeProperties.Present p
+  pub unsubscribe_items : (m : Unsubscribe) (p : Properties) → r ≡ Ok (code.Packet.Unsubscribe m, o, n) → m.properties ≡ Some p
       → (w : record_of.Unsubscribe (List ℕ) List) × (qs : Props (List ℕ) List) × Says s r (accepted (unsubscribe w) n) × (w.props ≡ some qs) × UserItems s unsubscribe_row p.block qs.user
   unsubscribe_items m p e f =
       let (v, a, t) = items limit s r h (code.Packet.Unsubscribe m) o n e in
@@ -183,21 +182,21 @@ module _ (limit : Limit) (s : List ℕ) (r : Read) (h : Meets limit s r) (o : Bo
       (w, qs, subst (λ (x : Packet). Says s r (accepted x n)) i a, j, l)
 
   -- filters of a Subscribe
-  pub filter_items : (m : Subscribe) → r ≡ Read.Packet (code.Packet.Subscribe m) o n → (w : record_of.Subscribe (List ℕ) List) × Says s r (accepted (subscribe w) n) × FilterItems s m.filters w.filters
+  pub filter_items : (m : Subscribe) → r ≡ Ok (code.Packet.Subscribe m, o, n) → (w : record_of.Subscribe (List ℕ) List) × Says s r (accepted (subscribe w) n) × FilterItems s m.filters w.filters
   filter_items m e =
       let (v, a, t) = items limit s r h (code.Packet.Subscribe m) o n e in
       let (w, i, b, g) = of_subscribe_lem s t (told_subscribe m) refl in
       (w, subst (λ (x : Packet). Says s r (accepted x n)) i a, λ k u c. ap (on_got (say_filter s)) c ∙ g k)
 
   -- reasons of a SubAck or UnsubAck
-  pub reason_items : (k : ReplyKind) (m : Reply) → r ≡ Read.Packet (code.Packet.Reply k m) o n → (w : record_of.Reply (List ℕ) List) × Says s r (accepted (reply (told_reply_kind k) w) n) × ReasonItems s k m.reasons w.reasons
+  pub reason_items : (k : ReplyKind) (m : Reply) → r ≡ Ok (code.Packet.Reply k m, o, n) → (w : record_of.Reply (List ℕ) List) × Says s r (accepted (reply (told_reply_kind k) w) n) × ReasonItems s k m.reasons w.reasons
   reason_items k m e =
       let (v, a, t) = items limit s r h (code.Packet.Reply k m) o n e in
       let (w, i, b, g) = of_reply_lem s t (told_reply_kind k) (told_reply m) refl in
       (w, subst (λ (x : Packet). Says s r (accepted x n)) i a, λ j u c. c ∙ itself (reason_at s (told_span m.reasons) (reasons_of (told_reply_kind k)) j) ∙ g j)
 
   -- topics of an Unsubscribe
-  pub topic_items : (m : Unsubscribe) → r ≡ Read.Packet (code.Packet.Unsubscribe m) o n → (w : record_of.Unsubscribe (List ℕ) List) × Says s r (accepted (unsubscribe w) n) × TopicItems s m.topics w.topics
+  pub topic_items : (m : Unsubscribe) → r ≡ Ok (code.Packet.Unsubscribe m, o, n) → (w : record_of.Unsubscribe (List ℕ) List) × Says s r (accepted (unsubscribe w) n) × TopicItems s m.topics w.topics
   topic_items m e =
       let (v, a, t) = items limit s r h (code.Packet.Unsubscribe m) o n e in
       let (w, i, b, g) = of_unsubscribe_lem s t (told_unsubscribe m) refl in

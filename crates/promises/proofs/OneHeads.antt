@@ -1,4 +1,5 @@
 -- The heads of a packet to write, as `c_heads` makes them: what one hands over with empty lists leaves no choice of it. Assumes nothing.
+use Rattle.std.specs.Prelude.{Some, None, Result, Ok, Err}
 use mathlib.Core.Path.{◌≡◌, refl, ap}
 use mathlib.Core.Bool.{Bool, false}
 use mathlib.Core.Option.{none}
@@ -7,9 +8,6 @@ use mathlib.Core.List.{[]}
 use Rattle.reading.specs.Reader.{Fit, got, bad}
 use Rattle.writing.specs.Handed.{Handed, PublishHanded, SubscribeHanded, AckHanded, ReplyHanded, UnsubscribeHanded, publish, ack, subscribe, reply, unsubscribe, ping}
 use Rattle.records.proofs.AsNumbers.{back_bool, back_bool_lem, back_qos, back_qos_lem, back_ack_kind, back_ack_kind_lem, back_reply_kind, back_reply_kind_lem, back_error, back_error_lem}
-use Rattle.records.specs.declared.span.MaybeU8.{MaybeU8}
-use Rattle.records.specs.declared.span.MaybeU16.{MaybeU16}
-use Rattle.records.specs.declared.span.MaybeU32.{MaybeU32}
 use Rattle.publish_plan.specs.declared.head.PublishHead.{PublishHead}
 use Rattle.publish_plan.specs.Handed as publishing
 use Rattle.ack_write.specs.declared.AckHead.{AckHead}
@@ -22,13 +20,13 @@ use Rattle.records.specs.AsNumbers.{told_ack_kind, told_reply_kind}
 use Rattle.subscribe_write.specs.declared.SubscribeHead.{SubscribeHead}
 use Rattle.subscribe_write.specs.Handed as subscribing
 use Rattle.write_tests.specs.Tested.{told_tested}
-use Rattle.write_tests.specs.declared.Tested.{Tested}
 use Rattle.c_heads.specs.declared.publish_by.PublishBy.{PublishBy}
 use Rattle.c_heads.specs.declared.subscribe_by.SubscribeBy.{SubscribeBy}
 use Rattle.c_heads.specs.Head.{publish_handed, subscribe_handed}
 use Rattle.promises.specs.OneResult.{OneResult}
 use Rattle.promises.proofs.OneLaws.{one_by}
-use Rattle.promises.proofs.OneWriters.{back_number, back_number_u8, back_number_u16, back_number_u32}
+use Rattle.promises.proofs.OneWriters.{back_number, back_number_lem}
+use Rattle.records.specs.declared.error.Error.{Error}
 
 -- ---- a Publish
 
@@ -39,9 +37,9 @@ back_publish h = record {
   retain = back_bool h.retain;
   pkid = h.ident;
   block = h.block;
-  payload_format_indicator = back_number MaybeU8.Absent MaybeU8.Present h.format;
-  message_expiry_interval = back_number MaybeU32.Absent MaybeU32.Present h.expiry;
-  topic_alias = back_number MaybeU16.Absent MaybeU16.Present h.alias;
+  payload_format_indicator = back_number None Some h.format;
+  message_expiry_interval = back_number None Some h.expiry;
+  topic_alias = back_number None Some h.alias;
   response_topic = h.response.on;
   correlation_data = h.correlation.on;
   content_type = h.content.on;
@@ -52,16 +50,16 @@ abbrev no_publish : PublishHanded
 no_publish = record { dup = 0; qos = 0; retain = 0; topic = []; ident = 0; block = false; format = none; expiry = none; alias = none; response = record { on = false; bytes = [] }; correlation = record { on = false; bytes = [] }; user = record { bytes = []; lengths = [] }; subscriptions = []; content = record { on = false; bytes = [] }; payload = [] }
 
 back_publish_lem : (m : PublishHead) → back_publish (publishing.handed m [] [] [] [] [] [] [] []) ≡ m
-back_publish_lem m = simp (back_bool_lem, back_qos_lem, back_number_u8, back_number_u16, back_number_u32)
+back_publish_lem m = simp (back_bool_lem, back_qos_lem, back_number_lem)
 
 -- what C hands over of it: whether its numbers are 0 where their flags are off, the test of its QoS, and the head
-abbrev back_tested : Fit (Unit {0}) → Tested
-back_tested (got u) = Tested.Fine
-back_tested (bad k) = Tested.Refused (back_error k)
+abbrev back_tested : Fit (Unit {0}) → Result (Unit {0}) Error
+back_tested (got u) = (Ok tt)
+back_tested (bad k) = Err (back_error k)
 
-back_tested_lem : (t : Tested) → back_tested (told_tested t) ≡ t
-back_tested_lem Tested.Fine = refl
-back_tested_lem (Tested.Refused e) = ap Tested.Refused (back_error_lem e)
+back_tested_lem : (t : Result (Unit {0}) Error) → back_tested (told_tested t) ≡ t
+back_tested_lem (Ok tt) = refl
+back_tested_lem (Err e) = ap Err (back_error_lem e)
 
 abbrev back_handed : Handed → PublishHead
 back_handed (publish h) = back_publish h
@@ -122,14 +120,14 @@ unsubscribe_head_same = one_by (λ (m : UnsubscribeHead). unsubscribing.handed m
 -- ---- a Subscribe
 
 abbrev back_subscribe : SubscribeHanded → SubscribeHead
-back_subscribe h = record { pkid = h.ident; block = h.block; id = back_number MaybeU32.Absent MaybeU32.Present h.subscription }
+back_subscribe h = record { pkid = h.ident; block = h.block; id = back_number None Some h.subscription }
 
 -- for what is none
 abbrev no_subscribe : SubscribeHanded
 no_subscribe = record { ident = 0; block = false; subscription = none; user = record { bytes = []; lengths = [] }; filters = record { bytes = []; lengths = [] }; options = [] }
 
 back_subscribe_lem : (m : SubscribeHead) → back_subscribe (subscribing.handed m [] [] [] [] []) ≡ m
-back_subscribe_lem m = simp back_number_u32
+back_subscribe_lem m = simp back_number_lem
 
 abbrev back_subscribed : Handed → SubscribeHead
 back_subscribed (publish h) = back_subscribe no_subscribe

@@ -1,4 +1,6 @@
 -- What `kind_of` and `property` promise is 01's answer, in its number and values, and the telling leaves no choice of the case. Assumes nothing.
+use Rattle.std.specs.Prelude as std
+use Rattle.std.specs.Prelude.{Some, None}
 use mathlib.Core.Path.{◌≡◌, refl, ap, ◌∙◌}
 use mathlib.Core.Bool.{Bool, false, not}
 use mathlib.Core.Option.{Option, none, some}
@@ -63,33 +65,33 @@ kind_told_same = one_by kind_told (λ z. back_kind (row_of_kind z)) (λ r. ap ba
 
 -- ---- properties
 
-form_row : (i : ℕ) (r : PropertyForm) → form_told i r ≡ or_row (nr 10 (i ∷ [])) (told_form r)
-form_row i PropertyForm.U8 = refl
-form_row i PropertyForm.U16 = refl
-form_row i PropertyForm.U32 = refl
-form_row i PropertyForm.Number = refl
-form_row i PropertyForm.Text = refl
-form_row i PropertyForm.Bytes = refl
-form_row i PropertyForm.Pair = refl
-form_row i PropertyForm.NotHere = refl
+form_row : (i : ℕ) (r : std.Option PropertyForm) → form_told i r ≡ or_row (nr 10 (i ∷ [])) (told_form r)
+form_row i (Some PropertyForm.U8) = refl
+form_row i (Some PropertyForm.U16) = refl
+form_row i (Some PropertyForm.U32) = refl
+form_row i (Some PropertyForm.Number) = refl
+form_row i (Some PropertyForm.Text) = refl
+form_row i (Some PropertyForm.Bytes) = refl
+form_row i (Some PropertyForm.Pair) = refl
+form_row i None = refl
 
 -- of every answer that meets the contract of `property`: 01's row 10, or the form
-pub form_answered : (r : PropertyForm) (row : Row) (i : ℕ) → told_form r ≡ form_at row i → form_told i r ≡ form_answer row i
+pub form_answered : (r : std.Option PropertyForm) (row : Row) (i : ℕ) → told_form r ≡ form_at row i → form_told i r ≡ form_answer row i
 form_answered r row i e = form_row i r ∙ ap (or_row (nr 10 (i ∷ []))) e
 
 abbrev if_got : Fit Form → Option Form
 if_got (got f) = some f
 if_got (bad k) = none
 
-form_back : (i : ℕ) (r : PropertyForm) → if_got (form_told i r) ≡ told_form r
-form_back i PropertyForm.U8 = refl
-form_back i PropertyForm.U16 = refl
-form_back i PropertyForm.U32 = refl
-form_back i PropertyForm.Number = refl
-form_back i PropertyForm.Text = refl
-form_back i PropertyForm.Bytes = refl
-form_back i PropertyForm.Pair = refl
-form_back i PropertyForm.NotHere = refl
+form_back : (i : ℕ) (r : std.Option PropertyForm) → if_got (form_told i r) ≡ told_form r
+form_back i (Some PropertyForm.U8) = refl
+form_back i (Some PropertyForm.U16) = refl
+form_back i (Some PropertyForm.U32) = refl
+form_back i (Some PropertyForm.Number) = refl
+form_back i (Some PropertyForm.Text) = refl
+form_back i (Some PropertyForm.Bytes) = refl
+form_back i (Some PropertyForm.Pair) = refl
+form_back i None = refl
 
 pub form_told_same : (i : ℕ) → OneResult (form_told i)
 form_told_same i = one_by (form_told i) (λ z. back_form (if_got z)) (λ r. ap back_form (form_back i r) ∙ back_form_lem r)

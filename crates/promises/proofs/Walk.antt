@@ -1,5 +1,7 @@
 -- A list at a place, walked item by item over the stream up to its end, gives the items of the list; so of a record that was read the
 -- walk gives the lists of the sentence in order. Assumes nothing.
+use Rattle.std.specs.Prelude as std
+use Rattle.std.specs.Prelude.{Some, Ok}
 use mathlib.Core.Path.{◌≡◌, refl, sym, ap, ◌∙◌, subst}
 use mathlib.Core.Bool.{Bool, true, false}
 use mathlib.Core.Option.{Option, some}
@@ -33,17 +35,13 @@ use Rattle.positions.proofs.Trails.{Trails, trails_text, trails_property, trails
 use Rattle.positions.proofs.Walk.{Less}
 use Rattle.records.specs.AsNumbers.{told_span, told_ack_kind, told_reply_kind}
 use Rattle.records.specs.Said.{told_publish_properties, told_properties, told_publish_block, told_block, told_publish, told_subscribe, told_ack, told_reply, told_unsubscribe}
-use Rattle.records.specs.declared.answer.Limit.{Limit}
-use Rattle.records.specs.declared.answer.Read.{Read}
 use Rattle.records.specs.declared.span.Bounds.{Bounds}
 use Rattle.records.specs.declared.packet_record.Packet as code
 use Rattle.records.specs.declared.ack_record.Ack.{Ack}
 use Rattle.records.specs.declared.ack_record.AckKind.{AckKind}
 use Rattle.records.specs.declared.properties_record.Properties.{Properties}
-use Rattle.records.specs.declared.properties_record.MaybeProperties.{MaybeProperties}
 use Rattle.records.specs.declared.publish_record.Publish.{Publish}
 use Rattle.records.specs.declared.publish_record.PublishProperties.{PublishProperties}
-use Rattle.records.specs.declared.publish_record.MaybePublishProperties.{MaybePublishProperties}
 use Rattle.records.specs.declared.reply_record.Reply.{Reply}
 use Rattle.records.specs.declared.reply_record.ReplyKind.{ReplyKind}
 use Rattle.records.specs.declared.subscribe_record.Subscribe.{Subscribe}
@@ -52,6 +50,7 @@ use Rattle.packet.specs.PacketRead.{Meets, Says}
 use Rattle.promises.specs.Walk.{Walked, arrived, onward, Walks, next_filter, next_topic, UserWalk, PublishWalk, FilterWalk, TopicWalk}
 use Rattle.promises.proofs.Reading.{record_says}
 use Rattle.promises.proofs.Items.{present}
+use Rattle.records.specs.Answered.{ReadResult}
 
 -- ---- a walk gives one list
 
@@ -200,7 +199,7 @@ module _ (s : List ℕ) where
   props_walk kind row h p = from_bind (values_at as_bytes s (told_span p.block) row 38) _ λ us e.
       from_got (λ (qs : Props (List ℕ) List). UserWalk kind s (told_span p.block) qs.user) _ (user_walk kind row h (told_span p.block) us e)
 
-  block_walks : (kind : ℕ) (row : Row) → row_of_kind kind ≡ some row → {w : Option (Props (List ℕ) List)} (b : MaybeProperties) (p : Properties) → OnBoth (Reading (say_props s row)) (told_block b) w → b ≡ MaybeProperties.Present p
+  block_walks : (kind : ℕ) (row : Row) → row_of_kind kind ≡ some row → {w : Option (Props (List ℕ) List)} (b : std.Option Properties) (p : Properties) → OnBoth (Reading (say_props s row)) (told_block b) w → b ≡ Some p
       → (qs : Props (List ℕ) List) × (w ≡ some qs) × UserWalk kind s (told_span p.block) qs.user
   block_walks kind row h b p o f =
       let (qs, k, l) = present o (told_properties p) (ap told_block f) in
@@ -253,9 +252,9 @@ reply_row ReplyKind.UnsubAck = refl
 
 -- ---- of an answer that meets the contract of `packet::read`
 
-module _ (limit : Limit) (s : List ℕ) (r : Read) (h : Meets limit s r) (o : Bounds) (n : ℕ) where
+module _ (limit : std.Option ℕ) (s : List ℕ) (r : ReadResult) (h : Meets limit s r) (o : Bounds) (n : ℕ) where
   -- user properties and subscription identifiers of a Publish that has a block
-  pub publish_walk : (m : Publish) (p : PublishProperties) → r ≡ Read.Packet (code.Packet.Publish m) o n → m.properties ≡ MaybePublishProperties.Present p
+  pub publish_walk : (m : Publish) (p : PublishProperties) → r ≡ Ok (code.Packet.Publish m, o, n) → m.properties ≡ Some p
       → (w : record_of.Publish (List ℕ) List) × (qs : PublishProps (List ℕ) List)
       × Says s r (accepted (publish w) n) × (w.props ≡ some qs) × PublishWalk s (told_span p.block) qs.user qs.subscriptions
   publish_walk m p e f =
@@ -265,7 +264,7 @@ module _ (limit : Limit) (s : List ℕ) (r : Read) (h : Meets limit s r) (o : Bo
       (w, qs, subst (λ (x : Packet). Says s r (accepted x n)) j a, k, publish_block_walk s p qs l)
 
   -- user properties of a publish acknowledgement that has a block
-  pub ack_walk : (k : AckKind) (m : Ack) (p : Properties) → r ≡ Read.Packet (code.Packet.Ack k m) o n → m.properties ≡ MaybeProperties.Present p
+  pub ack_walk : (k : AckKind) (m : Ack) (p : Properties) → r ≡ Ok (code.Packet.Ack k m, o, n) → m.properties ≡ Some p
       → (w : record_of.Ack (List ℕ) List) × (qs : Props (List ℕ) List) × Says s r (accepted (ack (told_ack_kind k) w) n) × (w.props ≡ some qs) × UserWalk (told_ack_kind k) s (told_span p.block) qs.user
   ack_walk k m p e f =
       let (v, i, a) = record_says limit s r h (code.Packet.Ack k m) o n e in
@@ -274,7 +273,7 @@ module _ (limit : Limit) (s : List ℕ) (r : Read) (h : Meets limit s r) (o : Bo
       (w, qs, subst (λ (x : Packet). Says s r (accepted x n)) j a, k', l)
 
   -- user properties of a Subscribe that has a block
-  pub subscribe_walk : (m : Subscribe) (p : Properties) → r ≡ Read.Packet (code.Packet.Subscribe m) o n → m.properties ≡ MaybeProperties.Present p
+  pub subscribe_walk : (m : Subscribe) (p : Properties) → r ≡ Ok (code.Packet.Subscribe m, o, n) → m.properties ≡ Some p
       → (w : record_of.Subscribe (List ℕ) List) × (qs : Props (List ℕ) List) × Says s r (accepted (subscribe w) n) × (w.props ≡ some qs) × UserWalk 8 s (told_span p.block) qs.user
   unfolding row_of_kind kinds
   subscribe_walk m p e f =
@@ -284,7 +283,7 @@ module _ (limit : Limit) (s : List ℕ) (r : Read) (h : Meets limit s r) (o : Bo
       (w, qs, subst (λ (x : Packet). Says s r (accepted x n)) j a, k', l)
 
   -- user properties of a SubAck or UnsubAck that has a block
-  pub reply_walk : (k : ReplyKind) (m : Reply) (p : Properties) → r ≡ Read.Packet (code.Packet.Reply k m) o n → m.properties ≡ MaybeProperties.Present p
+  pub reply_walk : (k : ReplyKind) (m : Reply) (p : Properties) → r ≡ Ok (code.Packet.Reply k m, o, n) → m.properties ≡ Some p
       → (w : record_of.Reply (List ℕ) List) × (qs : Props (List ℕ) List) × Says s r (accepted (reply (told_reply_kind k) w) n) × (w.props ≡ some qs) × UserWalk (told_reply_kind k) s (told_span p.block) qs.user
   reply_walk k m p e f =
       let (v, i, a) = record_says limit s r h (code.Packet.Reply k m) o n e in
@@ -293,7 +292,7 @@ module _ (limit : Limit) (s : List ℕ) (r : Read) (h : Meets limit s r) (o : Bo
       (w, qs, subst (λ (x : Packet). Says s r (accepted x n)) j a, k', l)
 
   -- user properties of an Unsubscribe that has a block
-  pub unsubscribe_walk : (m : Unsubscribe) (p : Properties) → r ≡ Read.Packet (code.Packet.Unsubscribe m) o n → m.properties ≡ MaybeProperties.Present p
+  pub unsubscribe_walk : (m : Unsubscribe) (p : Properties) → r ≡ Ok (code.Packet.Unsubscribe m, o, n) → m.properties ≡ Some p
       → (w : record_of.Unsubscribe (List ℕ) List) × (qs : Props (List ℕ) List) × Says s r (accepted (unsubscribe w) n) × (w.props ≡ some qs) × UserWalk 10 s (told_span p.block) qs.user
   unfolding row_of_kind kinds
   unsubscribe_walk m p e f =
@@ -303,14 +302,14 @@ module _ (limit : Limit) (s : List ℕ) (r : Read) (h : Meets limit s r) (o : Bo
       (w, qs, subst (λ (x : Packet). Says s r (accepted x n)) j a, k', l)
 
   -- filters of a Subscribe
-  pub filter_walk : (m : Subscribe) → r ≡ Read.Packet (code.Packet.Subscribe m) o n → (w : record_of.Subscribe (List ℕ) List) × Says s r (accepted (subscribe w) n) × FilterWalk s (told_span m.filters) w.filters
+  pub filter_walk : (m : Subscribe) → r ≡ Ok (code.Packet.Subscribe m, o, n) → (w : record_of.Subscribe (List ℕ) List) × Says s r (accepted (subscribe w) n) × FilterWalk s (told_span m.filters) w.filters
   filter_walk m e =
       let (v, i, a) = record_says limit s r h (code.Packet.Subscribe m) o n e in
       let (w, j, b, g) = says_subscribe s (told_subscribe m) v i in
       (w, subst (λ (x : Packet). Says s r (accepted x n)) j a, g)
 
   -- topics of an Unsubscribe
-  pub topic_walk : (m : Unsubscribe) → r ≡ Read.Packet (code.Packet.Unsubscribe m) o n → (w : record_of.Unsubscribe (List ℕ) List) × Says s r (accepted (unsubscribe w) n) × TopicWalk s (told_span m.topics) w.topics
+  pub topic_walk : (m : Unsubscribe) → r ≡ Ok (code.Packet.Unsubscribe m, o, n) → (w : record_of.Unsubscribe (List ℕ) List) × Says s r (accepted (unsubscribe w) n) × TopicWalk s (told_span m.topics) w.topics
   topic_walk m e =
       let (v, i, a) = record_says limit s r h (code.Packet.Unsubscribe m) o n e in
       let (w, j, b, g) = says_unsubscribe s (told_unsubscribe m) v i in

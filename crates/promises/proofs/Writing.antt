@@ -1,5 +1,7 @@
 -- Demands 1 and 2 for the writers, on one page: of every answer and output that meets the contract of `packet_write::write`, or of a kind's
 -- own `write`. Each theorem of `writing` is cited. Assumes nothing.
+use Rattle.std.specs.Prelude as std
+use Rattle.std.specs.Prelude.{Result, Ok, Err}
 use mathlib.Core.Path.{◌≡◌, refl, sym, ap, subst, ◌∙◌}
 use mathlib.Core.Bool.{Bool, true, false, false≢true}
 use mathlib.Core.Option.{Option}
@@ -24,11 +26,8 @@ use Rattle.writing.specs.Meant.{said, Typed}
 use Rattle.writing.proofs.Verdict.{accepted_when, refused_when, answered_when, unanswered_when, sized_when, unsized_when}
 use Rattle.writing.proofs.Demand.{writes, written_size, out_refused, out_written, out_length}
 use Rattle.records.specs.AsNumbers.{told_error, row_of, limit_of}
-use Rattle.records.specs.Answered.{told_sized, told_written}
-use Rattle.records.proofs.Answered.{sized_injective, written_injective}
-use Rattle.records.specs.declared.answer.Limit.{Limit}
-use Rattle.records.specs.declared.answer.Sized.{Sized}
-use Rattle.records.specs.declared.answer.Written.{Written}
+use Rattle.records.specs.Answered.{told_size}
+use Rattle.records.proofs.Answered.{size_injective}
 use Rattle.records.specs.declared.error.Error.{Error}
 use Rattle.packet_write.specs.Parts.{Parts, foreign}
 use Rattle.packet_write.specs.Union.{own, union_of}
@@ -39,13 +38,13 @@ use Rattle.promises.specs.Writing as refusing
 -- ---- whose contract it is
 
 -- of `packet_write::write`
-pub of_packet : (limit : Limit) (m : PacketHead) (p : Parts) (before after : List ℕ) (w : Written)
-    → WrittenBehind (limit_of limit) (union_of m p) before after (told_written w) → Obeys limit (all is_empty (foreign m p)) (own m p) before after w
+pub of_packet : (limit : std.Option ℕ) (m : PacketHead) (p : Parts) (before after : List ℕ) (w : Result ℕ Error)
+    → WrittenBehind (limit_of limit) (union_of m p) before after (told_size w) → Obeys limit (all is_empty (foreign m p)) (own m p) before after w
 unfolding union_of
 of_packet limit m p before after w c = c
 
 -- of a kind's own `write`
-pub of_kind : (limit : Limit) (h : Handed) (before after : List ℕ) (w : Written) → writing.Written (limit_of limit) h before after (told_written w) → Obeys limit true h before after w
+pub of_kind : (limit : std.Option ℕ) (h : Handed) (before after : List ℕ) (w : Result ℕ Error) → writing.Written (limit_of limit) h before after (told_size w) → Obeys limit true h before after w
 unfolding answered_behind out_behind out_of
 of_kind limit h before after w c = record { answer = c.answer; output = c.output }
 
@@ -85,10 +84,10 @@ row_of_lem (no_room c l u n a r) = refl
 
 -- ---- the answer
 
-module _ (limit : Limit) (alone : Bool) (h : Handed) (before after : List ℕ) (w : Written) (m : Obeys limit alone h before after w) where
+module _ (limit : std.Option ℕ) (alone : Bool) (h : Handed) (before after : List ℕ) (w : Result ℕ Error) (m : Obeys limit alone h before after w) where
   -- inputs admit one answer only, and one output
-  pub one_answer : (after' : List ℕ) (w' : Written) → Obeys limit alone h before after' w' → (w ≡ w') × (after ≡ after')
-  one_answer after' w' m' = (written_injective (m.answer ∙ sym m'.answer), m.output ∙ sym m'.output)
+  pub one_answer : (after' : List ℕ) (w' : Result ℕ Error) → Obeys limit alone h before after' w' → (w ≡ w') × (after ≡ after')
+  one_answer after' w' m' = (size_injective (m.answer ∙ sym m'.answer), m.output ∙ sym m'.output)
 
 -- what a refusal is, by whether only what belongs to the record is lent
 as_own : {P : Refusal → Type 0} {k : Refusal} → Refusing P true k → P k
@@ -100,30 +99,30 @@ as_foreign refusing.foreign = refl
 is_foreign : {P : Refusal → Type 0} {k : Refusal} → ◌≡◌ {A = Fit ℕ} (bad (nr 20 [])) (bad k) → Refusing P false k
 is_foreign {P} {k} e = let i : nr 20 [] ≡ k = cc in subst (Refusing P false) i refusing.foreign
 
-module _ (limit : Limit) (h : Handed) (before after : List ℕ) (w : Written) where
+module _ (limit : std.Option ℕ) (h : Handed) (before after : List ℕ) (w : Result ℕ Error) where
   -- each refusal is given exactly when its row says, in 01's writing order
-  pub refused : (alone : Bool) → Obeys limit alone h before after w → (e : Error) → (w ≡ Written.Refused e) ↔ Refusing (Refuses (limit_of limit) (length before) h) alone (told_error e)
+  pub refused : (alone : Bool) → Obeys limit alone h before after w → (e : Error) → (w ≡ Err e) ↔ Refusing (Refuses (limit_of limit) (length before) h) alone (told_error e)
   unfolding answered_behind
   refused true m e =
       let u = unanswered_when (limit_of limit) (length before) h (told_error e) in
-      (λ i. refusing.own (u.0 (sym m.answer ∙ ap told_written i)), λ r. written_injective (m.answer ∙ u.1 (as_own r)))
-  refused false m e = (λ i. is_foreign (sym m.answer ∙ ap told_written i), λ r. written_injective (m.answer ∙ ap bad (as_foreign r)))
+      (λ i. refusing.own (u.0 (sym m.answer ∙ ap told_size i)), λ r. size_injective (m.answer ∙ u.1 (as_own r)))
+  refused false m e = (λ i. is_foreign (sym m.answer ∙ ap told_size i), λ r. size_injective (m.answer ∙ ap bad (as_foreign r)))
 
   -- and the size exactly when no row applies
-  pub accepted : (alone : Bool) → Obeys limit alone h before after w → (n : ℕ) → (w ≡ Written.Size n) ↔ ((alone ≡ true) × Accepts (limit_of limit) (length before) h × (size_is h ≡ n))
+  pub accepted : (alone : Bool) → Obeys limit alone h before after w → (n : ℕ) → (w ≡ Ok n) ↔ ((alone ≡ true) × Accepts (limit_of limit) (length before) h × (size_is h ≡ n))
   unfolding answered_behind
   accepted true m n =
       let u = answered_when (limit_of limit) (length before) h n in
-      (λ i. let (a, l) = u.0 (sym m.answer ∙ ap told_written i) in (refl, a, l), λ (t, a, l). written_injective (m.answer ∙ u.1 (a, l)))
-  accepted false m n = (λ i. absurd (bad_got (sym m.answer ∙ ap told_written i)), λ (t, a, l). absurd (false≢true t))
+      (λ i. let (a, l) = u.0 (sym m.answer ∙ ap told_size i) in (refl, a, l), λ (t, a, l). size_injective (m.answer ∙ u.1 (a, l)))
+  accepted false m n = (λ i. absurd (bad_got (sym m.answer ∙ ap told_size i)), λ (t, a, l). absurd (false≢true t))
 
   -- demand 1: a refusal of 01's writing order, and no other
-  pub refused_row : (alone : Bool) → Obeys limit alone h before after w → (e : Error) → w ≡ Written.Refused e → is_in (row_of (told_error e)) writer_rows ≡ true
+  pub refused_row : (alone : Bool) → Obeys limit alone h before after w → (e : Error) → w ≡ Err e → is_in (row_of (told_error e)) writer_rows ≡ true
   refused_row true m e i = row_of_lem (as_own ((refused true m e).0 i))
   refused_row false m e i = rw (← as_foreign ((refused false m e).0 i))
 
   -- 01: "A refused write leaves the output as it stood"
-  pub refused_keeps : (alone : Bool) → Obeys limit alone h before after w → (e : Error) → w ≡ Written.Refused e → after ≡ before
+  pub refused_keeps : (alone : Bool) → Obeys limit alone h before after w → (e : Error) → w ≡ Err e → after ≡ before
   unfolding out_behind out_of
   refused_keeps true m e i =
       m.output ∙ out_refused (limit_of limit) before h (told_error e) ((refused_when (limit_of limit) (length before) h (told_error e)).1 (as_own ((refused true m e).0 i)))
@@ -137,7 +136,7 @@ module _ (limit : Limit) (h : Handed) (before after : List ℕ) (w : Written) wh
 
 -- ---- an accepted write
 
-module _ (limit : Limit) (alone : Bool) (h : Handed) (before after : List ℕ) (w : Written) (m : Obeys limit alone h before after w) (n : ℕ) (i : w ≡ Written.Size n) where
+module _ (limit : std.Option ℕ) (alone : Bool) (h : Handed) (before after : List ℕ) (w : Result ℕ Error) (m : Obeys limit alone h before after w) (n : ℕ) (i : w ≡ Ok n) where
   -- nothing is lent that does not belong to the record
   pub is_alone : alone ≡ true
   is_alone = ((accepted limit h before after w alone m n).0 i).0
@@ -157,11 +156,11 @@ module _ (limit : Limit) (alone : Bool) (h : Handed) (before after : List ℕ) (
       m.output ∙ rw (is_alone) (out_written (limit_of limit) before h (frame_bytes h) frame_written ∙ rw frame_size)
 
   -- the size, asked alone, is the same
-  pub same_size : (z : Sized) → Counts alone h z → z ≡ Sized.Size n
+  pub same_size : (z : Result ℕ Error) → Counts alone h z → z ≡ Ok n
   unfolding sized_behind
   same_size z e =
       let (t, a, l) = (accepted limit h before after w alone m n).0 i in
-      sized_injective (rw t at e ∙ (sized_when h n).1 ((a.countable.belongs, a.countable.rest), l))
+      size_injective (rw t at e ∙ (sized_when h n).1 ((a.countable.belongs, a.countable.rest), l))
 
   -- demand 2: the frame is bytes, and a sentence that says the record
   pub frame_octets : Typed h → Octets (frame_bytes h)
@@ -173,29 +172,29 @@ module _ (limit : Limit) (alone : Bool) (h : Handed) (before after : List ℕ) (
 -- ---- the size, asked alone
 
 -- of `packet_write::size`
-pub counts_packet : (m : PacketHead) (p : Parts) (z : Sized) → told_sized z ≡ sized_behind (union_of m p) → Counts (all is_empty (foreign m p)) (own m p) z
+pub counts_packet : (m : PacketHead) (p : Parts) (z : Result ℕ Error) → told_size z ≡ sized_behind (union_of m p) → Counts (all is_empty (foreign m p)) (own m p) z
 unfolding union_of
 counts_packet m p z c = c
 
 -- of a kind's own `size`
-pub counts_kind : (h : Handed) (z : Sized) → told_sized z ≡ size_of h → Counts true h z
+pub counts_kind : (h : Handed) (z : Result ℕ Error) → told_size z ≡ size_of h → Counts true h z
 unfolding sized_behind
 counts_kind h z c = c
 
-module _ (h : Handed) (z : Sized) where
+module _ (h : Handed) (z : Result ℕ Error) where
   -- 01: "Asked alone, size refuses only with 20, then 17 for R"
-  pub uncounted : (alone : Bool) → Counts alone h z → (e : Error) → (z ≡ Sized.Refused e) ↔ Refusing (Unsized h) alone (told_error e)
+  pub uncounted : (alone : Bool) → Counts alone h z → (e : Error) → (z ≡ Err e) ↔ Refusing (Unsized h) alone (told_error e)
   unfolding sized_behind
   uncounted true c e =
       let u = unsized_when h (told_error e) in
-      (λ i. refusing.own (u.0 (sym c ∙ ap told_sized i)), λ r. sized_injective (c ∙ u.1 (as_own r)))
-  uncounted false c e = (λ i. is_foreign (sym c ∙ ap told_sized i), λ r. sized_injective (c ∙ ap bad (as_foreign r)))
+      (λ i. refusing.own (u.0 (sym c ∙ ap told_size i)), λ r. size_injective (c ∙ u.1 (as_own r)))
+  uncounted false c e = (λ i. is_foreign (sym c ∙ ap told_size i), λ r. size_injective (c ∙ ap bad (as_foreign r)))
 
   -- 01: "size leaves out a Publish identifier that is 0, and counts four bytes for a subscription identifier too large to write": the size is
   -- given, and is this number, exactly when nothing else is lent, what is handed over belongs together and R can be written
-  pub counted : (alone : Bool) → Counts alone h z → (n : ℕ) → (z ≡ Sized.Size n) ↔ ((alone ≡ true) × refuse.HasSize h × (size_is h ≡ n))
+  pub counted : (alone : Bool) → Counts alone h z → (n : ℕ) → (z ≡ Ok n) ↔ ((alone ≡ true) × refuse.HasSize h × (size_is h ≡ n))
   unfolding sized_behind
   counted true c n =
       let u = sized_when h n in
-      (λ i. let (a, l) = u.0 (sym c ∙ ap told_sized i) in (refl, a, l), λ (t, a, l). sized_injective (c ∙ u.1 (a, l)))
-  counted false c n = (λ i. absurd (bad_got (sym c ∙ ap told_sized i)), λ (t, a, l). absurd (false≢true t))
+      (λ i. let (a, l) = u.0 (sym c ∙ ap told_size i) in (refl, a, l), λ (t, a, l). size_injective (c ∙ u.1 (a, l)))
+  counted false c n = (λ i. absurd (bad_got (sym c ∙ ap told_size i)), λ (t, a, l). absurd (false≢true t))

@@ -1,6 +1,7 @@
 -- Answers that stand for a refusal, told in 01's number and values: the kind of a frame (rows 4 and 6) and the form of a property (row 10).
 -- Assumes nothing.
-use Rattle.std.specs.Prelude.{Bool, not, [], ◌∷◌, ℕ}
+use Rattle.std.specs.Prelude as std
+use Rattle.std.specs.Prelude.{not, [], ◌∷◌, ℕ, Some, None}
 use Rattle.std.proofs.Math.Option.{Option, none, some}
 use Rattle.grammar.specs.Choice.{is_in, lookup}
 use Rattle.grammar.specs.Tables.{Form, u8, u16, u32, number, text, bytes, pair, Row, form_at, Layout, a_publish, an_ack, a_subscribe, a_reply, an_unsubscribe, a_ping, kinds, reserved, reasons_of}
@@ -39,15 +40,15 @@ kind_answer k = do
 -- ---- properties
 
 -- the form of property i; 01, row 10: InvalidPropertyType(i)
-abbrev pub form_told : ℕ → PropertyForm → Fit Form
-form_told i PropertyForm.U8 = got u8
-form_told i PropertyForm.U16 = got u16
-form_told i PropertyForm.U32 = got u32
-form_told i PropertyForm.Number = got number
-form_told i PropertyForm.Text = got text
-form_told i PropertyForm.Bytes = got bytes
-form_told i PropertyForm.Pair = got pair
-form_told i PropertyForm.NotHere = bad (nr 10 (i ∷ []))
+abbrev pub form_told : ℕ → std.Option PropertyForm → Fit Form
+form_told i (Some PropertyForm.U8) = got u8
+form_told i (Some PropertyForm.U16) = got u16
+form_told i (Some PropertyForm.U32) = got u32
+form_told i (Some PropertyForm.Number) = got number
+form_told i (Some PropertyForm.Text) = got text
+form_told i (Some PropertyForm.Bytes) = got bytes
+form_told i (Some PropertyForm.Pair) = got pair
+form_told i None = bad (nr 10 (i ∷ []))
 
 -- 01, row 10: "identifier not in its place's row"
 abbrev pub form_answer : Row → ℕ → Fit Form

@@ -1,4 +1,5 @@
 -- What the parts and the items of a record are to say. Assumes nothing.
+use Rattle.std.specs.Prelude as std
 use Rattle.std.specs.Prelude.{◌≡◌, List, ℕ}
 use Rattle.std.proofs.Math.Option.{Option}
 use Rattle.std.specs.Borrow.{Bor}
@@ -9,12 +10,6 @@ use Rattle.reading.specs.Place.{nth_of, on_got, held_of, say_val, say_filter}
 use Rattle.reading.specs.Place as place
 use Rattle.records.specs.AsNumbers.{told_span}
 use Rattle.records.specs.Answered.{told_user, told_identifier, told_filter_item, told_reason_item, told_topic_item}
-use Rattle.records.specs.declared.answer.UserItem.{UserItem}
-use Rattle.records.specs.declared.answer.IdentifierItem.{IdentifierItem}
-use Rattle.records.specs.declared.answer.FilterItem.{FilterItem}
-use Rattle.records.specs.declared.answer.ReasonItem.{ReasonItem}
-use Rattle.records.specs.declared.answer.TopicItem.{TopicItem}
-use Rattle.records.specs.declared.properties_record.MaybeProperties.{MaybeProperties}
 use Rattle.records.specs.declared.publish_record.Publish.{Publish}
 use Rattle.records.specs.declared.span.Span.{Span}
 use Rattle.wire.specs.Part.{PartAt, place_if}
@@ -25,6 +20,8 @@ use Rattle.filter_runs.specs.FilterRun.{NthFilter}
 use Rattle.entry_runs.specs.EntryRun.{NthReason, NthTopic}
 use Rattle.records.specs.declared.reply_record.ReplyKind.{ReplyKind}
 use Rattle.publish_parts.specs.Parts.{response, correlation, content}
+use Rattle.records.specs.declared.subscribe_record.Filter.{Filter}
+use Rattle.records.specs.declared.properties_record.Properties.{Properties}
 
 -- ---- parts
 
@@ -46,7 +43,7 @@ pub record PublishParts (s : List ℕ) (m : Publish) (w : record_of.Publish (Lis
   pub content_part : PartSays s (place_if (content m)) (string_if itself (in_block (λ ps. ps.content) w.props))
 
 -- the same of the reason string of an acknowledgement or reply with these properties, which `ack` gives
-pub record ReasonPart (s : List ℕ) (properties : MaybeProperties) (w : Option (record_of.Props (List ℕ) List)) : Type 0 where
+pub record ReasonPart (s : List ℕ) (properties : std.Option Properties) (w : Option (record_of.Props (List ℕ) List)) : Type 0 where
   pub reason_part : PartSays s (place_if (reason properties)) (string_if itself (in_block (λ ps. ps.reason) w))
 
 -- ---- items
@@ -54,20 +51,20 @@ pub record ReasonPart (s : List ℕ) (properties : MaybeProperties) (w : Option 
 -- 01: "a way to get the n-th pair, identifier or filter, n from 0": every answer that meets the contract of `items::user_property`, of the
 -- block b in a row of 01's table, says the k-th of vs, and 21 past the last
 abbrev pub UserItems : List ℕ → Row → Span → List Value → Type 0
-UserItems s place b vs = (k : ℕ) (u : UserItem) → NthUser place s b k u → on_got (say_val s) (told_user u) ≡ nth_of k vs
+UserItems s place b vs = (k : ℕ) (u : std.Option (Span × Span)) → NthUser place s b k u → on_got (say_val s) (told_user u) ≡ nth_of k vs
 
 -- the same of `items::subscription_identifier`
 abbrev pub IdentifierItems : List ℕ → Span → List Value → Type 0
-IdentifierItems s b vs = (k : ℕ) (u : IdentifierItem) → NthIdentifier s b k u → on_got (say_val s) (told_identifier u) ≡ nth_of k vs
+IdentifierItems s b vs = (k : ℕ) (u : std.Option ℕ) → NthIdentifier s b k u → on_got (say_val s) (told_identifier u) ≡ nth_of k vs
 
 -- and of `filter_runs::filter`, of the run at b
 abbrev pub FilterItems : List ℕ → Span → List (record_of.Filter (List ℕ)) → Type 0
-FilterItems s b fs = (k : ℕ) (u : FilterItem) → NthFilter s b k u → on_got (say_filter s) (told_filter_item u) ≡ nth_of k fs
+FilterItems s b fs = (k : ℕ) (u : std.Option Filter) → NthFilter s b k u → on_got (say_filter s) (told_filter_item u) ≡ nth_of k fs
 
 -- 02, P1: of `entry_runs::reason`, of the run at b in a frame of the kind
 abbrev pub ReasonItems : List ℕ → ReplyKind → Span → List ℕ → Type 0
-ReasonItems s kind b cs = (k : ℕ) (u : ReasonItem) → NthReason s b kind k u → told_reason_item u ≡ nth_of k cs
+ReasonItems s kind b cs = (k : ℕ) (u : std.Option ℕ) → NthReason s b kind k u → told_reason_item u ≡ nth_of k cs
 
 -- 02, P1: and of `entry_runs::topic`, of the run at b
 abbrev pub TopicItems : List ℕ → Span → List (List ℕ) → Type 0
-TopicItems s b ts = (k : ℕ) (u : TopicItem) → NthTopic s b k u → on_got (held_of s) (told_topic_item u) ≡ nth_of k ts
+TopicItems s b ts = (k : ℕ) (u : std.Option Span) → NthTopic s b k u → on_got (held_of s) (told_topic_item u) ≡ nth_of k ts

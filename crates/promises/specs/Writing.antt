@@ -1,5 +1,5 @@
 -- The contract that an answer of a writer meets, its refusals, and what the types of its arguments ensure. Assumes nothing.
-use Rattle.std.specs.Prelude.{◌≡◌, Bool, true, false, List, [], ◌∷◌, ℕ, ◌<◌}
+use Rattle.std.specs.Prelude.{◌≡◌, Bool, true, false, List, [], ◌∷◌, ℕ, ◌<◌, Option, Result, Ok}
 use Rattle.grammar.specs.Octets.{Octets}
 use Rattle.grammar.specs.Sentence.{Packet}
 use Rattle.reading.specs.Refusal.{Refusal, nr}
@@ -7,35 +7,32 @@ use Rattle.reading.specs.Reader.{got, ◌>>◌, guard}
 use Rattle.writing.specs.Handed.{Handed}
 use Rattle.writing.specs.Meant.{Below}
 use Rattle.reading.specs.Place.{say, Items}
-use Rattle.records.specs.AsNumbers.{limit_of, number_u8, number_u16, number_u32}
+use Rattle.records.specs.AsNumbers.{limit_of, number_if}
 use Rattle.records.specs.Said.{told_packet}
-use Rattle.records.specs.Answered.{told_sized, told_written}
-use Rattle.records.specs.declared.answer.Limit.{Limit}
-use Rattle.records.specs.declared.answer.Read.{Read}
+use Rattle.records.specs.Answered.{told_size, ReadResult}
 use Rattle.records.specs.declared.span.Bounds.{Bounds}
-use Rattle.records.specs.declared.answer.Sized.{Sized}
-use Rattle.records.specs.declared.answer.Written.{Written}
 use Rattle.records.specs.declared.packet_record.Packet as code
 use Rattle.publish_plan.specs.declared.head.PublishHead.{PublishHead}
 use Rattle.ack_write.specs.declared.AckHead.{AckHead}
 use Rattle.packet_write.specs.Parts.{Parts}
 use Rattle.writing.specs.Write.{sized_behind, WrittenBehind}
 use Rattle.packet_write.specs.declared.head.PacketHead.{PacketHead}
+use Rattle.records.specs.declared.error.Error.{Error}
 
 -- ---- the contract
 
 -- of the answer w and the output before and after, where h is handed over; `alone` says whether nothing is lent that does not belong to it
-abbrev pub Obeys : Limit → Bool → Handed → List ℕ → List ℕ → Written → Type 0
-Obeys limit alone h before after w = WrittenBehind (limit_of limit) (guard alone (nr 20 []) >> got h) before after (told_written w)
+abbrev pub Obeys : Option ℕ → Bool → Handed → List ℕ → List ℕ → Result ℕ Error → Type 0
+Obeys limit alone h before after w = WrittenBehind (limit_of limit) (guard alone (nr 20 []) >> got h) before after (told_size w)
 
 -- the same of the answer z of a `size`
-abbrev pub Counts : Bool → Handed → Sized → Type 0
-Counts alone h z = told_sized z ≡ sized_behind (guard alone (nr 20 []) >> got h)
+abbrev pub Counts : Bool → Handed → Result ℕ Error → Type 0
+Counts alone h z = told_size z ≡ sized_behind (guard alone (nr 20 []) >> got h)
 
 -- demand 2: "A written record reads back equal": the answer r says v: it is a record, its places say v, its items are those of v, and n bytes are taken;
 -- 02, P7: "Comparing a record read back with one written leaves these two numbers aside": whatever they are
-abbrev pub ReadsAs : List ℕ → Read → Packet → ℕ → Type 0
-ReadsAs s r v n = (p : code.Packet) × (b : Bounds) × (r ≡ Read.Packet p b n) × (say s (told_packet p) ≡ got v) × Items s (told_packet p) v
+abbrev pub ReadsAs : List ℕ → ReadResult → Packet → ℕ → Type 0
+ReadsAs s r v n = (p : code.Packet) × (b : Bounds) × (r ≡ Ok (p, b, n)) × (say s (told_packet p) ≡ got v) × Items s (told_packet p) v
 
 -- 01, writing order: 20 for what does not belong to the record, else what P says
 pub data Refusing (P : Refusal → Type 0) : Bool → Refusal → Type 0 where
@@ -52,9 +49,9 @@ writer_rows = 9 ∷ 11 ∷ 12 ∷ 13 ∷ 14 ∷ 15 ∷ 16 ∷ 17 ∷ 18 ∷ 19 �
 -- of a Publish by value
 pub record PublishWidths (m : PublishHead) : Type 0 where
   pub pkid : m.pkid < 65536
-  pub format : Below 256 (number_u8 m.payload_format_indicator)
-  pub expiry : Below 4294967296 (number_u32 m.message_expiry_interval)
-  pub alias : Below 65536 (number_u16 m.topic_alias)
+  pub format : Below 256 (number_if m.payload_format_indicator)
+  pub expiry : Below 4294967296 (number_if m.message_expiry_interval)
+  pub alias : Below 65536 (number_if m.topic_alias)
 
 -- of a publish acknowledgement by value
 pub record AckWidths (m : AckHead) : Type 0 where

@@ -1,17 +1,19 @@
 -- The block of each row of 01's table, property by property, and what the answers tell. Assumes nothing.
-use Rattle.std.specs.Prelude.{Bool, false, List, [], ◌∷◌, ℕ, length, drop}
+use Rattle.std.specs.Prelude as std
+use Rattle.std.specs.Prelude.{Bool, false, List, [], ◌∷◌, ℕ, length, drop, Result}
 use Rattle.std.proofs.Math.Option.{Option, none, some}
 use Rattle.grammar.specs.Choice.{lookup, is_some}
 use Rattle.grammar.specs.Tables.{Row, publish_row}
 use Rattle.grammar.specs.Record.{PropOf, last_from, PublishProps, publish_props, Props, props_of}
 use Rattle.grammar.specs.Sentence.{met}
 use Rattle.reading.specs.Refusal.{cut, crossed}
-use Rattle.reading.specs.Reader.{Fit, got, bad, Reader, sized_of, fold_fit}
+use Rattle.reading.specs.Reader.{Fit, Reader, sized_of, fold_fit}
 use Rattle.reading.specs.Read.{num_of, any_bytes, string_fit, once_of}
 use Rattle.reading.specs.Place.{Span, as_places, on_got}
-use Rattle.records.specs.AsNumbers.{told_error}
+use Rattle.records.specs.AsNumbers.{told_by}
 use Rattle.records.specs.Said.{told_block}
-use Rattle.properties.specs.declared.row_block.GotBlock.{GotBlock}
+use Rattle.records.specs.declared.properties_record.Properties.{Properties}
+use Rattle.records.specs.declared.error.Error.{Error}
 
 -- ---- where a block stands
 
@@ -93,6 +95,5 @@ module _ (w : RowRecord) where
 -- ---- answers: the properties, if there are any, and the index after the block; or the refusal
 
 -- 01, table of properties: any row but Publish's
-abbrev pub told_block_at : GotBlock → Fit (Option (Props Span (λ A. Span)) × ℕ)
-told_block_at (GotBlock.Value p n) = got (told_block p, n)
-told_block_at (GotBlock.Refused e) = bad (told_error e)
+abbrev pub told_block_at : Result (std.Option Properties × ℕ) Error → Fit (Option (Props Span (λ A. Span)) × ℕ)
+told_block_at = told_by (λ (p, n). (told_block p, n))

@@ -6,24 +6,18 @@ ghost use Rattle.positions.specs.Position.{from_at};
 ghost use Rattle.wire.specs.StringRead.{told_part};
 ghost use Rattle.properties.specs.Block.{extent_of};
 
-use numbers::got::GotU32;
 use records::error::Error;
 use records::span::Span;
 use var_length;
-use wire::got::GotSpan;
 
 // The L bytes after a length L, and the index after them. An L above what is left is refused before any property is looked at (D2).
-pub fn read_room(s: &[u8], at: usize) -> GotSpan
+pub fn read_room(s: &[u8], at: usize) -> Result<(Span, usize), Error>
     ensures { told_part result ≡ from_at (extent_of (list.length s.now)) s.now at }
 {
-    match var_length::read_length(s, at) {
-        GotU32::Refused(e) => GotSpan::Refused(e),
-        GotU32::Value(n, start) => {
-            let len = n as usize;
-            if s.len() - start < len {
-                return GotSpan::Refused(Error::BoundaryCrossed(len));
-            }
-            GotSpan::Value(Span { start, len }, start + len)
-        }
+    let (n, start) = var_length::read_length(s, at)?;
+    let len = n as usize;
+    if s.len() - start < len {
+        return Err(Error::BoundaryCrossed(len));
     }
+    Ok((Span { start, len }, start + len))
 }

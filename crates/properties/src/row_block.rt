@@ -13,20 +13,12 @@ ghost use Rattle.property_value.specs.OneProperty.{told_value, form_of};
 ghost use Rattle.properties.specs.Block.{said_of, props_said, props_row, applied, filled_at, told_block_at};
 
 use crate::block;
-use property_value::{GotProperty, Value};
+use property_value::Value;
 use records::error::Error;
-use records::properties_record::{MaybeProperties, Properties};
-use records::span::{MaybeSpan, MaybeU32, Span};
+use records::properties_record::Properties;
+use records::span::Span;
 use tables::property;
 use tables::property::OtherRow;
-use wire::got::GotSpan;
-
-// The properties, if there are any, and the index after the block; or the refusal.
-#[derive(Clone, Copy)]
-pub enum GotBlock {
-    Value(MaybeProperties, usize),
-    Refused(Error),
-}
 
 // One property more: 31 is a text and 11 a number wherever they stand, and the record keeps no other.
 fn apply(row: OtherRow, p: Properties, k: u8, v: Value) -> Properties
@@ -37,7 +29,7 @@ fn apply(row: OtherRow, p: Properties, k: u8, v: Value) -> Properties
         Value::Text(x) => {
             if k == 31 {
                 return Properties {
-                    reason_string: MaybeSpan::Present(x),
+                    reason_string: Some(x),
                     ..p
                 };
             }
@@ -45,10 +37,7 @@ fn apply(row: OtherRow, p: Properties, k: u8, v: Value) -> Properties
         }
         Value::Number(x) => {
             if k == 11 {
-                return Properties {
-                    id: MaybeU32::Present(x),
-                    ..p
-                };
+                return Properties { id: Some(x), ..p };
             }
             p
         }
@@ -65,62 +54,44 @@ fn has(p: Properties, k: u8) -> bool
     ensures { result ≡ said_of (props_said (told_properties p)) k }
 {
     if k == 31 {
-        let value = p.reason_string;
-        return match value {
-            MaybeSpan::Present(_) => true,
-            MaybeSpan::Absent => false,
-        };
+        return p.reason_string.is_some();
     }
     if k == 11 {
-        let value = p.id;
-        return match value {
-            MaybeU32::Present(_) => true,
-            MaybeU32::Absent => false,
-        };
+        return p.id.is_some();
     }
     false
 }
 
 // The block that stands at `block`, which ends where the slice does: no read goes past it (D2). The single values, and the place of the lists;
 // 22 where a single one is met again, or the first refusal.
-pub fn fill(row: OtherRow, s: &[u8], block: Span) -> GotBlock
+pub fn fill(row: OtherRow, s: &[u8], block: Span) -> Result<(Option<Properties>, usize), Error>
     ensures { told_block_at result ≡ filled_at (props_row (table_row (other_of row))) s.now (told_span block) }
 {
     let mut p = Properties {
-        reason_string: MaybeSpan::Absent,
-        id: MaybeU32::Absent,
+        reason_string: None,
+        id: None,
         block,
     };
     let mut at = block.start;
     while at < s.len() {
         let first = s[at];
         if has(p, first) {
-            return GotBlock::Refused(Error::DuplicateProperty(first));
+            return Err(Error::DuplicateProperty(first));
         }
-        match property_value::read_property(property::as_row(row), s, at) {
-            GotProperty::Found(k, v, next) => {
-                p = apply(row, p, k, v);
-                at = next;
-            }
-            GotProperty::Refused(e) => {
-                return GotBlock::Refused(e);
-            }
-        }
+        let (k, v, next) = property_value::read_property(property::as_row(row), s, at)?;
+        p = apply(row, p, k, v);
+        at = next;
     }
-    GotBlock::Value(MaybeProperties::Present(p), s.len())
+    Ok((Some(p), s.len()))
 }
 
 // The block of a row at index `at`: its L, and its properties; absent where L is 0.
-pub fn read_block(row: OtherRow, s: &[u8], at: usize) -> GotBlock
+pub fn read_block(row: OtherRow, s: &[u8], at: usize) -> Result<(Option<Properties>, usize), Error>
     ensures { told_block_at result ≡ from_at (block_of as_places (table_row (other_of row)) (props_as as_places) (length s.now)) s.now at }
 {
-    match block::read_room(s, at) {
-        GotSpan::Refused(e) => GotBlock::Refused(e),
-        GotSpan::Value(block, end) => {
-            if block.len == 0 {
-                return GotBlock::Value(MaybeProperties::Absent, end);
-            }
-            fill(row, &s[..end], block)
-        }
+    let (block, end) = block::read_room(s, at)?;
+    if block.len == 0 {
+        return Ok((None, end));
     }
+    fill(row, &s[..end], block)
 }

@@ -1,4 +1,5 @@
 -- How a property is read at an index: its identifier, then its value by the form that the row gives it. Assumes nothing.
+use Rattle.std.specs.Prelude.{Result, Ok, Err}
 use mathlib.Core.Path.{◌≡◌, refl, sym, ap, ◌∙◌}
 use mathlib.Core.Option.{Option, none, some}
 use mathlib.Core.List.{List, [], ◌∷◌}
@@ -27,8 +28,6 @@ use Rattle.records.specs.declared.span.Span as records
 use Rattle.property_value.specs.OneProperty.{identifier_of, told_value, form_of, told_property, OfForm, ValueRead, PropertyRead, ValuePassed, PropertyPassed}
 use Rattle.property_value.specs.declared.Value.{Value}
 use Rattle.property_value.specs.declared.Value.TheVariants.{Pair}
-use Rattle.property_value.specs.declared.GotProperty.{GotProperty}
-use Rattle.property_value.specs.declared.GotProperty.TheVariants.{Found, Refused}
 
 -- ---- the value, by its form
 
@@ -101,10 +100,10 @@ module _ {f : Form} {A : Type 0} {inj : A → Val Span} {p : Reader A} (s : List
   value_bad c h = sym (map_bad (map_of inj p) s at (λ w. (k, w)) c (map_bad p s at inj c (sym h))) ∙ sym (value_tagged s R k at)
 
 module _ {f : Form} {A : Type 0} {inj : A → Val Span} {p : Reader A} {s : List ℕ} {k : ℕ} where
-  pub found : {at m : ℕ} {x : A} {v : Value} → Reader-of f inj p (length s) → got (x, m) ≡ from_at p s at → told_value v ≡ inj x → form_of v ≡ f → ValueRead (some f) k s at (Found k v m)
+  pub found : {at m : ℕ} {x : A} {v : Value} → Reader-of f inj p (length s) → got (x, m) ≡ from_at p s at → told_value v ≡ inj x → form_of v ≡ f → ValueRead (some f) k s at (Ok (k, v, m))
   found {at = at} {m = m} {x = x} R e t u = record { says = ap (λ (w : Val Span). got ((k, w), m)) t ∙ value_got s k at R x m e; typed = ap some (sym u) }
 
-  pub refused : {at : ℕ} {e : Error} → Reader-of f inj p (length s) → bad (told_error e) ≡ from_at p s at → ValueRead (some f) k s at (Refused e)
+  pub refused : {at : ℕ} {e : Error} → Reader-of f inj p (length s) → bad (told_error e) ≡ from_at p s at → ValueRead (some f) k s at (Err e)
   refused {at = at} {e = e} R h = record { says = value_bad s k at R (told_error e) h; typed = tt }
 
   -- the same where only the index after the value is asked for
@@ -140,13 +139,13 @@ module _ (s : List ℕ) (at : ℕ) where
     texts_got y n h = sym (texts_next s at x m d ∙ rw (sym h))
 
 module _ {s : List ℕ} {k at : ℕ} where
-  pub pair_bad : {e : Error} → bad (told_error e) ≡ text_at s at → ValueRead (some pair) k s at (Refused e)
+  pub pair_bad : {e : Error} → bad (told_error e) ≡ text_at s at → ValueRead (some pair) k s at (Err e)
   pair_bad {e = e} h = refused (of_pair (length s)) (texts_bad s at (told_error e) h)
 
-  pub pair_next_bad : {x : Span} {m : ℕ} {e : Error} → got (x, m) ≡ text_at s at → bad (told_error e) ≡ text_at s m → ValueRead (some pair) k s at (Refused e)
+  pub pair_next_bad : {x : Span} {m : ℕ} {e : Error} → got (x, m) ≡ text_at s at → bad (told_error e) ≡ text_at s m → ValueRead (some pair) k s at (Err e)
   pair_next_bad {x = x} {m = m} {e = e} d h = refused (of_pair (length s)) (texts_next_bad s at x m d (told_error e) h)
 
-  pub pair_got : {x y : records.Span} {m n : ℕ} → got (told_span x, m) ≡ text_at s at → got (told_span y, n) ≡ text_at s m → ValueRead (some pair) k s at (Found k (Pair x y) n)
+  pub pair_got : {x y : records.Span} {m n : ℕ} → got (told_span x, m) ≡ text_at s at → got (told_span y, n) ≡ text_at s m → ValueRead (some pair) k s at (Ok (k, Pair x y, n))
   pair_got {x = x} {y = y} {m = m} {n = n} d h = found (of_pair (length s)) (texts_got s at (told_span x) m d (told_span y) n h) refl refl
 
   module _ {start : ℕ} where
@@ -186,7 +185,7 @@ module _ (row : Row) (s : List ℕ) (at : ℕ) where
   property_bad : (k : Refusal) → bad k ≡ from_at (byte_of cut) s at → bad k ≡ from_at (property_of as_places row (length s)) s at
   property_bad k h = sym (left_bad (property_of as_places row (length s)) s at k (no_byte_lem (drop at s) k (bad_left (byte_of cut) s at k (sym h))))
 
-  pub property_refused : (e : Error) → bad (told_error e) ≡ from_at (byte_of cut) s at → PropertyRead row s at (Refused e)
+  pub property_refused : (e : Error) → bad (told_error e) ≡ from_at (byte_of cut) s at → PropertyRead row s at (Err e)
   property_refused e h = record { says = property_bad (told_error e) h; typed = tt }
 
   pub past_none : {k : Refusal} → bad k ≡ from_at (byte_of cut) s at → PropertyPassed row s at at
@@ -197,11 +196,11 @@ module _ (row : Row) (s : List ℕ) (at : ℕ) where
     unfolding from_at property_of
     property_next = rw (byte_cons (drop at s) k (drop m s) (got_left (byte_of cut) s at (trails_byte cut) k m (sym e)))
 
-    retyped : (r : GotProperty) → told_property r ≡ from_at (value_at as_places (form_at row k) k (length s)) s m → OfForm (λ _. form_at row k) r → OfForm (form_at row) r
-    retyped (Found j v n) h t = rw (value_id (form_at row k) k (length s) s m ((j, told_value v), n) (sym h)) t
-    retyped (Refused c) h t = tt
+    retyped : (r : Result (ℕ × Value × ℕ) Error) → told_property r ≡ from_at (value_at as_places (form_at row k) k (length s)) s m → OfForm (λ _. form_at row k) r → OfForm (form_at row) r
+    retyped (Ok (j, v, n)) h t = rw (value_id (form_at row k) k (length s) s m ((j, told_value v), n) (sym h)) t
+    retyped (Err c) h t = tt
 
-    pub property_read : (o : Option Form) (r : GotProperty) → o ≡ form_at row k → ValueRead o k s m r → PropertyRead row s at r
+    pub property_read : (o : Option Form) (r : Result (ℕ × Value × ℕ) Error) → o ≡ form_at row k → ValueRead o k s m r → PropertyRead row s at r
     property_read o r h v =
         let w : ValueRead (form_at row k) k s m r = rw h at v in
         record { says = w.says ∙ sym property_next; typed = retyped r w.says w.typed }

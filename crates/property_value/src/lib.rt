@@ -6,18 +6,16 @@ ghost use Rattle.std.specs.Prelude.{◌≡◌};
 ghost use Rattle.std.proofs.Math.Option.{some};
 ghost use Rattle.grammar.specs.Tables.{number, pair};
 ghost use Rattle.positions.specs.Position.{from_at};
-ghost use Rattle.numbers.specs.NumberRead.{told_got_u32};
+ghost use Rattle.numbers.specs.NumberRead.{told_got_number};
 ghost use Rattle.tables.specs.Property.{table_row, told_form};
 ghost use Rattle.property_value.specs.OneProperty.{identifier_of, ValueRead, PropertyRead, publish_lists, ValuePassed, PropertyPassed};
 
 use numbers::fixed;
-use numbers::got::{GotU8, GotU16, GotU32};
 use records::error::Error;
 use records::span::Span;
 use tables::property;
 use tables::property::{PropertyForm, PropertyRow};
 use var_length;
-use wire::got::GotSpan;
 use wire::string;
 
 // A value, by its form.
@@ -32,86 +30,68 @@ pub enum Value {
     Pair(Span, Span),
 }
 
-// The identifier, the value, and the index after it; or the refusal.
-#[derive(Clone, Copy)]
-pub enum GotProperty {
-    Found(u8, Value, usize),
-    Refused(Error),
-}
-
 // The two texts of property k.
-fn read_pair(k: u8, s: &[u8], at: usize) -> GotProperty
+fn read_pair(k: u8, s: &[u8], at: usize) -> Result<(u8, Value, usize), Error>
     ensures { ValueRead (some pair) k s.now at result }
 {
-    match string::read_mqtt_string(s, at) {
-        GotSpan::Refused(e) => GotProperty::Refused(e),
-        GotSpan::Value(x, m) => match string::read_mqtt_string(s, m) {
-            GotSpan::Refused(e) => GotProperty::Refused(e),
-            GotSpan::Value(y, n) => GotProperty::Found(k, Value::Pair(x, y), n),
-        },
-    }
+    let (x, m) = string::read_mqtt_string(s, at)?;
+    let (y, n) = string::read_mqtt_string(s, m)?;
+    Ok((k, Value::Pair(x, y), n))
 }
 
 // The number of a subscription identifier, which is not 0.
-fn read_identifier(s: &[u8], at: usize) -> GotU32
-    ensures { told_got_u32 result ≡ from_at identifier_of s.now at }
+fn read_identifier(s: &[u8], at: usize) -> Result<(u32, usize), Error>
+    ensures { told_got_number result ≡ from_at identifier_of s.now at }
 {
-    match var_length::read_length(s, at) {
-        GotU32::Refused(e) => GotU32::Refused(e),
-        GotU32::Value(x, n) => {
-            if x == 0 {
-                return GotU32::Refused(Error::SubscriptionIdZero);
-            }
-            GotU32::Value(x, n)
-        }
+    let (x, n) = var_length::read_length(s, at)?;
+    if x == 0 {
+        return Err(Error::SubscriptionIdZero);
     }
+    Ok((x, n))
 }
 
 // The value of property k, which has this form.
-fn read_value(form: PropertyForm, k: u8, s: &[u8], at: usize) -> GotProperty
-    ensures { ValueRead (told_form form) k s.now at result }
+fn read_value(form: PropertyForm, k: u8, s: &[u8], at: usize) -> Result<(u8, Value, usize), Error>
+    ensures { ValueRead (told_form (Some form)) k s.now at result }
 {
     match form {
-        PropertyForm::U8 => match fixed::read_u8(s, at) {
-            GotU8::Value(x, n) => GotProperty::Found(k, Value::U8(x), n),
-            GotU8::Refused(e) => GotProperty::Refused(e),
-        },
-        PropertyForm::U16 => match fixed::read_u16(s, at) {
-            GotU16::Value(x, n) => GotProperty::Found(k, Value::U16(x), n),
-            GotU16::Refused(e) => GotProperty::Refused(e),
-        },
-        PropertyForm::U32 => match fixed::read_u32(s, at) {
-            GotU32::Value(x, n) => GotProperty::Found(k, Value::U32(x), n),
-            GotU32::Refused(e) => GotProperty::Refused(e),
-        },
-        PropertyForm::Number => match read_identifier(s, at) {
-            GotU32::Value(x, n) => GotProperty::Found(k, Value::Number(x), n),
-            GotU32::Refused(e) => GotProperty::Refused(e),
-        },
-        PropertyForm::Text => match string::read_mqtt_string(s, at) {
-            GotSpan::Value(x, n) => GotProperty::Found(k, Value::Text(x), n),
-            GotSpan::Refused(e) => GotProperty::Refused(e),
-        },
-        PropertyForm::Bytes => match string::read_mqtt_bytes(s, at) {
-            GotSpan::Value(x, n) => GotProperty::Found(k, Value::Bytes(x), n),
-            GotSpan::Refused(e) => GotProperty::Refused(e),
-        },
+        PropertyForm::U8 => {
+            let (x, n) = fixed::read_u8(s, at)?;
+            Ok((k, Value::U8(x), n))
+        }
+        PropertyForm::U16 => {
+            let (x, n) = fixed::read_u16(s, at)?;
+            Ok((k, Value::U16(x), n))
+        }
+        PropertyForm::U32 => {
+            let (x, n) = fixed::read_u32(s, at)?;
+            Ok((k, Value::U32(x), n))
+        }
+        PropertyForm::Number => {
+            let (x, n) = read_identifier(s, at)?;
+            Ok((k, Value::Number(x), n))
+        }
+        PropertyForm::Text => {
+            let (x, n) = string::read_mqtt_string(s, at)?;
+            Ok((k, Value::Text(x), n))
+        }
+        PropertyForm::Bytes => {
+            let (x, n) = string::read_mqtt_bytes(s, at)?;
+            Ok((k, Value::Bytes(x), n))
+        }
         PropertyForm::Pair => read_pair(k, s, at),
-        PropertyForm::NotHere => GotProperty::Refused(Error::InvalidPropertyType(k)),
     }
 }
 
 // The property at index `at` of a block: its identifier, its value in the form of its row, and the index after it; else 2, 7, 8, 9, 10 or 23.
-pub fn read_property(row: PropertyRow, s: &[u8], at: usize) -> GotProperty
+pub fn read_property(row: PropertyRow, s: &[u8], at: usize) -> Result<(u8, Value, usize), Error>
     ensures { PropertyRead (table_row row) s.now at result }
 {
-    match fixed::read_u8(s, at) {
-        GotU8::Refused(e) => GotProperty::Refused(e),
-        GotU8::Value(k, next) => {
-            let form = property::property(row, k);
-            read_value(form, k, s, next)
-        }
-    }
+    let (k, next) = fixed::read_u8(s, at)?;
+    let Some(form) = property::property(row, k) else {
+        return Err(Error::InvalidPropertyType(k));
+    };
+    read_value(form, k, s, next)
 }
 
 // The index after the two texts of a user property, which begin at `start`; `at` if they do not stand there.
@@ -119,10 +99,10 @@ fn pass_pair(s: &[u8], at: usize, start: usize) -> usize
     ensures { ValuePassed pair 38 s.now at start result }
 {
     match string::read_mqtt_string(s, start) {
-        GotSpan::Refused(_) => at,
-        GotSpan::Value(_, m) => match string::read_mqtt_string(s, m) {
-            GotSpan::Refused(_) => at,
-            GotSpan::Value(_, n) => n,
+        Err(_) => at,
+        Ok((_, m)) => match string::read_mqtt_string(s, m) {
+            Err(_) => at,
+            Ok((_, n)) => n,
         },
     }
 }
@@ -132,8 +112,8 @@ fn pass_number(s: &[u8], at: usize, start: usize) -> usize
     ensures { ValuePassed number 11 s.now at start result }
 {
     match read_identifier(s, start) {
-        GotU32::Refused(_) => at,
-        GotU32::Value(_, n) => n,
+        Err(_) => at,
+        Ok((_, next)) => next,
     }
 }
 
@@ -143,8 +123,8 @@ pub fn pass_listed(s: &[u8], at: usize) -> usize
     ensures { PropertyPassed publish_lists s.now at result }
 {
     match fixed::read_u8(s, at) {
-        GotU8::Refused(_) => at,
-        GotU8::Value(k, start) => match k {
+        Err(_) => at,
+        Ok((k, start)) => match k {
             38 => pass_pair(s, at, start),
             11 => pass_number(s, at, start),
             0..=10 | 12..=37 | 39..=255 => at,

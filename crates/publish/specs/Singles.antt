@@ -1,15 +1,17 @@
 -- What the values that a Publish keeps while its block is read tell, and the answer. Assumes nothing.
-use Rattle.std.specs.Prelude.{◌≡◌, Bool, true, false, List, ℕ, ◌≤◌}
+use Rattle.std.specs.Prelude as std
+use Rattle.std.specs.Prelude.{◌≡◌, Bool, true, false, List, ℕ, ◌≤◌, Result}
 use Rattle.std.proofs.Math.Option.{Option, none, some}
 use Rattle.grammar.specs.Choice.{is_in}
 use Rattle.grammar.specs.Record.{Val, num, str, PublishProps}
-use Rattle.reading.specs.Reader.{Fit, got, bad}
+use Rattle.reading.specs.Reader.{Fit}
 use Rattle.reading.specs.Place.{Span}
-use Rattle.records.specs.AsNumbers.{told_error, told_span}
+use Rattle.records.specs.AsNumbers.{told_span, told_by}
 use Rattle.records.specs.Said.{told_publish_block}
 use Rattle.properties.specs.Block.{publish_record, loop_from}
-use Rattle.publish.specs.declared.GotPublishBlock.{GotPublishBlock}
 use Rattle.publish.specs.declared.Singles.{Singles}
+use Rattle.records.specs.declared.publish_record.PublishProperties.{PublishProperties}
+use Rattle.records.specs.declared.error.Error.{Error}
 
 -- 01, table of properties: a value, if it is given
 abbrev pub given : Bool → Val Span → Option (Val Span)
@@ -36,6 +38,5 @@ pub record ListsPassed (s : List ℕ) (at r : ℕ) : Type 0 where
   pub rest : (o : publish_record.Props) (σ : List ℕ) → ((i : ℕ) → is_in i σ ≡ publish_record.has o i) → loop_from publish_record o σ s at ≡ loop_from publish_record o σ s r
 
 -- the properties, if there are any, and the index after the block; or the refusal
-abbrev pub told_publish_block_at : GotPublishBlock → Fit (Option (PublishProps Span (λ A. Span)) × ℕ)
-told_publish_block_at (GotPublishBlock.Value p n) = got (told_publish_block p, n)
-told_publish_block_at (GotPublishBlock.Refused e) = bad (told_error e)
+abbrev pub told_publish_block_at : Result (std.Option PublishProperties × ℕ) Error → Fit (Option (PublishProps Span (λ A. Span)) × ℕ)
+told_publish_block_at = told_by (λ (p, n). (told_publish_block p, n))

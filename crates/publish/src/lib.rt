@@ -4,42 +4,31 @@
 ghost use Rattle.std.specs.Prelude.{◌≡◌, [], ◌≤◌, length, drop};
 ghost use Rattle.std.proofs.Math.Option.{some};
 ghost use Rattle.grammar.specs.Tables.{a_publish, publish_row, form_at};
-ghost use Rattle.grammar.specs.Record.{num, str};
 ghost use Rattle.reading.specs.Read.{ident_of, bytes_of, fields_fit, block_of, publish_as};
 ghost use Rattle.reading.specs.Place.{as_places};
 ghost use Rattle.positions.specs.Position.{from_at};
-ghost use Rattle.records.specs.AsNumbers.{told_qos, told_span, told_u8, told_u16, told_u32, told_string};
+ghost use Rattle.records.specs.AsNumbers.{told_qos, told_span};
 ghost use Rattle.records.specs.Said.{told_publish_properties};
-ghost use Rattle.numbers.specs.NumberRead.{told_got_u16};
+ghost use Rattle.numbers.specs.NumberRead.{told_got_number};
 ghost use Rattle.wire.specs.StringRead.{told_part};
 ghost use Rattle.property_value.specs.OneProperty.{told_value, form_of};
 ghost use Rattle.properties.specs.Block.{publish_record, applied, filled_at};
-ghost use Rattle.publish.specs.Singles.{given, told_singles, ListsPassed, told_publish_block_at};
+ghost use Rattle.publish.specs.Singles.{told_singles, ListsPassed, told_publish_block_at};
 ghost use Rattle.publish.specs.PublishRead.{told_got_publish};
 
 use numbers::fixed;
-use numbers::got::GotU16;
 use properties::block;
-use property_value::{GotProperty, Value};
+use property_value::Value;
 use records::error::Error;
-use records::publish_record::{MaybePublishProperties, Publish, PublishProperties};
+use records::publish_record::{Publish, PublishProperties};
 use records::qos::QoS;
-use records::span::{MaybeSpan, MaybeU8, MaybeU16, MaybeU32, Span};
+use records::span::Span;
 use tables::property::PropertyRow;
 use tables::qos;
-use tables::qos::GotQos;
-use wire::got::GotSpan;
 use wire::string;
 
 // ---- the properties, after `PublishProperties::read`: a single-valued one given twice is refused; the lists are left in the block, and the
 // record keeps where it stands
-
-// The properties, if there are any, and the index after the block; or the refusal.
-#[derive(Clone, Copy)]
-pub enum GotPublishBlock {
-    Value(MaybePublishProperties, usize),
-    Refused(Error),
-}
 
 // The single values so far. The flags stand apart from the values: an enum that holds a span has gaps, and a loop that carries such
 // enums copies the gaps at each turn, which took three times as long.
@@ -141,62 +130,18 @@ fn has(p: Singles, k: u8) -> bool
     }
 }
 
-fn maybe_u8(on: bool, x: u8) -> MaybeU8
-    ensures { told_u8 result ≡ given on (num x) }
-{
-    if on {
-        MaybeU8::Present(x)
-    } else {
-        MaybeU8::Absent
-    }
-}
-
-fn maybe_u16(on: bool, x: u16) -> MaybeU16
-    ensures { told_u16 result ≡ given on (num x) }
-{
-    if on {
-        MaybeU16::Present(x)
-    } else {
-        MaybeU16::Absent
-    }
-}
-
-fn maybe_u32(on: bool, x: u32) -> MaybeU32
-    ensures { told_u32 result ≡ given on (num x) }
-{
-    if on {
-        MaybeU32::Present(x)
-    } else {
-        MaybeU32::Absent
-    }
-}
-
-fn maybe_span(on: bool, p: Span) -> MaybeSpan
-    ensures { told_string result ≡ given on (str (told_span p)) }
-{
-    if on {
-        MaybeSpan::Present(p)
-    } else {
-        MaybeSpan::Absent
-    }
-}
-
 // The record of the values so far.
 fn made(p: Singles) -> PublishProperties
     ensures { told_publish_properties result ≡ told_singles p }
 {
-    let response = p.response;
-    let correlation = p.correlation;
-    let content = p.content;
-    let block = p.block;
     PublishProperties {
-        payload_format_indicator: maybe_u8(p.has_format, p.format),
-        message_expiry_interval: maybe_u32(p.has_expiry, p.expiry),
-        topic_alias: maybe_u16(p.has_alias, p.alias),
-        response_topic: maybe_span(p.has_response, response),
-        correlation_data: maybe_span(p.has_correlation, correlation),
-        content_type: maybe_span(p.has_content, content),
-        block,
+        payload_format_indicator: p.has_format.then_some(p.format),
+        message_expiry_interval: p.has_expiry.then_some(p.expiry),
+        topic_alias: p.has_alias.then_some(p.alias),
+        response_topic: p.has_response.then_some(p.response),
+        correlation_data: p.has_correlation.then_some(p.correlation),
+        content_type: p.has_content.then_some(p.content),
+        block: p.block,
     }
 }
 
@@ -216,7 +161,7 @@ fn pass_lists(s: &[u8], from: usize) -> usize
 }
 
 // The block that stands at `block`, which ends where the slice does: no read goes past it (D2).
-fn fill(s: &[u8], block: Span) -> GotPublishBlock
+fn fill(s: &[u8], block: Span) -> Result<(Option<PublishProperties>, usize), Error>
     ensures { told_publish_block_at result ≡ filled_at publish_record s.now (told_span block) }
 {
     let mut p = none(block);
@@ -228,74 +173,54 @@ fn fill(s: &[u8], block: Span) -> GotPublishBlock
         }
         let first = s[at];
         if has(p, first) {
-            return GotPublishBlock::Refused(Error::DuplicateProperty(first));
+            return Err(Error::DuplicateProperty(first));
         }
-        match property_value::read_property(PropertyRow::Publish, s, at) {
-            GotProperty::Found(k, v, next) => {
-                p = apply(p, k, v);
-                at = next;
-            }
-            GotProperty::Refused(e) => {
-                return GotPublishBlock::Refused(e);
-            }
-        }
+        let (k, v, next) = property_value::read_property(PropertyRow::Publish, s, at)?;
+        p = apply(p, k, v);
+        at = next;
     }
     let q = made(p);
-    GotPublishBlock::Value(MaybePublishProperties::Present(q), s.len())
+    Ok((Some(q), s.len()))
 }
 
 // The block of a Publish at index `at`: its L, and its properties; absent where L is 0.
-fn read_publish_block(s: &[u8], at: usize) -> GotPublishBlock
+fn read_publish_block(s: &[u8], at: usize) -> Result<(Option<PublishProperties>, usize), Error>
     ensures { told_publish_block_at result ≡ from_at (block_of as_places publish_row (publish_as as_places) (length s.now)) s.now at }
 {
-    match block::read_room(s, at) {
-        GotSpan::Refused(e) => GotPublishBlock::Refused(e),
-        GotSpan::Value(block, end) => {
-            if block.len == 0 {
-                return GotPublishBlock::Value(MaybePublishProperties::Absent, end);
-            }
-            fill(&s[..end], block)
-        }
+    let (block, end) = block::read_room(s, at)?;
+    if block.len == 0 {
+        return Ok((None, end));
     }
+    fill(&s[..end], block)
 }
 
 // ---- the fields
 
-#[derive(Clone, Copy)]
-pub enum GotPublish {
-    Value(Publish),
-    Refused(Error),
-}
-
 // The topic: as bytes, not tested as text.
-fn read_topic(s: &[u8], at: usize) -> GotSpan
+fn read_topic(s: &[u8], at: usize) -> Result<(Span, usize), Error>
     ensures { told_part result ≡ from_at (bytes_of as_places (length s.now)) s.now at }
 {
     string::read_mqtt_bytes(s, at)
 }
 
 // An identifier that must not be 0: 7, then 12.
-fn read_some_pkid(s: &[u8], at: usize) -> GotU16
-    ensures { told_got_u16 result ≡ from_at (ident_of 1) s.now at }
+fn read_some_pkid(s: &[u8], at: usize) -> Result<(u16, usize), Error>
+    ensures { told_got_number result ≡ from_at (ident_of 1) s.now at }
 {
-    match fixed::read_u16(s, at) {
-        GotU16::Refused(e) => GotU16::Refused(e),
-        GotU16::Value(pkid, next) => {
-            if pkid == 0 {
-                return GotU16::Refused(Error::PacketIdZero);
-            }
-            GotU16::Value(pkid, next)
-        }
+    let (pkid, next) = fixed::read_u16(s, at)?;
+    if pkid == 0 {
+        return Err(Error::PacketIdZero);
     }
+    Ok((pkid, next))
 }
 
 // The identifier, which stands there only if QoS is 1 or 2.
-fn read_pkid(s: &[u8], at: usize, qos: QoS) -> GotU16
+fn read_pkid(s: &[u8], at: usize, qos: QoS) -> Result<(u16, usize), Error>
     requires { at ≤ length s.now }
-    ensures { told_got_u16 result ≡ from_at (ident_of (told_qos qos)) s.now at }
+    ensures { told_got_number result ≡ from_at (ident_of (told_qos qos)) s.now at }
 {
     match qos {
-        QoS::AtMostOnce => GotU16::Value(0, at),
+        QoS::AtMostOnce => Ok((0, at)),
         QoS::AtLeastOnce => read_some_pkid(s, at),
         QoS::ExactlyOnce => read_some_pkid(s, at),
     }
@@ -303,33 +228,22 @@ fn read_pkid(s: &[u8], at: usize, qos: QoS) -> GotU16
 
 // The Publish in the fields from index `at` to the end of the frame, whose first byte is given: 11 for its QoS, then the first refusal from
 // the left.
-pub fn read(s: &[u8], at: usize, byte1: u8) -> GotPublish
+pub fn read(s: &[u8], at: usize, byte1: u8) -> Result<Publish, Error>
     ensures { told_got_publish result ≡ fields_fit as_places a_publish byte1 (length s.now) (drop at s.now) }
 {
-    let qos = match qos::qos(byte1 / 2 % 4) {
-        GotQos::Refused(e) => return GotPublish::Refused(e),
-        GotQos::Value(q) => q,
-    };
-    match read_topic(s, at) {
-        GotSpan::Refused(e) => return GotPublish::Refused(e),
-        GotSpan::Value(topic, a) => match read_pkid(s, a, qos) {
-            GotU16::Refused(e) => return GotPublish::Refused(e),
-            GotU16::Value(pkid, b) => match read_publish_block(s, b) {
-                GotPublishBlock::Refused(e) => return GotPublish::Refused(e),
-                GotPublishBlock::Value(properties, start) => {
-                    let len = s.len() - start;
-                    let payload = Span { start, len };
-                    return GotPublish::Value(Publish {
-                        dup: fixed::flag(byte1 / 8),
-                        qos,
-                        retain: fixed::flag(byte1),
-                        topic,
-                        pkid,
-                        payload,
-                        properties,
-                    });
-                }
-            },
-        },
-    }
+    let qos = qos::qos(byte1 / 2 % 4)?;
+    let (topic, a) = read_topic(s, at)?;
+    let (pkid, b) = read_pkid(s, a, qos)?;
+    let (properties, start) = read_publish_block(s, b)?;
+    let len = s.len() - start;
+    let payload = Span { start, len };
+    Ok(Publish {
+        dup: fixed::flag(byte1 / 8),
+        qos,
+        retain: fixed::flag(byte1),
+        topic,
+        pkid,
+        payload,
+        properties,
+    })
 }

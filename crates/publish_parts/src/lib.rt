@@ -6,8 +6,8 @@ ghost use Rattle.records.specs.AsNumbers.{told_span};
 ghost use Rattle.wire.specs.Part.{PartAt, place_if};
 ghost use Rattle.publish_parts.specs.Parts.{Strings, response, correlation, content};
 
-use records::publish_record::{MaybePublishProperties, Publish, PublishProperties};
-use records::span::{MaybeSpan, MaybeU8, MaybeU16, MaybeU32, Span};
+use records::publish_record::{Publish, PublishProperties};
+use records::span::Span;
 use wire::string;
 
 // The topic of `m`, which was read from `s`; the empty part at 0 if it lies outside. The same goes for every part.
@@ -30,14 +30,14 @@ fn given(m: Publish) -> PublishProperties
 {
     let properties = m.properties;
     match properties {
-        MaybePublishProperties::Present(p) => p,
-        MaybePublishProperties::Absent => PublishProperties {
-            payload_format_indicator: MaybeU8::Absent,
-            message_expiry_interval: MaybeU32::Absent,
-            topic_alias: MaybeU16::Absent,
-            response_topic: MaybeSpan::Absent,
-            correlation_data: MaybeSpan::Absent,
-            content_type: MaybeSpan::Absent,
+        Some(p) => p,
+        None => PublishProperties {
+            payload_format_indicator: None,
+            message_expiry_interval: None,
+            topic_alias: None,
+            response_topic: None,
+            correlation_data: None,
+            content_type: None,
             block: Span { start: 0, len: 0 },
         },
     }

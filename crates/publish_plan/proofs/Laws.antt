@@ -13,7 +13,7 @@ use Rattle.writing.specs.Handed.{PublishHanded, publish, lent, several, strings,
 use Rattle.writing.specs.Order.{judge, raw, word, field_tests, given_fields, fields_of, number_tests}
 use Rattle.writing.proofs.Tests.{eq_when, eq_not}
 use Rattle.writing.proofs.ForCode.{publish_belongs, judge_if_lem, publish_tests}
-use Rattle.write_runs.specs.Given.{given_u8, given_u16, given_u32, given_lent, given_pairs}
+use Rattle.write_runs.specs.Given.{given_one, given_lent, given_pairs}
 use Rattle.write_order.specs.Found.{after_limit}
 use Rattle.publish_plan.specs.Handed.{handed}
 use Rattle.publish_plan.specs.declared.head.PublishHead.{PublishHead}
@@ -25,9 +25,9 @@ and_both e f g = e ∙ rw (f, g)
 
 module _ (head : PublishHead) (t a b u l i c p : List ℕ) where
   pub belong_all : {r₁ r₂ r₃ r₄ r₅ r₆ r₇ x₁ x₂ x₃ x₄ x₅ x₆ x₇ x₈ : Bool}
-      → x₁ ≡ row_belongs head.block (given_u8 head.payload_format_indicator)
-      → x₂ ≡ row_belongs head.block (given_u32 head.message_expiry_interval)
-      → x₃ ≡ row_belongs head.block (given_u16 head.topic_alias)
+      → x₁ ≡ row_belongs head.block (given_one head.payload_format_indicator)
+      → x₂ ≡ row_belongs head.block (given_one head.message_expiry_interval)
+      → x₃ ≡ row_belongs head.block (given_one head.topic_alias)
       → x₄ ≡ row_belongs head.block (given_lent head.response_topic a)
       → x₅ ≡ row_belongs head.block (given_lent head.correlation_data b)
       → x₆ ≡ row_belongs head.block (given_pairs u l)

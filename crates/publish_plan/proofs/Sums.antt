@@ -9,7 +9,7 @@ use Rattle.grammar.specs.Tables.{u8, u16, u32, number, text, bytes, pair, publis
 use Rattle.writing.specs.Handed.{PublishHanded, publish, several, publish_given}
 use Rattle.writing.specs.Size.{with_length, given_size, props_size, no_ident, ident_size, rest_is, cap}
 use Rattle.writing.proofs.ForCode.{publish_sum, cap_length}
-use Rattle.write_runs.specs.Given.{given_u8, given_u16, given_u32, given_lent, given_pairs}
+use Rattle.write_runs.specs.Given.{given_one, given_lent, given_pairs}
 use Rattle.write_sizes.proofs.Laws.{cap_left, cap_both}
 use Rattle.publish_plan.specs.Handed.{handed}
 use Rattle.publish_plan.specs.declared.head.PublishHead.{PublishHead}
@@ -31,9 +31,9 @@ no_more n = omega arith
 
 module _ (head : PublishHead) (t a b u l i c p : List ℕ) where
   pub sum_all : {r₁ r₂ r₃ r₄ r₅ r₆ r₇ x₁ x₂ x₃ x₄ x₅ x₆ x₇ x₈ : ℕ}
-      → x₁ ≡ cap (given_size u8 (given_u8 head.payload_format_indicator))
-      → x₂ ≡ cap (given_size u32 (given_u32 head.message_expiry_interval))
-      → x₃ ≡ cap (given_size u16 (given_u16 head.topic_alias))
+      → x₁ ≡ cap (given_size u8 (given_one head.payload_format_indicator))
+      → x₂ ≡ cap (given_size u32 (given_one head.message_expiry_interval))
+      → x₃ ≡ cap (given_size u16 (given_one head.topic_alias))
       → x₄ ≡ cap (given_size text (given_lent head.response_topic a))
       → x₅ ≡ cap (given_size bytes (given_lent head.correlation_data b))
       → x₆ ≡ cap (given_size pair (given_pairs u l))
@@ -42,9 +42,9 @@ module _ (head : PublishHead) (t a b u l i c p : List ℕ) where
       → r₇ ≡ cap (x₇ + x₈) → r₆ ≡ cap (x₆ + r₇) → r₅ ≡ cap (x₅ + r₆) → r₄ ≡ cap (x₄ + r₅) → r₃ ≡ cap (x₃ + r₄) → r₂ ≡ cap (x₂ + r₃) → r₁ ≡ cap (x₁ + r₂)
       → r₁ ≡ cap (props_size publish_row (publish_given (handed head t a b u l i c p)))
   sum_all {r₁} {r₂} {r₃} {r₄} {r₅} {r₆} {r₇} e₁ e₂ e₃ e₄ e₅ e₆ e₇ e₈ f₇ f₆ f₅ f₄ f₃ f₂ f₁ =
-      let s₁ : ℕ = given_size u8 (given_u8 head.payload_format_indicator) in
-      let s₂ : ℕ = given_size u32 (given_u32 head.message_expiry_interval) in
-      let s₃ : ℕ = given_size u16 (given_u16 head.topic_alias) in
+      let s₁ : ℕ = given_size u8 (given_one head.payload_format_indicator) in
+      let s₂ : ℕ = given_size u32 (given_one head.message_expiry_interval) in
+      let s₃ : ℕ = given_size u16 (given_one head.topic_alias) in
       let s₄ : ℕ = given_size text (given_lent head.response_topic a) in
       let s₅ : ℕ = given_size bytes (given_lent head.correlation_data b) in
       let s₆ : ℕ = given_size pair (given_pairs u l) in

@@ -1,7 +1,7 @@
 -- What is handed over to write a Publish, from the arguments. Assumes nothing.
 use Rattle.std.specs.Prelude.{List, ℕ}
 use Rattle.writing.specs.Handed.{PublishHanded}
-use Rattle.records.specs.AsNumbers.{told_bool, told_qos, number_u8, number_u16, number_u32}
+use Rattle.records.specs.AsNumbers.{told_bool, told_qos, number_if}
 use Rattle.write_runs.specs.Given.{run}
 use Rattle.publish_plan.specs.declared.head.PublishHead.{PublishHead}
 
@@ -14,9 +14,9 @@ handed head topic response correlation user lengths ids content payload = record
   topic = topic;
   ident = head.pkid;
   block = head.block;
-  format = number_u8 head.payload_format_indicator;
-  expiry = number_u32 head.message_expiry_interval;
-  alias = number_u16 head.topic_alias;
+  format = number_if head.payload_format_indicator;
+  expiry = number_if head.message_expiry_interval;
+  alias = number_if head.topic_alias;
   response = record { on = head.response_topic; bytes = response };
   correlation = record { on = head.correlation_data; bytes = correlation };
   user = run user lengths;

@@ -32,9 +32,9 @@ pub fn all_belong(
     let correlation = write_belongs::lent_belongs(block, head.correlation_data, correlation_data);
     let response = write_belongs::lent_belongs(block, head.response_topic, response_topic);
     let strings = both(response, both(correlation, lists));
-    let numbers = both(write_belongs::u16_belongs(block, alias), strings);
+    let numbers = both(write_belongs::one_belongs(block, alias), strings);
     both(
-        write_belongs::u8_belongs(block, format),
-        both(write_belongs::u32_belongs(block, expiry), numbers),
+        write_belongs::one_belongs(block, format),
+        both(write_belongs::one_belongs(block, expiry), numbers),
     )
 }

@@ -33,10 +33,10 @@ fn properties_size(
     let correlation = size::lent_size(head.correlation_data, correlation_data);
     let response = size::lent_size(head.response_topic, response_topic);
     let strings = size::add(response, size::add(correlation, lists));
-    let numbers = size::add(size::one_size_u16(alias), strings);
+    let numbers = size::add(size::one_size(alias), strings);
     size::add(
-        size::one_size_u8(format),
-        size::add(size::one_size_u32(expiry), numbers),
+        size::one_size(format),
+        size::add(size::one_size(expiry), numbers),
     )
 }
 

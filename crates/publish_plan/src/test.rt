@@ -13,7 +13,6 @@ use crate::head::PublishHead;
 use qos_numbers::qos_number;
 use records::error::Error;
 use write_tests;
-use write_tests::{Tested, then};
 
 // 18, and 9 for text, field by field as written.
 fn test_fields(
@@ -24,17 +23,14 @@ fn test_fields(
     user: &[u8],
     user_lengths: &[usize],
     content_type: &[u8],
-) -> Tested
+) -> Result<(), Error>
     ensures { (i p : List ℕ) → told_tested result ≡ judge (flat field_tests (fields_of (publish (handed head topic.now response_topic.now correlation_data.now user.now user_lengths.now i content_type.now p)))) }
 {
-    let content = write_tests::test_text(head.content_type, content_type);
-    let lists = then(write_tests::test_words(user, user_lengths), content);
-    let correlation = write_tests::test_bytes(head.correlation_data, correlation_data);
-    let response = write_tests::test_text(head.response_topic, response_topic);
-    then(
-        write_tests::test_raw(topic),
-        then(response, then(correlation, lists)),
-    )
+    write_tests::test_raw(topic)?;
+    write_tests::test_text(head.response_topic, response_topic)?;
+    write_tests::test_bytes(head.correlation_data, correlation_data)?;
+    write_tests::test_words(user, user_lengths)?;
+    write_tests::test_text(head.content_type, content_type)
 }
 
 // 20, then 18 and 9 field by field.
@@ -47,7 +43,7 @@ pub fn before_size(
     user_lengths: &[usize],
     subscription_identifiers: &[u32],
     content_type: &[u8],
-) -> Tested
+) -> Result<(), Error>
     ensures { (p : List ℕ) → told_tested result ≡ before_size (publish (handed head topic.now response_topic.now correlation_data.now user.now user_lengths.now subscription_identifiers.now content_type.now p)) }
 {
     let together = all_belong(
@@ -60,7 +56,7 @@ pub fn before_size(
         content_type,
     );
     if !together {
-        return Tested::Refused(Error::ListMismatch);
+        return Err(Error::ListMismatch);
     }
     test_fields(
         head,
@@ -84,12 +80,12 @@ fn is_named(qos: u8, pkid: u16) -> bool
 }
 
 // 12, then 17 or 23 for the identifiers in order.
-pub fn after_limit(head: PublishHead, subscription_identifiers: &[u32]) -> Tested
+pub fn after_limit(head: PublishHead, subscription_identifiers: &[u32]) -> Result<(), Error>
     ensures { (t a b u l c p : List ℕ) → told_tested result ≡ after_limit (publish (handed head t a b u l subscription_identifiers.now c p)) }
 {
     let qos = head.qos;
     if !is_named(qos_number(qos), head.pkid) {
-        return Tested::Refused(Error::PacketIdZero);
+        return Err(Error::PacketIdZero);
     }
     write_tests::test_numbers(subscription_identifiers)
 }

@@ -6,11 +6,14 @@ use native.Mathlib.Omega.{arith}
 use lib.ListN.{length, take, drop, set, length-append, length-drop, take-append-drop}
 use lib.Seq.{sets, length-sets, set-set, set_comm, length-take-le, take-take, drop-drop, take-add, drop_at}
 use Rattle.grammar.specs.Octets.{Each}
-use Rattle.grammar.specs.Tables.{number}
+use Rattle.std.specs.Prelude.{Option}
+use Rattle.grammar.specs.Tables.{Form, number}
 use Rattle.writing.specs.Handed.{several}
 use Rattle.writing.specs.Spell.{short, row_bytes}
 use Rattle.writing.specs.Size.{most}
 use Rattle.writing.specs.Refuse.{Fine}
+use Rattle.write_runs.specs.Given.{given_by, given_one}
+use Rattle.write_runs.proofs.Laws.Given.{given_self}
 use Rattle.write_bytes.proofs.Laws.{sets_append, put_more}
 use Rattle.write_lengths.specs.Fitting.{fit_short}
 use Rattle.write_lengths.proofs.Fits.{short_fits}
@@ -74,6 +77,10 @@ module _ (s : List ℕ) (i : ℕ) (h : i + 16 ≤ length s) (l l₁ l₂ : List 
 
 pub put_laid : {l l₁ xs : List ℕ} {at n : ℕ} → Put l at xs l₁ n → Laid l at xs l₁ (at + n)
 put_laid p = record { stores = p.stores; place = rw p.count }
+
+-- a number that may be absent
+pub one_laid : (id : ℕ) (f : Form) (v : Option ℕ) {l l₁ : List ℕ} {at n : ℕ} → Put l at (row_bytes (id, f) (given_by (λ (n : ℕ). n) v)) l₁ n → Laid l at (row_bytes (id, f) (given_one v)) l₁ (at + n)
+one_laid id f v p = put_laid (rw (given_self v) at p)
 
 pub none_laid : (l : List ℕ) (at : ℕ) → Laid l at [] l at
 none_laid l at = record { stores = refl; place = omega arith }

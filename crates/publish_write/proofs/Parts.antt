@@ -21,7 +21,7 @@ use Rattle.writing.proofs.Tests.{le_or}
 use Rattle.writing.proofs.ForCode.{run_from, string_at, strings_more, strings_done}
 use Rattle.records.specs.AsNumbers.{told_qos}
 use Rattle.records.specs.declared.qos.QoS.{QoS}
-use Rattle.write_runs.specs.Given.{given_u8, given_u16, given_u32, given_lent, given_pairs}
+use Rattle.write_runs.specs.Given.{given_one, given_lent, given_pairs}
 use Rattle.publish_plan.specs.Handed.{handed}
 use Rattle.publish_plan.specs.declared.head.PublishHead.{PublishHead}
 use Rattle.publish_write.specs.Laid.{Laid, Room, all_rows}
@@ -129,7 +129,7 @@ regroup a b c d e f g i = rw (append_assoc a (b ++ c) ((d ++ e) ++ (f ++ (g ++ i
 pub props_rows : (head : PublishHead) (t a b u l i c p : List ℕ) → all_rows head a b u l i c ≡ props_bytes publish_row (publish_given (handed head t a b u l i c p))
 props_rows head t a b u l i c p =
     sym (publish_props_lem (handed head t a b u l i c p)
-    ∙ regroup (row_bytes (1, u8) (given_u8 head.payload_format_indicator)) (row_bytes (2, u32) (given_u32 head.message_expiry_interval)) (row_bytes (35, u16) (given_u16 head.topic_alias))
+    ∙ regroup (row_bytes (1, u8) (given_one head.payload_format_indicator)) (row_bytes (2, u32) (given_one head.message_expiry_interval)) (row_bytes (35, u16) (given_one head.topic_alias))
     (row_bytes (8, text) (given_lent head.response_topic a)) (row_bytes (9, bytes) (given_lent head.correlation_data b))
     (row_bytes (38, pair) (given_pairs u l)) (row_bytes (11, number) (several i)) (row_bytes (3, text) (given_lent head.content_type c)))
 

@@ -4,7 +4,7 @@ use Rattle.std.proofs.lemmas.List.Edits.{sets}
 use Rattle.grammar.specs.Tables.{u8, u16, u32, number, text, bytes, pair}
 use Rattle.writing.specs.Handed.{several}
 use Rattle.writing.specs.Spell.{row_bytes}
-use Rattle.write_runs.specs.Given.{given_u8, given_u16, given_u32, given_lent, given_pairs}
+use Rattle.write_runs.specs.Given.{given_one, given_lent, given_pairs}
 use Rattle.publish_plan.specs.declared.head.PublishHead.{PublishHead}
 
 -- the bytes xs stand from `at` on, and `next` is the index behind them
@@ -19,7 +19,7 @@ pub record Room (out : List ℕ) (at : ℕ) (xs : List ℕ) : Type 0 where
 -- 01, table of properties: 1, 2 and 35
 abbrev pub number_rows : PublishHead → List ℕ
 number_rows head =
-    row_bytes (1, u8) (given_u8 head.payload_format_indicator) ++ (row_bytes (2, u32) (given_u32 head.message_expiry_interval) ++ row_bytes (35, u16) (given_u16 head.topic_alias))
+    row_bytes (1, u8) (given_one head.payload_format_indicator) ++ (row_bytes (2, u32) (given_one head.message_expiry_interval) ++ row_bytes (35, u16) (given_one head.topic_alias))
 
 -- 01, table of properties: 8 and 9
 abbrev pub string_rows : PublishHead → List ℕ → List ℕ → List ℕ

@@ -103,6 +103,7 @@ fn copy_up(out: &mut [u8], at: usize, s: &[u8], from: usize, last: usize) -> usi
     requires { (from + last + 16 ≤ length s.now) × (at + last + 16 ≤ length out.old) }
     ensures { (last ≤ result) × (result ≤ last + 16) × (out.new ≡ sets out.old at (take result (drop from s.now))) }
 {
+    // by index: sixteen bytes are put at once, byte by byte or by a call it misses the bar of speed (docs/PERFORMANCE.md)
     let mut i: usize = 0;
     while i < last {
         copy_sixteen(&mut *out, at + i, s, from + i);

@@ -19,7 +19,7 @@ use publish_plan::head::PublishHead;
 use publish_plan::sizes::no_pkid;
 use qos_numbers::{bit, qos_number};
 use write_lengths::put_length;
-use write_numbers::fixed;
+use write_numbers::fixed::Fixed;
 
 // A length, and the n bytes of s from index `from` on.
 fn lay_string(out: &mut [u8], at: usize, s: &[u8], from: usize, n: usize) -> usize
@@ -47,13 +47,11 @@ fn lay_pairs(out: &mut [u8], at: usize, bytes: &[u8], lengths: &[usize]) -> usiz
 {
     let mut to = at;
     let mut from: usize = 0;
-    let mut i: usize = 0;
-    while i + 1 < lengths.len() {
-        let k = lengths[i];
-        let v = lengths[i + 1];
+    for pair in lengths.chunks_exact(2) {
+        let k = pair[0];
+        let v = pair[1];
         to = lay_pair(&mut *out, to, bytes, from, k, v);
         from = from + k + v;
-        i = i + 2;
     }
     to
 }
@@ -78,9 +76,9 @@ fn lay_numbers(out: &mut [u8], at: usize, head: PublishHead) -> usize
     let format = head.payload_format_indicator;
     let expiry = head.message_expiry_interval;
     let alias = head.topic_alias;
-    let second = at + write_properties::put_u8_if(&mut *out, at, 1, format);
-    let third = second + write_properties::put_u32_if(&mut *out, second, 2, expiry);
-    third + write_properties::put_u16_if(&mut *out, third, 35, alias)
+    let second = at + write_properties::put_if(&mut *out, at, 1, format);
+    let third = second + write_properties::put_if(&mut *out, second, 2, expiry);
+    third + write_properties::put_if(&mut *out, third, 35, alias)
 }
 
 // 8 and 9.
@@ -165,7 +163,7 @@ fn lay_pkid(out: &mut [u8], at: usize, qos: u8, pkid: u16) -> usize
     if no_pkid(qos, pkid) {
         return at;
     }
-    fixed::put_u16(&mut *out, at, pkid);
+    pkid.put(&mut *out, at);
     at + 2
 }
 

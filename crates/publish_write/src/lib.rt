@@ -8,13 +8,13 @@ ghost use Rattle.std.specs.Prelude.{◌≡◌};
 ghost use Rattle.writing.specs.Handed.{publish};
 ghost use Rattle.writing.specs.Write.{size_of, Written as WrittenOf};
 ghost use Rattle.records.specs.AsNumbers.{limit_of};
-ghost use Rattle.records.specs.Answered.{told_sized, told_written};
+ghost use Rattle.records.specs.Answered.{told_size};
 ghost use Rattle.publish_plan.specs.Handed.{handed};
 
 use crate::frame::lay_frame;
 use publish_plan::head::PublishHead;
 use publish_plan::{belong, sizes, test};
-use records::answer::{Limit, Sized, Written};
+use records::error::Error;
 
 // How many bytes the frame is: refused with 20, then 17 for R.
 pub fn size(
@@ -27,8 +27,8 @@ pub fn size(
     subscription_identifiers: &[u32],
     content_type: &[u8],
     payload: &[u8],
-) -> Sized
-    ensures { told_sized result ≡ size_of (publish (handed head topic.now response_topic.now correlation_data.now user.now user_lengths.now subscription_identifiers.now content_type.now payload.now)) }
+) -> Result<usize, Error>
+    ensures { told_size result ≡ size_of (publish (handed head topic.now response_topic.now correlation_data.now user.now user_lengths.now subscription_identifiers.now content_type.now payload.now)) }
 {
     let together = belong::all_belong(
         head,
@@ -64,10 +64,10 @@ pub fn write(
     subscription_identifiers: &[u32],
     content_type: &[u8],
     payload: &[u8],
-    limit: Limit,
+    limit: Option<usize>,
     out: &mut [u8],
-) -> Written
-    ensures { WrittenOf (limit_of limit) (publish (handed head topic.now response_topic.now correlation_data.now user.now user_lengths.now subscription_identifiers.now content_type.now payload.now)) out.old out.new (told_written result) }
+) -> Result<usize, Error>
+    ensures { WrittenOf (limit_of limit) (publish (handed head topic.now response_topic.now correlation_data.now user.now user_lengths.now subscription_identifiers.now content_type.now payload.now)) out.old out.new (told_size result) }
 {
     let fields = test::before_size(
         head,
@@ -93,24 +93,20 @@ pub fn write(
     let rest = sizes.rest;
     let properties = sizes.properties;
     let end = test::after_limit(head, subscription_identifiers);
-    match write_order::settle(fields, rest, limit, end, out.len()) {
-        Written::Refused(e) => Written::Refused(e),
-        Written::Size(n) => {
-            lay_frame(
-                &mut *out,
-                head,
-                rest,
-                properties,
-                topic,
-                response_topic,
-                correlation_data,
-                user,
-                user_lengths,
-                subscription_identifiers,
-                content_type,
-                payload,
-            );
-            Written::Size(n)
-        }
-    }
+    let n = write_order::settle(fields, rest, limit, end, out.len())?;
+    lay_frame(
+        &mut *out,
+        head,
+        rest,
+        properties,
+        topic,
+        response_topic,
+        correlation_data,
+        user,
+        user_lengths,
+        subscription_identifiers,
+        content_type,
+        payload,
+    );
+    Ok(n)
 }

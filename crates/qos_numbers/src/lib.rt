@@ -8,7 +8,7 @@ ghost use Rattle.records.specs.Answered.{told_got_rule, rule_of};
 
 use records::error::Error;
 use records::qos::QoS;
-use records::subscribe_record::{GotRule, RetainForwardRule};
+use records::subscribe_record::RetainForwardRule;
 
 // The bit of a flag.
 pub fn bit(b: bool) -> u8
@@ -32,14 +32,14 @@ pub fn qos_number(q: QoS) -> u8
 }
 
 // The forward rule of a number, or refusal 14 with it.
-pub fn retain_forward_rule(num: u8) -> GotRule
+pub fn retain_forward_rule(num: u8) -> Result<RetainForwardRule, Error>
     ensures { told_got_rule result ≡ rule_of num }
 {
     match num {
-        0 => GotRule::Value(RetainForwardRule::OnEverySubscribe),
-        1 => GotRule::Value(RetainForwardRule::OnNewSubscribe),
-        2 => GotRule::Value(RetainForwardRule::Never),
-        3..=255 => GotRule::Refused(Error::InvalidRetainForwardRule(num)),
+        0 => Ok(RetainForwardRule::OnEverySubscribe),
+        1 => Ok(RetainForwardRule::OnNewSubscribe),
+        2 => Ok(RetainForwardRule::Never),
+        3..=255 => Err(Error::InvalidRetainForwardRule(num)),
     }
 }
 

@@ -1,4 +1,6 @@
 -- Refusals, numbers and single values: each comes back from what it tells, so that what is told leaves no choice of it. Assumes nothing.
+use Rattle.std.specs.Prelude as std
+use Rattle.std.specs.Prelude.{Some, None}
 use mathlib.Core.Path.{◌≡◌, refl}
 use mathlib.Core.Bool.{Bool, true, false}
 use mathlib.Core.Option.{Option, none, some}
@@ -10,18 +12,13 @@ use Rattle.grammar.specs.Record.{Val, num, str, duo}
 use Rattle.reading.specs.Refusal.{Refusal, nr}
 use Rattle.reading.specs.Reader.{Fit, got, bad}
 use Rattle.reading.specs.Place as place
-use Rattle.records.specs.AsNumbers.{told_error, told_values, limit_of, told_bool, told_qos, told_ack_kind, told_reply_kind, told_rule, told_span, back_span, told_u8, told_u16, told_u32, told_string}
-use Rattle.records.specs.declared.answer.Limit.{Limit}
+use Rattle.records.specs.AsNumbers.{told_error, told_values, limit_of, told_bool, told_qos, told_ack_kind, told_reply_kind, told_rule, told_span, back_span, told_number_if, told_string}
 use Rattle.records.specs.declared.error.Error.{Error}
 use Rattle.records.specs.declared.ack_record.AckKind.{AckKind}
 use Rattle.records.specs.declared.reply_record.ReplyKind.{ReplyKind}
 use Rattle.records.specs.declared.qos.QoS.{QoS}
 use Rattle.records.specs.declared.values.Values.{Values}
 use Rattle.records.specs.declared.span.Span.{Span}
-use Rattle.records.specs.declared.span.MaybeU8.{MaybeU8}
-use Rattle.records.specs.declared.span.MaybeU16.{MaybeU16}
-use Rattle.records.specs.declared.span.MaybeU32.{MaybeU32}
-use Rattle.records.specs.declared.span.MaybeSpan.{MaybeSpan}
 use Rattle.records.specs.declared.subscribe_record.RetainForwardRule.{RetainForwardRule}
 use Rattle.records.proofs.Laws.{injective_by}
 
@@ -108,14 +105,14 @@ back_values_lem Values.None = refl
 back_values_lem (Values.One n) = refl
 back_values_lem (Values.Two m n) = refl
 
-pub back_limit : Option ℕ → Limit
-back_limit none = Limit.Unlimited
-back_limit (some n) = Limit.AtMost n
+pub back_limit : Option ℕ → std.Option ℕ
+back_limit none = None
+back_limit (some n) = Some n
 
-pub back_limit_lem : (l : Limit) → back_limit (limit_of l) ≡ l
+pub back_limit_lem : (l : std.Option ℕ) → back_limit (limit_of l) ≡ l
 unfolding back_limit
-back_limit_lem Limit.Unlimited = refl
-back_limit_lem (Limit.AtMost n) = refl
+back_limit_lem None = refl
+back_limit_lem (Some n) = refl
 
 -- ---- numbers
 
@@ -186,38 +183,20 @@ span_in (num n) = record { start = 0; len = 0 }
 span_in (str p) = back_span p
 span_in (duo p q) = back_span p
 
-pub back_u8 : Option (Val place.Span) → MaybeU8
-back_u8 none = MaybeU8.Absent
-back_u8 (some v) = MaybeU8.Present (number_in v)
+pub back_number_if : Option (Val place.Span) → std.Option ℕ
+back_number_if none = None
+back_number_if (some v) = Some (number_in v)
 
-pub back_u8_lem : (m : MaybeU8) → back_u8 (told_u8 m) ≡ m
-unfolding back_u8
-back_u8_lem MaybeU8.Absent = refl
-back_u8_lem (MaybeU8.Present n) = refl
+pub back_number_if_lem : (m : std.Option ℕ) → back_number_if (told_number_if m) ≡ m
+unfolding back_number_if
+back_number_if_lem None = refl
+back_number_if_lem (Some n) = refl
 
-pub back_u16 : Option (Val place.Span) → MaybeU16
-back_u16 none = MaybeU16.Absent
-back_u16 (some v) = MaybeU16.Present (number_in v)
+pub back_string : Option (Val place.Span) → std.Option Span
+back_string none = None
+back_string (some v) = Some (span_in v)
 
-pub back_u16_lem : (m : MaybeU16) → back_u16 (told_u16 m) ≡ m
-unfolding back_u16
-back_u16_lem MaybeU16.Absent = refl
-back_u16_lem (MaybeU16.Present n) = refl
-
-pub back_u32 : Option (Val place.Span) → MaybeU32
-back_u32 none = MaybeU32.Absent
-back_u32 (some v) = MaybeU32.Present (number_in v)
-
-pub back_u32_lem : (m : MaybeU32) → back_u32 (told_u32 m) ≡ m
-unfolding back_u32
-back_u32_lem MaybeU32.Absent = refl
-back_u32_lem (MaybeU32.Present n) = refl
-
-pub back_string : Option (Val place.Span) → MaybeSpan
-back_string none = MaybeSpan.Absent
-back_string (some v) = MaybeSpan.Present (span_in v)
-
-pub back_string_lem : (m : MaybeSpan) → back_string (told_string m) ≡ m
+pub back_string_lem : (m : std.Option Span) → back_string (told_string m) ≡ m
 unfolding back_string
-back_string_lem MaybeSpan.Absent = refl
-back_string_lem (MaybeSpan.Present p) = refl
+back_string_lem None = refl
+back_string_lem (Some p) = refl

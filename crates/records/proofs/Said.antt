@@ -1,4 +1,6 @@
 -- Records: each comes back field by field from what it tells, so that what is told leaves no choice of it. Assumes nothing.
+use Rattle.std.specs.Prelude as std
+use Rattle.std.specs.Prelude.{Some, None}
 use mathlib.Core.Bool.{cond}
 use mathlib.Core.Path.{◌≡◌, refl, ap}
 use mathlib.Core.Option.{Option, none, some}
@@ -11,24 +13,22 @@ use Rattle.records.specs.Said.{told_publish_properties, told_properties, told_pu
 use Rattle.records.specs.declared.packet_record.Packet.{Packet}
 use Rattle.records.specs.declared.ack_record.Ack.{Ack}
 use Rattle.records.specs.declared.properties_record.Properties.{Properties}
-use Rattle.records.specs.declared.properties_record.MaybeProperties.{MaybeProperties}
 use Rattle.records.specs.declared.publish_record.Publish.{Publish}
 use Rattle.records.specs.declared.publish_record.PublishProperties.{PublishProperties}
-use Rattle.records.specs.declared.publish_record.MaybePublishProperties.{MaybePublishProperties}
 use Rattle.records.specs.declared.subscribe_record.Filter.{Filter}
 use Rattle.records.specs.declared.subscribe_record.Subscribe.{Subscribe}
 use Rattle.records.specs.declared.reply_record.Reply.{Reply}
 use Rattle.records.specs.declared.unsubscribe_record.Unsubscribe.{Unsubscribe}
 use Rattle.records.specs.AsNumbers.{back_span}
-use Rattle.records.proofs.AsNumbers.{back_bool, back_qos, back_ack_kind, back_reply_kind, back_rule, back_u8, back_u16, back_u32, back_string, back_bool_lem, back_qos_lem, back_ack_kind_lem, back_reply_kind_lem, back_rule_lem, back_span_lem, back_u8_lem, back_u16_lem, back_u32_lem, back_string_lem}
+use Rattle.records.proofs.AsNumbers.{back_bool, back_qos, back_ack_kind, back_reply_kind, back_rule, back_number_if, back_string, back_bool_lem, back_qos_lem, back_ack_kind_lem, back_reply_kind_lem, back_rule_lem, back_span_lem, back_number_if_lem, back_string_lem}
 
 -- ---- property sets
 
 back_publish_properties : PublishProps place.Span (λ A. place.Span) → PublishProperties
 back_publish_properties p = record {
-  payload_format_indicator = back_u8 p.format;
-  message_expiry_interval = back_u32 p.expiry;
-  topic_alias = back_u16 p.alias;
+  payload_format_indicator = back_number_if p.format;
+  message_expiry_interval = back_number_if p.expiry;
+  topic_alias = back_number_if p.alias;
   response_topic = back_string p.response;
   correlation_data = back_string p.correlation;
   content_type = back_string p.content;
@@ -37,32 +37,32 @@ back_publish_properties p = record {
 
 back_publish_properties_lem : (p : PublishProperties) → back_publish_properties (told_publish_properties p) ≡ p
 unfolding back_publish_properties
-back_publish_properties_lem p = simp (back_u8_lem, back_u16_lem, back_u32_lem, back_string_lem, back_span_lem)
+back_publish_properties_lem p = simp (back_number_if_lem, back_number_if_lem, back_number_if_lem, back_string_lem, back_span_lem)
 
 back_properties : Props place.Span (λ A. place.Span) → Properties
-back_properties p = record { reason_string = back_string p.reason; id = back_u32 p.ident; block = back_span p.user }
+back_properties p = record { reason_string = back_string p.reason; id = back_number_if p.ident; block = back_span p.user }
 
 back_properties_lem : (p : Properties) → back_properties (told_properties p) ≡ p
 unfolding back_properties
-back_properties_lem p = simp (back_string_lem, back_u32_lem, back_span_lem)
+back_properties_lem p = simp (back_string_lem, back_number_if_lem, back_span_lem)
 
-pub back_publish_block : Option (PublishProps place.Span (λ A. place.Span)) → MaybePublishProperties
-back_publish_block none = MaybePublishProperties.Absent
-back_publish_block (some p) = MaybePublishProperties.Present (back_publish_properties p)
+pub back_publish_block : Option (PublishProps place.Span (λ A. place.Span)) → std.Option PublishProperties
+back_publish_block none = None
+back_publish_block (some p) = Some (back_publish_properties p)
 
-pub back_publish_block_lem : (m : MaybePublishProperties) → back_publish_block (told_publish_block m) ≡ m
+pub back_publish_block_lem : (m : std.Option PublishProperties) → back_publish_block (told_publish_block m) ≡ m
 unfolding back_publish_block
-back_publish_block_lem MaybePublishProperties.Absent = refl
-back_publish_block_lem (MaybePublishProperties.Present p) = ap MaybePublishProperties.Present (back_publish_properties_lem p)
+back_publish_block_lem None = refl
+back_publish_block_lem (Some p) = ap Some (back_publish_properties_lem p)
 
-pub back_block : Option (Props place.Span (λ A. place.Span)) → MaybeProperties
-back_block none = MaybeProperties.Absent
-back_block (some p) = MaybeProperties.Present (back_properties p)
+pub back_block : Option (Props place.Span (λ A. place.Span)) → std.Option Properties
+back_block none = None
+back_block (some p) = Some (back_properties p)
 
-pub back_block_lem : (m : MaybeProperties) → back_block (told_block m) ≡ m
+pub back_block_lem : (m : std.Option Properties) → back_block (told_block m) ≡ m
 unfolding back_block
-back_block_lem MaybeProperties.Absent = refl
-back_block_lem (MaybeProperties.Present p) = ap MaybeProperties.Present (back_properties_lem p)
+back_block_lem None = refl
+back_block_lem (Some p) = ap Some (back_properties_lem p)
 
 -- ---- packets
 

@@ -1,21 +1,18 @@
 -- What refusals, numbers and single values tell, in 01's numbers and values. Assumes nothing.
-use Rattle.std.specs.Prelude.{Bool, true, false, List, [], ◌∷◌, ℕ}
+use Rattle.std.specs.Prelude as std
+use Rattle.std.specs.Prelude.{Bool, true, false, List, [], ◌∷◌, ℕ, Some, None, Result, Ok, Err}
 use Rattle.std.proofs.Math.Option.{Option, none, some}
 use Rattle.grammar.specs.Record.{Val, num, str}
 use Rattle.reading.specs.Refusal.{Refusal, nr}
+use Rattle.reading.specs.Reader.{Fit, got, bad}
 use Rattle.reading.specs.Place.{on_some}
 use Rattle.reading.specs.Place as place
-use Rattle.records.specs.declared.answer.Limit.{Limit}
 use Rattle.records.specs.declared.error.Error.{Error}
 use Rattle.records.specs.declared.ack_record.AckKind.{AckKind}
 use Rattle.records.specs.declared.reply_record.ReplyKind.{ReplyKind}
 use Rattle.records.specs.declared.qos.QoS.{QoS}
 use Rattle.records.specs.declared.values.Values.{Values}
 use Rattle.records.specs.declared.span.Span.{Span}
-use Rattle.records.specs.declared.span.MaybeU8.{MaybeU8}
-use Rattle.records.specs.declared.span.MaybeU16.{MaybeU16}
-use Rattle.records.specs.declared.span.MaybeU32.{MaybeU32}
-use Rattle.records.specs.declared.span.MaybeSpan.{MaybeSpan}
 use Rattle.records.specs.declared.subscribe_record.RetainForwardRule.{RetainForwardRule}
 
 -- ---- refusals
@@ -60,10 +57,15 @@ told_values Values.None = []
 told_values (Values.One n) = n ∷ []
 told_values (Values.Two m n) = m ∷ n ∷ []
 
+-- what an answer tells: what f tells of its value, or 01's number and values of the refusal
+abbrev pub told_by : {T B : Type 0} → (T → B) → Result T Error → Fit B
+told_by f (Ok x) = got (f x)
+told_by f (Err e) = bad (told_error e)
+
 -- 01, rows 3 and 16: the limit, if there is one; 0 is a limit
-abbrev pub limit_of : Limit → Option ℕ
-limit_of Limit.Unlimited = none
-limit_of (Limit.AtMost n) = some n
+abbrev pub limit_of : std.Option ℕ → Option ℕ
+limit_of None = none
+limit_of (Some n) = some n
 
 -- ---- numbers
 
@@ -106,34 +108,16 @@ told_span p = record { start = p.start; len = p.len }
 abbrev pub back_span : place.Span → Span
 back_span p = record { start = p.start; len = p.len }
 
--- 01, table of properties: a u8, if it is given
-abbrev pub number_u8 : MaybeU8 → Option ℕ
-number_u8 MaybeU8.Absent = none
-number_u8 (MaybeU8.Present n) = some n
+-- 01, table of properties: a number of any width, if it is given
+abbrev pub number_if : std.Option ℕ → Option ℕ
+number_if None = none
+number_if (Some n) = some n
 
--- 01, table of properties: a u16, if it is given
-abbrev pub number_u16 : MaybeU16 → Option ℕ
-number_u16 MaybeU16.Absent = none
-number_u16 (MaybeU16.Present n) = some n
-
--- 01, table of properties: a u32 or a variable length number, if it is given
-abbrev pub number_u32 : MaybeU32 → Option ℕ
-number_u32 MaybeU32.Absent = none
-number_u32 (MaybeU32.Present n) = some n
-
--- 01, table of properties: the value of a u8, if it is given
-abbrev pub told_u8 : MaybeU8 → Option (Val place.Span)
-told_u8 m = on_some num (number_u8 m)
-
--- 01, table of properties: the value of a u16, if it is given
-abbrev pub told_u16 : MaybeU16 → Option (Val place.Span)
-told_u16 m = on_some num (number_u16 m)
-
--- 01, table of properties: the value of a u32 or a variable length number, if it is given
-abbrev pub told_u32 : MaybeU32 → Option (Val place.Span)
-told_u32 m = on_some num (number_u32 m)
+-- 01, table of properties: the value of a number, if it is given
+abbrev pub told_number_if : std.Option ℕ → Option (Val place.Span)
+told_number_if m = on_some num (number_if m)
 
 -- 01, table of properties: text or bytes, if they are given
-abbrev pub told_string : MaybeSpan → Option (Val place.Span)
-told_string MaybeSpan.Absent = none
-told_string (MaybeSpan.Present p) = some (str (told_span p))
+abbrev pub told_string : std.Option Span → Option (Val place.Span)
+told_string None = none
+told_string (Some p) = some (str (told_span p))

@@ -1,17 +1,17 @@
 -- What each record tells: the packet of the grammar with places for strings and lists. Assumes nothing.
+use Rattle.std.specs.Prelude as std
+use Rattle.std.specs.Prelude.{Some, None}
 use Rattle.std.proofs.Math.Option.{Option, none, some}
 use Rattle.grammar.specs.Record.{PublishProps, Props, publish, ack, subscribe, reply, unsubscribe, ping}
 use Rattle.grammar.specs.Record as record_of
 use Rattle.reading.specs.Place.{Placed}
 use Rattle.reading.specs.Place as place
-use Rattle.records.specs.AsNumbers.{told_bool, told_qos, told_ack_kind, told_reply_kind, told_rule, told_span, told_u8, told_u16, told_u32, told_string}
+use Rattle.records.specs.AsNumbers.{told_bool, told_qos, told_ack_kind, told_reply_kind, told_rule, told_span, told_number_if, told_string}
 use Rattle.records.specs.declared.packet_record.Packet.{Packet}
 use Rattle.records.specs.declared.ack_record.Ack.{Ack}
 use Rattle.records.specs.declared.properties_record.Properties.{Properties}
-use Rattle.records.specs.declared.properties_record.MaybeProperties.{MaybeProperties}
 use Rattle.records.specs.declared.publish_record.Publish.{Publish}
 use Rattle.records.specs.declared.publish_record.PublishProperties.{PublishProperties}
-use Rattle.records.specs.declared.publish_record.MaybePublishProperties.{MaybePublishProperties}
 use Rattle.records.specs.declared.subscribe_record.Filter.{Filter}
 use Rattle.records.specs.declared.subscribe_record.Subscribe.{Subscribe}
 use Rattle.records.specs.declared.reply_record.Reply.{Reply}
@@ -22,9 +22,9 @@ use Rattle.records.specs.declared.unsubscribe_record.Unsubscribe.{Unsubscribe}
 -- 01, table of properties, row Publish; both lists are read in the block
 abbrev pub told_publish_properties : PublishProperties → PublishProps place.Span (λ A. place.Span)
 told_publish_properties p = record {
-  format = told_u8 p.payload_format_indicator;
-  expiry = told_u32 p.message_expiry_interval;
-  alias = told_u16 p.topic_alias;
+  format = told_number_if p.payload_format_indicator;
+  expiry = told_number_if p.message_expiry_interval;
+  alias = told_number_if p.topic_alias;
   response = told_string p.response_topic;
   correlation = told_string p.correlation_data;
   user = told_span p.block;
@@ -34,17 +34,17 @@ told_publish_properties p = record {
 
 -- 01, table of properties, rows Subscribe and PubAck; 02, P1, row Unsubscribe
 abbrev pub told_properties : Properties → Props place.Span (λ A. place.Span)
-told_properties p = record { reason = told_string p.reason_string; ident = told_u32 p.id; user = told_span p.block }
+told_properties p = record { reason = told_string p.reason_string; ident = told_number_if p.id; user = told_span p.block }
 
 -- 01, grammar: "L = 0 means absent", in a Publish
-abbrev pub told_publish_block : MaybePublishProperties → Option (PublishProps place.Span (λ A. place.Span))
-told_publish_block MaybePublishProperties.Absent = none
-told_publish_block (MaybePublishProperties.Present p) = some (told_publish_properties p)
+abbrev pub told_publish_block : std.Option PublishProperties → Option (PublishProps place.Span (λ A. place.Span))
+told_publish_block None = none
+told_publish_block (Some p) = some (told_publish_properties p)
 
 -- 01, grammar: "L = 0 means absent", at any other place; PubAck: "no block"
-abbrev pub told_block : MaybeProperties → Option (Props place.Span (λ A. place.Span))
-told_block MaybeProperties.Absent = none
-told_block (MaybeProperties.Present p) = some (told_properties p)
+abbrev pub told_block : std.Option Properties → Option (Props place.Span (λ A. place.Span))
+told_block None = none
+told_block (Some p) = some (told_properties p)
 
 -- ---- packets
 

@@ -1,5 +1,6 @@
 // The four publish acknowledgements as read, after puback.rs, pubrec.rs, pubrel.rs and pubcomp.rs, which share one layout.
-use crate::properties_record::MaybeProperties;
+
+use crate::properties_record::Properties;
 
 #[derive(Clone, Copy)]
 pub enum AckKind {
@@ -14,5 +15,5 @@ pub struct Ack {
     pub pkid: u16,
     // one of the reasons of its kind
     pub reason: u8,
-    pub properties: MaybeProperties,
+    pub properties: Option<Properties>,
 }

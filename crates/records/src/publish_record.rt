@@ -1,6 +1,6 @@
 // A Publish as read, after publish.rs.
 use crate::qos::QoS;
-use crate::span::{MaybeSpan, MaybeU8, MaybeU16, MaybeU32, Span};
+use crate::span::Span;
 
 #[derive(Clone, Copy)]
 pub struct Publish {
@@ -11,23 +11,17 @@ pub struct Publish {
     // 0 where QoS is 0
     pub pkid: u16,
     pub payload: Span,
-    pub properties: MaybePublishProperties,
-}
-
-#[derive(Clone, Copy)]
-pub enum MaybePublishProperties {
-    Absent,
-    Present(PublishProperties),
+    pub properties: Option<PublishProperties>,
 }
 
 #[derive(Clone, Copy)]
 pub struct PublishProperties {
-    pub payload_format_indicator: MaybeU8,
-    pub message_expiry_interval: MaybeU32,
-    pub topic_alias: MaybeU16,
-    pub response_topic: MaybeSpan,
-    pub correlation_data: MaybeSpan,
-    pub content_type: MaybeSpan,
+    pub payload_format_indicator: Option<u8>,
+    pub message_expiry_interval: Option<u32>,
+    pub topic_alias: Option<u16>,
+    pub response_topic: Option<Span>,
+    pub correlation_data: Option<Span>,
+    pub content_type: Option<Span>,
     // where the properties stand: the user properties and the subscription identifiers are read there
     pub block: Span,
 }

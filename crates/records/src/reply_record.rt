@@ -1,5 +1,5 @@
 // A SubAck or UnsubAck as read, after suback.rs and unsuback.rs.
-use crate::properties_record::MaybeProperties;
+use crate::properties_record::Properties;
 use crate::span::Span;
 
 #[derive(Clone, Copy)]
@@ -13,5 +13,5 @@ pub struct Reply {
     pub pkid: u16,
     // where the reasons stand, a byte each
     pub reasons: Span,
-    pub properties: MaybeProperties,
+    pub properties: Option<Properties>,
 }

@@ -1,4 +1,4 @@
-// Places in a lent stream, and single values that may be absent.
+// Places in a lent stream.
 
 // The bytes from start on, len of them.
 #[derive(Clone, Copy)]
@@ -12,28 +12,4 @@ pub struct Span {
 pub struct Bounds {
     pub start: usize,
     pub end: usize,
-}
-
-#[derive(Clone, Copy)]
-pub enum MaybeU8 {
-    Absent,
-    Present(u8),
-}
-
-#[derive(Clone, Copy)]
-pub enum MaybeU16 {
-    Absent,
-    Present(u16),
-}
-
-#[derive(Clone, Copy)]
-pub enum MaybeU32 {
-    Absent,
-    Present(u32),
-}
-
-#[derive(Clone, Copy)]
-pub enum MaybeSpan {
-    Absent,
-    Present(Span),
 }

@@ -1,6 +1,6 @@
 // A Subscribe as read, and one filter, after subscribe.rs.
 use crate::error::Error;
-use crate::properties_record::MaybeProperties;
+use crate::properties_record::Properties;
 use crate::qos::QoS;
 use crate::span::Span;
 
@@ -9,7 +9,7 @@ pub struct Subscribe {
     pub pkid: u16,
     // where the filters stand
     pub filters: Span,
-    pub properties: MaybeProperties,
+    pub properties: Option<Properties>,
 }
 
 #[derive(Clone, Copy)]
@@ -26,11 +26,4 @@ pub struct Filter {
     pub nolocal: bool,
     pub preserve_retain: bool,
     pub retain_forward_rule: RetainForwardRule,
-}
-
-// The forward rule of a number.
-#[derive(Clone, Copy)]
-pub enum GotRule {
-    Value(RetainForwardRule),
-    Refused(Error),
 }

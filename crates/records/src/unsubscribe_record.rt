@@ -1,5 +1,5 @@
 // An Unsubscribe as read, after unsubscribe.rs.
-use crate::properties_record::MaybeProperties;
+use crate::properties_record::Properties;
 use crate::span::Span;
 
 #[derive(Clone, Copy)]
@@ -7,5 +7,5 @@ pub struct Unsubscribe {
     pub pkid: u16,
     // where the topics stand
     pub topics: Span,
-    pub properties: MaybeProperties,
+    pub properties: Option<Properties>,
 }

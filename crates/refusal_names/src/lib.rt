@@ -22,11 +22,7 @@ fn letters(rows: &[u8], at: usize) -> [u8; 24]
     ensures { result ≡ take 24 (drop at rows.now) }
 {
     let mut bytes = [0; 24];
-    let mut i = 0;
-    while i < 24 {
-        bytes[i] = rows[at + i];
-        i += 1;
-    }
+    bytes.copy_from_slice(&rows[at..at + 24]);
     bytes
 }
 

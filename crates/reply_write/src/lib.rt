@@ -13,21 +13,19 @@ ghost use Rattle.writing.specs.Size.{rest_is, cap};
 ghost use Rattle.writing.specs.Order.{judge, code, field_tests};
 ghost use Rattle.writing.specs.Write.{size_of, Written as WrittenOf};
 ghost use Rattle.records.specs.AsNumbers.{limit_of, told_reply_kind};
-ghost use Rattle.records.specs.Answered.{told_sized, told_written};
+ghost use Rattle.records.specs.Answered.{told_size};
 ghost use Rattle.write_tests.specs.Tested.{told_tested};
 ghost use Rattle.write_order.specs.Found.{before_size, Stored};
 ghost use Rattle.reply_write.specs.Handed.{handed};
 
 use kinds;
 use kinds::{Kind, number_of};
-use records::answer::{Limit, Sized, Written};
 use records::error::Error;
 use records::reply_record::ReplyKind;
 use tables::reason::is_reply_reason;
 use write_bytes::put_bytes;
-use write_numbers::fixed;
+use write_numbers::fixed::Fixed;
 use write_runs::run;
-use write_tests::Tested;
 
 // What is handed over by value; the reason string, the user properties and the reasons are lent beside it.
 #[derive(Clone, Copy)]
@@ -77,8 +75,8 @@ pub fn size(
     user: &[u8],
     user_lengths: &[usize],
     reasons: &[u8],
-) -> Sized
-    ensures { told_sized result ≡ size_of (reply (told_reply_kind m.kind) (handed m reason_string.now user.now user_lengths.now reasons.now)) }
+) -> Result<usize, Error>
+    ensures { told_size result ≡ size_of (reply (told_reply_kind m.kind) (handed m reason_string.now user.now user_lengths.now reasons.now)) }
 {
     write_order::size(
         belongs(m, reason_string, user, user_lengths, reasons),
@@ -87,28 +85,23 @@ pub fn size(
 }
 
 // 15: a reason that its kind does not list.
-fn test_reason(kind: ReplyKind, reason: u8) -> Tested
+fn test_reason(kind: ReplyKind, reason: u8) -> Result<(), Error>
     ensures { told_tested result ≡ judge (field_tests (code (reasons_of (told_reply_kind kind)) reason)) }
 {
     if is_reply_reason(kind, reason) {
-        return Tested::Fine;
+        return Ok(());
     }
-    Tested::Refused(Error::InvalidReason(reason))
+    Err(Error::InvalidReason(reason))
 }
 
 // Reason by reason.
-fn test_reasons(kind: ReplyKind, reasons: &[u8]) -> Tested
+fn test_reasons(kind: ReplyKind, reasons: &[u8]) -> Result<(), Error>
     ensures { told_tested result ≡ judge (flat field_tests (map (code (reasons_of (told_reply_kind kind))) reasons.now)) }
 {
-    let mut i: usize = 0;
-    while i < reasons.len() {
-        match test_reason(kind, reasons[i]) {
-            Tested::Refused(e) => return Tested::Refused(e),
-            Tested::Fine => {}
-        }
-        i = i + 1;
+    for reason in reasons {
+        test_reason(kind, *reason)?;
     }
-    Tested::Fine
+    Ok(())
 }
 
 // 20, then the fields.
@@ -118,27 +111,24 @@ fn before_size(
     user: &[u8],
     user_lengths: &[usize],
     reasons: &[u8],
-) -> Tested
+) -> Result<(), Error>
     ensures { told_tested result ≡ before_size (reply (told_reply_kind m.kind) (handed m reason_string.now user.now user_lengths.now reasons.now)) }
 {
     if !belongs(m, reason_string, user, user_lengths, reasons) {
-        return Tested::Refused(Error::ListMismatch);
+        return Err(Error::ListMismatch);
     }
-    let kind = m.kind;
-    write_tests::then(
-        write_ack_properties::test_rows(m.reason_string, reason_string, user, user_lengths),
-        test_reasons(kind, reasons),
-    )
+    write_ack_properties::test_rows(m.reason_string, reason_string, user, user_lengths)?;
+    test_reasons(m.kind, reasons)
 }
 
 // 13 if there is no reason.
-fn test_asked(reasons: &[u8]) -> Tested
+fn test_asked(reasons: &[u8]) -> Result<(), Error>
     ensures { told_tested result ≡ guard (not (is_empty reasons.now)) (nr 13 []) }
 {
     if reasons.len() == 0 {
-        return Tested::Refused(Error::EmptySubscription);
+        return Err(Error::EmptySubscription);
     }
-    Tested::Fine
+    Ok(())
 }
 
 // The first byte of a kind.
@@ -164,7 +154,7 @@ fn put(
     let byte1 = first_byte(kind);
     let n = write_properties::put_header(&mut *out, byte1, len);
     let first = run::after(out.len(), 0, n);
-    fixed::put_u16(&mut *out, first, m.pkid);
+    m.pkid.put(&mut *out, first);
     let second = run::after(out.len(), first, 2);
     let third = write_ack_properties::put_rows(
         &mut *out,
@@ -184,19 +174,15 @@ pub fn write(
     user: &[u8],
     user_lengths: &[usize],
     reasons: &[u8],
-    limit: Limit,
+    limit: Option<usize>,
     out: &mut [u8],
-) -> Written
-    ensures { WrittenOf (limit_of limit) (reply (told_reply_kind m.kind) (handed m reason_string.now user.now user_lengths.now reasons.now)) out.old out.new (told_written result) }
+) -> Result<usize, Error>
+    ensures { WrittenOf (limit_of limit) (reply (told_reply_kind m.kind) (handed m reason_string.now user.now user_lengths.now reasons.now)) out.old out.new (told_size result) }
 {
     let fields = before_size(m, reason_string, user, user_lengths, reasons);
     let len = rest(m, reason_string, user, user_lengths, reasons);
     let end = test_asked(reasons);
-    match write_order::settle(fields, len, limit, end, out.len()) {
-        Written::Refused(e) => Written::Refused(e),
-        Written::Size(n) => {
-            put(&mut *out, m, reason_string, user, user_lengths, reasons);
-            Written::Size(n)
-        }
-    }
+    let n = write_order::settle(fields, len, limit, end, out.len())?;
+    put(&mut *out, m, reason_string, user, user_lengths, reasons);
+    Ok(n)
 }

@@ -7,7 +7,6 @@ ghost use Rattle.reading.specs.Read.{is_text, num_of};
 ghost use Rattle.positions.specs.Position.{from_at, next_or};
 ghost use Rattle.speed_leaves.specs.Numbers.{number_or, numbers_sum};
 
-use numbers::got::GotU32;
 use std::num;
 use var_length;
 
@@ -25,11 +24,11 @@ pub extern "C" fn speed_leaves_length(s: &[u8], at: usize, value: &mut u32) -> u
     ensures { (result ≡ next_or 0 (from_at (num_of cut 4) s.now at)) × (value.new ≡ number_or value.old (from_at (num_of cut 4) s.now at)) }
 {
     match var_length::read_length(s, at) {
-        GotU32::Value(n, next) => {
+        Ok((n, next)) => {
             *value = n;
             next
         }
-        GotU32::Refused(_) => 0,
+        Err(_) => 0,
     }
 }
 
@@ -42,11 +41,11 @@ pub extern "C" fn speed_leaves_sum(s: &[u8]) -> u64
     let mut at: usize = 0;
     while at < s.len() {
         match var_length::read_length(s, at) {
-            GotU32::Value(n, next) => {
+            Ok((n, next)) => {
                 sum = num::wrapping_add_u64(sum, n as u64);
                 at = next;
             }
-            GotU32::Refused(_) => return 0,
+            Err(_) => return 0,
         }
     }
     sum

@@ -6,7 +6,6 @@ ghost use Rattle.records.specs.Said.{told_packet};
 ghost use Rattle.speed_reading.specs.Sum.{weight_of, frames_sum};
 
 use packet;
-use records::answer::{Limit, Read};
 use records::packet_record::Packet;
 use std::num;
 
@@ -31,15 +30,16 @@ pub extern "C" fn speed_reading_sum(stream: &[u8]) -> u64
     ensures { result ≡ frames_sum stream.now }
 {
     let mut sum: u64 = 0;
+    // a cursor: each frame takes what it takes
     let mut at: usize = 0;
     while at < stream.len() {
-        match packet::read(&stream[at..], Limit::Unlimited) {
-            Read::Packet(p, _, taken) => {
+        match packet::read(&stream[at..], None) {
+            Ok((p, _, taken)) => {
                 sum = num::wrapping_add_u64(sum, weight(p));
                 sum = num::wrapping_add_u64(sum, taken as u64);
                 at = at + taken;
             }
-            Read::Refused(_, _) => return sum,
+            Err((_, _)) => return sum,
         }
     }
     sum

@@ -1,11 +1,8 @@
 -- What the benchmark hands over, and the number that it is given. Assumes nothing.
-use Rattle.std.specs.Prelude.{◌≡◌, true, false, cond, List, ℕ, eqb}
+use Rattle.std.specs.Prelude.{◌≡◌, true, false, cond, List, ℕ, eqb, None}
 use Rattle.std.proofs.Math.Option.{none}
 use Rattle.positions.specs.Count.{or_zero}
 use Rattle.records.specs.declared.qos.QoS.{QoS}
-use Rattle.records.specs.declared.span.MaybeU8.{MaybeU8}
-use Rattle.records.specs.declared.span.MaybeU16.{MaybeU16}
-use Rattle.records.specs.declared.span.MaybeU32.{MaybeU32}
 use Rattle.publish_plan.specs.declared.head.PublishHead.{PublishHead}
 use Rattle.packet_write.specs.Parts.{Parts}
 use Rattle.writing.specs.Write.{answered_behind, out_behind}
@@ -24,9 +21,9 @@ bench_head i = record {
   retain = false;
   pkid = i;
   block = true;
-  payload_format_indicator = MaybeU8.Absent;
-  message_expiry_interval = MaybeU32.Absent;
-  topic_alias = MaybeU16.Absent;
+  payload_format_indicator = None;
+  message_expiry_interval = None;
+  topic_alias = None;
   response_topic = false;
   correlation_data = false;
   content_type = false;

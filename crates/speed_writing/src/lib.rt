@@ -8,9 +8,7 @@ ghost use Rattle.speed_writing.specs.Count.{qos_for, bench_head, Counted};
 use packet_write::head::PacketHead;
 use packet_write::write;
 use publish_plan::head::PublishHead;
-use records::answer::{Limit, Written};
 use records::qos::QoS;
-use records::span::{MaybeU8, MaybeU16, MaybeU32};
 
 fn qos(pkid: u16) -> QoS
     ensures { result ≡ qos_for pkid }
@@ -31,9 +29,9 @@ fn head(pkid: u16) -> PublishHead
         retain: false,
         pkid,
         block: true,
-        payload_format_indicator: MaybeU8::Absent,
-        message_expiry_interval: MaybeU32::Absent,
-        topic_alias: MaybeU16::Absent,
+        payload_format_indicator: None,
+        message_expiry_interval: None,
+        topic_alias: None,
         response_topic: false,
         correlation_data: false,
         content_type: false,
@@ -66,11 +64,11 @@ pub extern "C" fn speed_writing_publish(
         b"",
         &[],
         b"",
-        Limit::Unlimited,
+        None,
         &mut *out,
     );
     match written {
-        Written::Size(n) => n,
-        Written::Refused(_) => 0,
+        Ok(n) => n,
+        Err(_) => 0,
     }
 }

@@ -15,10 +15,10 @@ ghost use Rattle.subscribe_write.specs.Fitting.{fit_filter};
 
 use records::error::Error;
 use write_belongs;
-use write_numbers::fixed;
+use write_numbers::fixed::Fixed;
 use write_runs::run;
 use write_strings::put_string;
-use write_tests::{Tested, test_word};
+use write_tests::test_word;
 
 // How many there are: one for each length that has an options byte.
 fn how_many(lengths: &[usize], options: &[u8]) -> usize
@@ -44,50 +44,39 @@ pub fn filters_size(bytes: &[u8], options: &[u8]) -> usize
 }
 
 // A filter's text, then its options: 14, then 11.
-fn test_filter(s: &[u8], options: u8) -> Tested
+fn test_filter(s: &[u8], options: u8) -> Result<(), Error>
     ensures { told_tested result ≡ judge (field_tests (filter s.now options)) }
 {
-    match test_word(s) {
-        Tested::Refused(e) => Tested::Refused(e),
-        Tested::Fine => {
-            if options / 16 % 4 == 3 {
-                return Tested::Refused(Error::InvalidRetainForwardRule(3));
-            }
-            if options % 4 == 3 {
-                return Tested::Refused(Error::InvalidQoS(3));
-            }
-            Tested::Fine
-        }
+    test_word(s)?;
+    if options / 16 % 4 == 3 {
+        return Err(Error::InvalidRetainForwardRule(3));
     }
+    if options % 4 == 3 {
+        return Err(Error::InvalidQoS(3));
+    }
+    Ok(())
 }
 
 // Filters one after the other, as far as there are both lengths and options: 18, 9, 14, then 11, the first refusal.
-pub fn test_filters(bytes: &[u8], lengths: &[usize], options: &[u8]) -> Tested
+pub fn test_filters(bytes: &[u8], lengths: &[usize], options: &[u8]) -> Result<(), Error>
     ensures { told_tested result ≡ judge (flat field_tests (map filter_field (filters_of (run_of bytes.now lengths.now) options.now))) }
 {
-    let count = how_many(lengths, options);
     let mut at: usize = 0;
-    let mut i: usize = 0;
-    while i < count {
-        let n = lengths[i];
-        match test_filter(run::piece(bytes, at, n), options[i]) {
-            Tested::Refused(e) => return Tested::Refused(e),
-            Tested::Fine => {}
-        }
-        at = run::after(bytes.len(), at, n);
-        i = i + 1;
+    for (n, option) in lengths.iter().zip(options) {
+        test_filter(run::piece(bytes, at, *n), *option)?;
+        at = run::after(bytes.len(), at, *n);
     }
-    Tested::Fine
+    Ok(())
 }
 
 // 13 if there is no filter.
-pub fn test_asked(lengths: &[usize], options: &[u8]) -> Tested
+pub fn test_asked(lengths: &[usize], options: &[u8]) -> Result<(), Error>
     ensures { (bytes : List ℕ) → told_tested result ≡ guard (not (is_empty (filters_of (run_of bytes lengths.now) options.now))) (nr 13 []) }
 {
     if how_many(lengths, options) == 0 {
-        return Tested::Refused(Error::EmptySubscription);
+        return Err(Error::EmptySubscription);
     }
-    Tested::Fine
+    Ok(())
 }
 
 // A filter; of a text that does not fit its options byte alone.
@@ -96,7 +85,7 @@ fn put_filter(out: &mut [u8], at: usize, s: &[u8], options: u8) -> usize
 {
     let n = put_string(&mut *out, at, s);
     let next = run::after(out.len(), at, n);
-    fixed::put_u8(&mut *out, next, options % 64);
+    (options % 64).put(&mut *out, next);
     1 + n
 }
 
@@ -110,16 +99,12 @@ pub fn put_filters(
 ) -> usize
     ensures { Put out.old at (flat fit_filter (filters_of (run_of bytes.now lengths.now) options.now)) out.new result }
 {
-    let count = how_many(lengths, options);
     let mut n: usize = 0;
     let mut from: usize = 0;
-    let mut i: usize = 0;
-    while i < count {
-        let k = lengths[i];
+    for (k, option) in lengths.iter().zip(options) {
         let to = run::after(out.len(), at, n);
-        n = n + put_filter(&mut *out, to, run::piece(bytes, from, k), options[i]);
-        from = run::after(bytes.len(), from, k);
-        i = i + 1;
+        n += put_filter(&mut *out, to, run::piece(bytes, from, *k), *option);
+        from = run::after(bytes.len(), from, *k);
     }
     n
 }

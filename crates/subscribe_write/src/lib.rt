@@ -14,21 +14,18 @@ ghost use Rattle.writing.specs.Order.{props_fields, numbers_of};
 ghost use Rattle.writing.specs.Refuse.{Writable, Fine};
 ghost use Rattle.writing.specs.Write.{size_of, Written as WrittenOf};
 ghost use Rattle.records.specs.AsNumbers.{limit_of};
-ghost use Rattle.records.specs.Answered.{told_sized, told_written};
+ghost use Rattle.records.specs.Answered.{told_size};
 ghost use Rattle.write_tests.specs.Tested.{told_tested};
 ghost use Rattle.write_properties.specs.Behind.{Behind};
 ghost use Rattle.write_order.specs.Found.{before_size, after_limit, Stored};
 ghost use Rattle.subscribe_write.specs.Handed.{handed};
 
 use kinds;
-use records::answer::{Limit, Sized, Written};
 use records::error::Error;
-use records::span::MaybeU32;
 use write_belongs;
 use write_lengths::put_length;
-use write_numbers::fixed;
+use write_numbers::fixed::Fixed;
 use write_runs::run;
-use write_tests::Tested;
 
 // What is handed over by value; the user properties and the filters are lent beside it.
 #[derive(Clone, Copy)]
@@ -36,7 +33,7 @@ pub struct SubscribeHead {
     pub pkid: u16,
     // whether there are properties
     pub block: bool,
-    pub id: MaybeU32,
+    pub id: Option<u32>,
 }
 
 // False is 20: the subscription identifier, the user properties or the filters do not belong together.
@@ -52,7 +49,7 @@ fn belongs(
 {
     let id = m.id;
     let block = write_belongs::both(
-        write_belongs::u32_belongs(m.block, id),
+        write_belongs::one_belongs(m.block, id),
         write_belongs::pairs_belong(m.block, user, user_lengths),
     );
     write_belongs::both(
@@ -97,8 +94,8 @@ pub fn size(
     filters: &[u8],
     filter_lengths: &[usize],
     options: &[u8],
-) -> Sized
-    ensures { told_sized result ≡ size_of (subscribe (handed m user.now user_lengths.now filters.now filter_lengths.now options.now)) }
+) -> Result<usize, Error>
+    ensures { told_size result ≡ size_of (subscribe (handed m user.now user_lengths.now filters.now filter_lengths.now options.now)) }
 {
     write_order::size(
         belongs(m, user, user_lengths, filters, filter_lengths, options),
@@ -114,27 +111,22 @@ fn before_size(
     filters: &[u8],
     filter_lengths: &[usize],
     options: &[u8],
-) -> Tested
+) -> Result<(), Error>
     ensures { told_tested result ≡ before_size (subscribe (handed m user.now user_lengths.now filters.now filter_lengths.now options.now)) }
 {
     if !belongs(m, user, user_lengths, filters, filter_lengths, options) {
-        return Tested::Refused(Error::ListMismatch);
+        return Err(Error::ListMismatch);
     }
-    write_tests::then(
-        write_tests::test_words(user, user_lengths),
-        filter::test_filters(filters, filter_lengths, options),
-    )
+    write_tests::test_words(user, user_lengths)?;
+    filter::test_filters(filters, filter_lengths, options)
 }
 
 // 17 for the identifier, then 13.
-fn after_limit(m: SubscribeHead, filter_lengths: &[usize], options: &[u8]) -> Tested
+fn after_limit(m: SubscribeHead, filter_lengths: &[usize], options: &[u8]) -> Result<(), Error>
     ensures { (user lengths filters : List ℕ) → told_tested result ≡ after_limit (subscribe (handed m user lengths filters filter_lengths.now options.now)) }
 {
-    let id = m.id;
-    write_tests::then(
-        write_tests::test_number(id),
-        filter::test_asked(filter_lengths, options),
-    )
+    write_tests::test_number(m.id)?;
+    filter::test_asked(filter_lengths, options)
 }
 
 // L and the properties, where they can be written; gives the index behind them.
@@ -173,7 +165,7 @@ fn put(
     let byte1 = kinds::first_byte(8);
     let n = write_properties::put_header(&mut *out, byte1, len);
     let first = run::after(out.len(), 0, n);
-    fixed::put_u16(&mut *out, first, m.pkid);
+    m.pkid.put(&mut *out, first);
     let second = run::after(out.len(), first, 2);
     let third = put_block(&mut *out, second, m, user, user_lengths);
     filter::put_filters(&mut *out, third, filters, filter_lengths, options);
@@ -187,27 +179,23 @@ pub fn write(
     filters: &[u8],
     filter_lengths: &[usize],
     options: &[u8],
-    limit: Limit,
+    limit: Option<usize>,
     out: &mut [u8],
-) -> Written
-    ensures { WrittenOf (limit_of limit) (subscribe (handed m user.now user_lengths.now filters.now filter_lengths.now options.now)) out.old out.new (told_written result) }
+) -> Result<usize, Error>
+    ensures { WrittenOf (limit_of limit) (subscribe (handed m user.now user_lengths.now filters.now filter_lengths.now options.now)) out.old out.new (told_size result) }
 {
     let fields = before_size(m, user, user_lengths, filters, filter_lengths, options);
     let len = rest(m, user, user_lengths, filters, options);
     let end = after_limit(m, filter_lengths, options);
-    match write_order::settle(fields, len, limit, end, out.len()) {
-        Written::Refused(e) => Written::Refused(e),
-        Written::Size(n) => {
-            put(
-                &mut *out,
-                m,
-                user,
-                user_lengths,
-                filters,
-                filter_lengths,
-                options,
-            );
-            Written::Size(n)
-        }
-    }
+    let n = write_order::settle(fields, len, limit, end, out.len())?;
+    put(
+        &mut *out,
+        m,
+        user,
+        user_lengths,
+        filters,
+        filter_lengths,
+        options,
+    );
+    Ok(n)
 }

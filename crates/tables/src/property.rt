@@ -21,7 +21,7 @@ pub enum OtherRow {
     Unsubscribe,
 }
 
-// The form of a property's value, or that the row has no such property.
+// The form of a property's value.
 #[derive(Clone, Copy)]
 pub enum PropertyForm {
     U8,
@@ -31,55 +31,54 @@ pub enum PropertyForm {
     Text,
     Bytes,
     Pair,
-    NotHere,
 }
 
 // The form of a property of a Publish.
-fn publish_property(num: u8) -> PropertyForm
+fn publish_property(num: u8) -> Option<PropertyForm>
     ensures { told_form result ≡ form_at publish_row num }
 {
     match num {
-        1 => PropertyForm::U8,
-        2 => PropertyForm::U32,
-        35 => PropertyForm::U16,
-        8 => PropertyForm::Text,
-        9 => PropertyForm::Bytes,
-        38 => PropertyForm::Pair,
-        11 => PropertyForm::Number,
-        3 => PropertyForm::Text,
-        0 | 4..=7 | 10 | 12..=34 | 36..=37 | 39..=255 => PropertyForm::NotHere,
+        1 => Some(PropertyForm::U8),
+        2 => Some(PropertyForm::U32),
+        35 => Some(PropertyForm::U16),
+        8 => Some(PropertyForm::Text),
+        9 => Some(PropertyForm::Bytes),
+        38 => Some(PropertyForm::Pair),
+        11 => Some(PropertyForm::Number),
+        3 => Some(PropertyForm::Text),
+        0 | 4..=7 | 10 | 12..=34 | 36..=37 | 39..=255 => None,
     }
 }
 
 // The form of a property of a Subscribe.
-fn subscribe_property(num: u8) -> PropertyForm
+fn subscribe_property(num: u8) -> Option<PropertyForm>
     ensures { told_form result ≡ form_at subscribe_row num }
 {
     match num {
-        11 => PropertyForm::Number,
-        38 => PropertyForm::Pair,
-        0..=10 | 12..=37 | 39..=255 => PropertyForm::NotHere,
+        11 => Some(PropertyForm::Number),
+        38 => Some(PropertyForm::Pair),
+        0..=10 | 12..=37 | 39..=255 => None,
     }
 }
 
 // The form of a property of an acknowledgement: PubAck, PubRec, PubRel, PubComp, SubAck, UnsubAck.
-fn ack_property(num: u8) -> PropertyForm
+fn ack_property(num: u8) -> Option<PropertyForm>
     ensures { told_form result ≡ form_at ack_row num }
 {
     match num {
-        31 => PropertyForm::Text,
-        38 => PropertyForm::Pair,
-        0..=30 | 32..=37 | 39..=255 => PropertyForm::NotHere,
+        31 => Some(PropertyForm::Text),
+        38 => Some(PropertyForm::Pair),
+        0..=30 | 32..=37 | 39..=255 => None,
     }
 }
 
 // The form of a property of an Unsubscribe.
-fn unsubscribe_property(num: u8) -> PropertyForm
+fn unsubscribe_property(num: u8) -> Option<PropertyForm>
     ensures { told_form result ≡ form_at unsubscribe_row num }
 {
     match num {
-        38 => PropertyForm::Pair,
-        0..=37 | 39..=255 => PropertyForm::NotHere,
+        38 => Some(PropertyForm::Pair),
+        0..=37 | 39..=255 => None,
     }
 }
 
@@ -95,7 +94,7 @@ pub fn as_row(other: OtherRow) -> PropertyRow
 }
 
 // The form of a property in a row, or none.
-pub fn property(row: PropertyRow, num: u8) -> PropertyForm
+pub fn property(row: PropertyRow, num: u8) -> Option<PropertyForm>
     ensures { told_form result ≡ form_at (table_row row) num }
 {
     match row {

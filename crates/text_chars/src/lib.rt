@@ -3,7 +3,7 @@
 
 ghost use Rattle.std.specs.Prelude.{◌≡◌, ◌<◌, ◌≤◌, length, drop};
 ghost use Rattle.reading.specs.Read.{is_text};
-ghost use Rattle.text_chars.specs.Text.{continues, low_of, high_of, flaw_of, Followed, Passed};
+ghost use Rattle.text_chars.specs.Text.{continues, low_of, high_of, flaw_of, all_ascii, Followed, Passed};
 
 use std::num;
 
@@ -47,23 +47,23 @@ pub fn flaw(b: u8) -> u8
     128
 }
 
-// Does one byte follow at index `at` that continues a character?
-fn follows_one(s: &[u8], at: usize) -> bool
-    requires { at ≤ length s.now }
-    ensures { Followed s.now at 1 0x80 0xBF result }
+// Is each byte of a run ASCII, and none of them 0? All are asked, with no way out, so that the compiler tests a run of a known length at once.
+pub fn is_ascii(run: &[u8]) -> bool
+    ensures { result ≡ all_ascii run.now }
 {
-    if s.len() - at < 1 {
-        return false;
+    let mut all = true;
+    for b in run {
+        all &= flaw(*b) < 128;
     }
-    goes_on(s[at])
+    all
 }
 
-// Do two, the first of them from low to high?
-fn follow_two(s: &[u8], at: usize, low: u8, high: u8) -> bool
-    requires { at ≤ length s.now }
-    ensures { Followed s.now at 2 low high result }
+// Do N bytes follow at index `at`, the first of them from low to high, and the others any that continue a character?
+fn follow<const N: usize>(s: &[u8], at: usize, low: u8, high: u8) -> bool
+    requires { (0 < N) × (at ≤ length s.now) }
+    ensures { Followed s.now at N low high result }
 {
-    if s.len() - at < 2 {
+    if s.len() - at < N {
         return false;
     }
     let b = s[at];
@@ -73,28 +73,12 @@ fn follow_two(s: &[u8], at: usize, low: u8, high: u8) -> bool
     if high < b {
         return false;
     }
-    goes_on(s[at + 1])
-}
-
-// Do three?
-fn follow_three(s: &[u8], at: usize, low: u8, high: u8) -> bool
-    requires { at ≤ length s.now }
-    ensures { Followed s.now at 3 low high result }
-{
-    if s.len() - at < 3 {
-        return false;
+    for i in 1..N {
+        if !goes_on(s[at + i]) {
+            return false;
+        }
     }
-    let b = s[at];
-    if b < low {
-        return false;
-    }
-    if high < b {
-        return false;
-    }
-    if goes_on(s[at + 1]) {
-        return goes_on(s[at + 2]);
-    }
-    false
+    true
 }
 
 // The index after the character at `at`; `at` if none stands there.
@@ -110,19 +94,19 @@ fn next_char(s: &[u8], at: usize) -> usize
         return at;
     }
     if b < 0xE0 {
-        if follows_one(s, at + 1) {
+        if follow::<1>(s, at + 1, 0x80, 0xBF) {
             return at + 2;
         }
         return at;
     }
     if b < 0xF0 {
-        if follow_two(s, at + 1, low_of(b), high_of(b)) {
+        if follow::<2>(s, at + 1, low_of(b), high_of(b)) {
             return at + 3;
         }
         return at;
     }
     if b < 0xF5 {
-        if follow_three(s, at + 1, low_of(b), high_of(b)) {
+        if follow::<3>(s, at + 1, low_of(b), high_of(b)) {
             return at + 4;
         }
     }
@@ -133,6 +117,7 @@ fn next_char(s: &[u8], at: usize) -> usize
 pub fn by_chars(s: &[u8], at: usize) -> bool
     ensures { result ≡ is_text (drop at s.now) }
 {
+    // a character takes one to four bytes: the index is a cursor
     let mut i = at;
     while i < s.len() {
         if flaw(s[i]) < 128 {

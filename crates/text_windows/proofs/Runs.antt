@@ -3,6 +3,7 @@ use Rattle.std.proofs.Common.{◌≡◌, ℕ, zero, suc, ◌+◌, ◌-◌, ◌<�
 use mathlib.Core.Bool.{false≢true}
 use lib.Bits.{bit_or}
 use borrow.Author.Tests.{lt-leb, eqb-false}
+use Rattle.std.proofs.lemmas.List.{take_rest}
 use Rattle.reading.specs.Read.{is_text}
 use Rattle.text_chars.specs.Text.{plain, all_ascii}
 use Rattle.text_windows.specs.Window.{due, fits, padded, due_at, fits_at, Fit, Fitted, FitTo, AsciiTo}
@@ -213,3 +214,10 @@ module _ {s : List ℕ} {i : ℕ} (g : AsciiTo s i) where
 
 pub ascii_none : (s : List ℕ) → AsciiTo s 0
 ascii_none s = record { within = omega arith; ascii = refl }
+
+-- ASCII bytes behind an index where nothing is due
+pub plain_run : (s : List ℕ) (at r : ℕ) → at ≤ length s → AsciiTo (take (length s - at) (drop at s)) r → Fit s 0 at → due_at s at ≡ false → (at + r ≤ length s) × Fit s 0 (at + r)
+plain_run s at r h a f d =
+    let g : AsciiTo (drop at s) r = rw (take_rest s at) at a in
+    let w : at + r ≤ length s = omega (arith, simp length-drop at g.within) in
+    (w, (chunk_fit s at r w g.ascii f d).0)

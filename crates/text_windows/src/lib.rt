@@ -1,37 +1,25 @@
 // Text by windows: each byte is held against the three before it, sixteen at a time and with no branch.
 #![tactic(auto)]
 
-ghost use Rattle.std.specs.Prelude.{◌≡◌, ◌+◌, ◌-◌, ◌<◌, ◌≤◌, true, not, ltb, length, take, drop, if◌then◌else◌, ◌==◌, nat_lt};
+ghost use Rattle.std.specs.Prelude.{◌≡◌, ◌+◌, ◌-◌, ◌<◌, ◌≤◌, true, not, ltb, length, if◌then◌else◌, ◌==◌, nat_lt};
 ghost use Rattle.reading.specs.Read.{is_text};
-ghost use Rattle.text_chars.specs.Text.{continues, all_ascii};
+ghost use Rattle.text_chars.specs.Text.{continues};
 ghost use Rattle.text_windows.specs.Window.{due, only_if, second, fits, used, due_at, Fit, Fitted, FitTo, AsciiTo};
 
 use std::num;
 
-// Is each byte from index `at` to `end` ASCII, and none of them 0?
-fn is_ascii(s: &[u8], at: usize, end: usize) -> bool
-    requires { (at ≤ end) × (end ≤ length s.now) }
-    ensures { (result ≡ true → is_text (drop at s.now) ≡ is_text (drop end s.now)) × (result ≡ all_ascii (take (end - at) (drop at s.now))) }
-{
-    let mut all: u8 = 0;
-    let mut i = at;
-    while i < end {
-        all = all | text_chars::flaw(s[i]);
-        i = i + 1;
-    }
-    all < 128
-}
-
-// The index after the chunks of 128 bytes, from the first on, that are ASCII.
-fn pass_ascii(s: &[u8]) -> usize
+// The index after the chunks of N bytes, from the first on, that are ASCII.
+fn pass_ascii<const N: usize>(s: &[u8]) -> usize
+    requires { 0 < N }
     ensures { AsciiTo s.now result }
 {
+    // by index: a chunk is tested at once, which byte by byte misses the bar of speed
     let mut i: usize = 0;
-    while 128 <= s.len() - i {
-        if !is_ascii(s, i, i + 128) {
+    while N <= s.len() - i {
+        if !text_chars::is_ascii(&s[i..i + N]) {
             return i;
         }
-        i = i + 128;
+        i = i + N;
     }
     i
 }
@@ -41,13 +29,10 @@ fn is_rest_ascii(s: &[u8], at: usize) -> bool
     requires { AsciiTo s.now at }
     ensures { result ≡ true → is_text s.now ≡ true }
 {
-    if at < 128 {
+    if at < 128 || 128 <= s.len() - at {
         return false;
     }
-    if 128 <= s.len() - at {
-        return false;
-    }
-    is_ascii(s, s.len() - 128, s.len())
+    text_chars::is_ascii(&s[s.len() - 128..])
 }
 
 // A byte is marked if its top bit is set. This one just where b is n + 128 or more.
@@ -157,10 +142,8 @@ fn fit_run(s: &[u8], at: usize, n: usize) -> bool
     ensures { Fitted s.now (at + 3) (at + 3 + n) result }
 {
     let mut all: u8 = 0;
-    let mut k: usize = 0;
-    while k < n {
-        all = all | misfit(s[at + k], s[at + k + 1], s[at + k + 2], s[at + k + 3]);
-        k = k + 1;
+    for k in 0..n {
+        all |= misfit(s[at + k], s[at + k + 1], s[at + k + 2], s[at + k + 3]);
     }
     all < 128
 }
@@ -188,7 +171,7 @@ fn fit_sixteen(s: &[u8], at: usize) -> bool
     requires { (3 ≤ at) × (at + 16 ≤ length s.now) × Fit s.now 0 at }
     ensures { Fitted s.now at (at + 16) result }
 {
-    if is_ascii(s, at, at + 16) {
+    if text_chars::is_ascii(&s[at..at + 16]) {
         return is_whole(s, at);
     }
     fit_run(s, at - 3, 16)
@@ -210,6 +193,7 @@ fn pass_sixteens(s: &[u8], at: usize, stop: usize) -> usize
     requires { (3 ≤ at) × (at ≤ length s.now) × (19 ≤ length s.now) × (stop ≤ length s.now) × Fit s.now 0 at }
     ensures { FitTo s.now stop result }
 {
+    // by index: the last sixteen may overlap those before them
     let mut i = at;
     while i < stop {
         let start = start_of(s, i);
@@ -226,20 +210,10 @@ fn pass_plain(s: &[u8], at: usize) -> usize
     requires { (3 ≤ at) × (at ≤ length s.now) × Fit s.now 0 at }
     ensures { (at ≤ result) × (result ≤ length s.now) × Fit s.now 0 result }
 {
-    if s.len() - at < 64 {
+    if s.len() - at < 64 || !is_whole(s, at) {
         return at;
     }
-    if !is_whole(s, at) {
-        return at;
-    }
-    let mut i = at;
-    while 64 <= s.len() - i {
-        if !is_ascii(s, i, i + 64) {
-            return i;
-        }
-        i = i + 64;
-    }
-    i
+    at + pass_ascii::<64>(&s[at..])
 }
 
 // The end of the chunk of 64 bytes at index `at`, or that of `s`.
@@ -259,6 +233,7 @@ fn by_windows(s: &[u8], at: usize) -> bool
     ensures { result ≡ is_text s.now }
 {
     let end = s.len();
+    // by index: a turn passes chunks of 64 bytes, and then sixteens, as many as there are
     let mut i = at;
     while i < end {
         let next = pass_plain(s, i);
@@ -286,7 +261,7 @@ fn by_long(s: &[u8]) -> bool
     requires { 19 ≤ length s.now }
     ensures { result ≡ is_text s.now }
 {
-    let at = pass_ascii(s);
+    let at = pass_ascii::<128>(s);
     if at < 128 {
         return by_start(s);
     }

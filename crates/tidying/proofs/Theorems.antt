@@ -11,6 +11,7 @@ use lib.Dec.{leb}
 use lib.ListN.{length, take, drop, get_or}
 use lib.Seq.{take_at}
 use borrow.Author.Tests.{leb-true, leb-false, le-leb}
+use Rattle.std.specs.Prelude.{Ok, Err}
 use Rattle.grammar.specs.Octets.{Octets}
 use Rattle.grammar.specs.Tables.{Layout, a_publish, an_ack, a_subscribe, a_reply, an_unsubscribe, a_ping}
 use Rattle.grammar.specs.Sentence.{Packet, Sentence}
@@ -39,25 +40,24 @@ use Rattle.tidy_form.proofs.Said.{sentence_said}
 use Rattle.tidy_form.proofs.Good.{good}
 use Rattle.tidy_form.proofs.Tidy.{tidy_is, tidy_reads, tidy_again, tidy_equal, tidy_refused}
 use Rattle.tidy_form.proofs.Layouts.{opened, bounds_alone, publish_frame, reply_frame, unsubscribe_frame, subscribe_frame, ping_frame, ack_frame, ack_short}
-use Rattle.tidying.specs.Tidied.{told_tidied, room_for, tidied_of, size_in, stands_in, Tidies, fit_of, tidy_length, layout_in, BareAck}
-use Rattle.tidying.specs.declared.Tidied.{Tidied}
+use Rattle.tidying.specs.Tidied.{Tidied, told_tidied, room_for, tidied_of, size_in, stands_in, Tidies, fit_of, tidy_length, layout_in, BareAck}
 use Rattle.tidying.proofs.Laws.Put.{laid_length, carried_kind, reason_there}
 
 -- ---- one result
 
 -- the answer, from what it tells
 back_tidied : Answer ℕ → Tidied
-back_tidied (accepted k n) = Tidied.Put k n
-back_tidied (refused k vs n) = Tidied.Refused (back_error (nr k vs)) n
+back_tidied (accepted k n) = Ok (k, n)
+back_tidied (refused k vs n) = Err ((back_error (nr k vs)), n)
 
-back_refused_lem : (k : Refusal) (n : ℕ) → back_tidied (refused_as k n) ≡ Tidied.Refused (back_error k) n
+back_refused_lem : (k : Refusal) (n : ℕ) → back_tidied (refused_as k n) ≡ Err ((back_error k), n)
 unfolding back_tidied
 back_refused_lem (nr k vs) n = refl
 
 back_tidied_lem : (r : Tidied) → back_tidied (told_tidied r) ≡ r
 unfolding back_tidied
-back_tidied_lem (Tidied.Put k n) = refl
-back_tidied_lem (Tidied.Refused e n) = back_refused_lem (told_error e) n ∙ ap (λ k. Tidied.Refused k n) (back_error_lem e)
+back_tidied_lem (Ok (k, n)) = refl
+back_tidied_lem (Err (e, n)) = back_refused_lem (told_error e) n ∙ ap (λ k. Err (k, n)) (back_error_lem e)
 
 -- 01: "inputs admit one result only": two answers that tell the same are the same
 pub tidied_same : {a b : Tidied} → told_tidied a ≡ told_tidied b → a ≡ b
@@ -121,7 +121,7 @@ module _ (s : List ℕ) (o : Octets s) (v : Packet) (n : ℕ) (e : read_of none 
       let a = tidy_writes t in
       (w.answer ∙ ap (λ (g : Fit Handed). answered_behind g none before) q ∙ sym a.answer, w.output ∙ ap (λ (g : Fit Handed). out_behind g none before) q ∙ sym a.output)
 
-  module _ {before after : List ℕ} {k m : ℕ} (t : Tidies s before after (Tidied.Put k m)) where
+  module _ {before after : List ℕ} {k m : ℕ} (t : Tidies s before after (Ok (k, m))) where
     -- what is put is the tidy form, and the frame's bytes are taken
     pub tidy_puts : (take k after ≡ frame_bytes (handed_of v)) × (k ≡ length (frame_bytes (handed_of v))) × (m ≡ n)
     tidy_puts = go (leb (length (frame_bytes (handed_of v))) (length before)) refl
@@ -142,7 +142,7 @@ module _ (s : List ℕ) (o : Octets s) (v : Packet) (n : ℕ) (e : read_of none 
     tidy_says r = let (i, j, _) = tidy_puts in rw (i, j) (tidy_reads s o v n e r)
 
     -- 02, P14: "tidying it again changes nothing": where there is room, the same bytes are put again
-    pub tidy_settled : {before' after' : List ℕ} {r' : Tidied} → k ≤ length before' → Tidies (take k after) before' after' r' → (r' ≡ Tidied.Put k k) × (take k after' ≡ take k after)
+    pub tidy_settled : {before' after' : List ℕ} {r' : Tidied} → k ≤ length before' → Tidies (take k after) before' after' r' → (r' ≡ Ok (k, k)) × (take k after' ≡ take k after)
     unfolding tidied_of
     tidy_settled {before'} {after'} {r'} h t' =
         let (i, j, _) = tidy_puts in
@@ -156,7 +156,7 @@ module _ (s : List ℕ) (o : Octets s) (v : Packet) (n : ℕ) (e : read_of none 
 
 -- 02, P14: "two accepted frames have equal tidy forms exactly when their records are equal", P7's two numbers aside
 pub tidy_alike : (s s' : List ℕ) → Octets s → Octets s' → (v v' : Packet) (n n' : ℕ) → read_of none s ≡ accepted v n → read_of none s' ≡ accepted v' n' → {before after before' after' : List ℕ} {k m k' m' : ℕ}
-    → Tidies s before after (Tidied.Put k m) → Tidies s' before' after' (Tidied.Put k' m') → (take k after ≡ take k' after') ↔ (v ≡ v')
+    → Tidies s before after (Ok (k, m)) → Tidies s' before' after' (Ok (k', m')) → (take k after ≡ take k' after') ↔ (v ≡ v')
 tidy_alike s s' o o' v v' n n' e e' t t' =
     let (i, _, _) = tidy_puts s o v n e t in
     let (i', _, _) = tidy_puts s' o' v' n' e' t' in
@@ -265,7 +265,7 @@ module _ (s : List ℕ) (o : Octets s) (v : Packet) (n : ℕ) (e : read_of none 
   bounds_read : (start end : ℕ) × (bounds_of none s ≡ got (start, end))
   bounds_read = let (p, q, _) = placed_of none s v n e in ((bounds_in p n).0, (bounds_in p n).1, read_bounds none s ∙ ap bounds_by q)
 
-  module _ {before after : List ℕ} {k m : ℕ} (t : Tidies s before after (Tidied.Put k m)) where
+  module _ {before after : List ℕ} {k m : ℕ} (t : Tidies s before after (Ok (k, m))) where
     module _ {start end : ℕ} (d : bounds_of none s ≡ got (start, end)) where
       -- 02, P14: "A PubAck of five bytes becomes six": more bytes are put than taken exactly for that, and then they are six
       pub put_longer : (m < k) ↔ (BareAck (take n s) start end false × (m ≡ 5))

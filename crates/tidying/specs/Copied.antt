@@ -1,6 +1,6 @@
 -- What the parts of tidying copy: properties by their identifiers, filters, a whole frame. Each is said of every way in which the grammar fills the
 -- bytes, so that it says nothing of bytes that it does not fill. Assumes nothing.
-use Rattle.std.specs.Prelude.{◌≡◌, Bool, true, List, ◌∷◌, ◌++◌, ℕ, suc, ◌+◌, ◌-◌, ◌≤◌, ◌<◌, length, take, drop, get_or}
+use Rattle.std.specs.Prelude.{◌≡◌, Bool, true, List, ◌∷◌, ◌++◌, ℕ, suc, ◌+◌, ◌-◌, ◌≤◌, ◌<◌, length, take, drop, get_or, Result, Ok, Err}
 use Rattle.std.proofs.Math.Option.{none}
 use Rattle.std.proofs.lemmas.List.Edits.{sets}
 use Rattle.grammar.specs.Gram.{Many}
@@ -20,9 +20,8 @@ use Rattle.write_properties.specs.Behind.{Behind}
 use Rattle.tidy_form.specs.Tidy.{tidy_of}
 use Rattle.tidy_form.specs.Form.{property_bytes}
 use Rattle.tidy_form.specs.Order.{id_bytes, ordered_bytes, Exact, Runs, ExactFilter, FrameLaid}
-use Rattle.tidying.specs.Tidied.{told_tidied, room_for, size_in, stands_in}
-use Rattle.tidying.specs.declared.Tidied.{Tidied}
-use Rattle.tidying.specs.declared.Found.{Found}
+use Rattle.records.specs.declared.error.Error.{Error}
+use Rattle.tidying.specs.Tidied.{Tidied, told_tidied, room_for, size_in, stands_in}
 
 -- ---- properties
 
@@ -128,6 +127,9 @@ pub record FrameTidied (s before after : List ℕ) (r : Tidied) : Type 0 where
   pub gives : Gives form (length s) before after r
 
 -- what is found at the start of the stream s: the frame of a record that is read, and 02's two numbers; or the reader's refusal, and what it takes
+abbrev pub Found : Type 0
+Found = Result (ℕ × ℕ × ℕ) (Error × ℕ)
+
 abbrev pub FoundIs : List ℕ → Found → Type 0
-FoundIs s (Found.Frame start end n) = (v : Placed) × (accepted v n ≡ read_placed_of none s) × (got (start, end) ≡ bounds_of none s)
-FoundIs s (Found.Refused e n) = refused_as (told_error e) n ≡ read_placed_of none s
+FoundIs s (Ok (start, end, n)) = (v : Placed) × (accepted v n ≡ read_placed_of none s) × (got (start, end) ≡ bounds_of none s)
+FoundIs s (Err (e, n)) = refused_as (told_error e) n ≡ read_placed_of none s

@@ -1,5 +1,5 @@
 -- What tidying answers, and the output afterwards (02, P14). Assumes nothing.
-use Rattle.std.specs.Prelude.{◌≡◌, Bool, true, false, cond, List, [], ◌∷◌, ◌++◌, ℕ, ◌≤◌, leb, length, drop, get_or}
+use Rattle.std.specs.Prelude.{◌≡◌, Bool, true, false, cond, List, [], ◌∷◌, ◌++◌, ℕ, ◌≤◌, leb, length, drop, get_or, Result, Ok, Err}
 use Rattle.std.proofs.Math.Option.{Option, none, some}
 use Rattle.grammar.specs.Choice.{lookup}
 use Rattle.grammar.specs.Record.{kind_of}
@@ -11,12 +11,16 @@ use Rattle.records.specs.AsNumbers.{told_error}
 use Rattle.packet.specs.PacketRead.{taken_in}
 use Rattle.tidy_form.specs.Tidy.{tidy_of}
 use Rattle.tidy_form.specs.Order.{success_in}
-use Rattle.tidying.specs.declared.Tidied.{Tidied}
+use Rattle.records.specs.declared.error.Error.{Error}
+
+-- 02, P14: the size of the tidy form and how many bytes are taken; or the refusal, and how many
+abbrev pub Tidied : Type 0
+Tidied = Result (ℕ × ℕ) (Error × ℕ)
 
 -- the size of the tidy form, or the refusal; and how many bytes of the stream are taken
 abbrev pub told_tidied : Tidied → Answer ℕ
-told_tidied (Tidied.Put size n) = accepted size n
-told_tidied (Tidied.Refused e n) = refused_as (told_error e) n
+told_tidied (Ok (size, n)) = accepted size n
+told_tidied (Err (e, n)) = refused_as (told_error e) n
 
 -- the tidy form b of a frame of n bytes, for an output of `room` bytes; 01, row 19: the size, of which the output is short: then nothing is used up
 abbrev pub room_for : ℕ → List ℕ → ℕ → Answer (List ℕ)

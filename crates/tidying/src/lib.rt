@@ -14,21 +14,17 @@ ghost use Rattle.tidying.specs.Tidied.{Tidies};
 ghost use Rattle.tidying.specs.Way.{way_of};
 ghost use Rattle.tidying.specs.Copied.{Passed, RunPassed, InOrder, IdPut, IdsPut, RowPut, FilterPassed, FiltersPut, FrontPut, Gives, LaidGiven, Accepted, FrameTidied, FoundIs};
 
-use filters::{GotFilter, read_filter};
+use filters::read_filter;
 use kinds::{Kind, first_byte, kind_of};
-use property_value::{GotProperty, read_property};
-use records::answer::{Limit, Read};
+use property_value::read_property;
 use records::error::Error;
 use tables::property::PropertyRow;
 use write_bytes::put_bytes;
+use write_numbers::fixed::Fixed;
 use write_runs::run;
 
 // The size of the tidy form that was put, and how many bytes of the stream are taken; or the refusal, and how many.
-#[derive(Clone, Copy)]
-pub enum Tidied {
-    Put(usize, usize),
-    Refused(Error, usize),
-}
+pub type Tidied = Result<(usize, usize), (Error, usize)>;
 
 // ---- the properties of a block, which ends where `s` does
 
@@ -37,8 +33,8 @@ fn pass_property(row: PropertyRow, s: &[u8], at: usize) -> usize
     ensures { Passed (table_row row) s.now at result }
 {
     match read_property(row, s, at) {
-        GotProperty::Found(_, _, next) => next,
-        GotProperty::Refused(_) => s.len(),
+        Ok((_, _, next)) => next,
+        Err(_) => s.len(),
     }
 }
 
@@ -47,6 +43,7 @@ fn pass_run(row: PropertyRow, id: u8, s: &[u8], at: usize) -> usize
     ensures { RunPassed (table_row row) id s.now at result }
 {
     let mut i = at;
+    // no `for`: the next one begins where this one ends
     while i < s.len() {
         if s[i] != id {
             return i;
@@ -61,10 +58,8 @@ fn in_order(row: PropertyRow, ids: &[u8], s: &[u8], start: usize) -> bool
     ensures { InOrder (table_row row) ids.now s.now start result }
 {
     let mut i = start;
-    let mut n: usize = 0;
-    while n < ids.len() {
-        i = pass_run(row, ids[n], s, i);
-        n = n + 1;
+    for id in ids {
+        i = pass_run(row, *id, s, i);
     }
     s.len() <= i
 }
@@ -88,6 +83,7 @@ fn put_each(row: PropertyRow, id: u8, s: &[u8], start: usize, out: &mut [u8], at
 {
     let mut to = run::after(out.len(), at, 0);
     let mut i = start;
+    // no `for`: the next one begins where this one ends
     while i < s.len() {
         let next = pass_property(row, s, i);
         to = put_if(&mut *out, to, id, s, i, next);
@@ -101,10 +97,8 @@ fn put_rows(row: PropertyRow, ids: &[u8], s: &[u8], start: usize, out: &mut [u8]
     ensures { IdsPut (table_row row) ids.now s.now start out.old out.new }
 {
     let mut to = run::after(out.len(), start, 0);
-    let mut n: usize = 0;
-    while n < ids.len() {
-        to = put_each(row, ids[n], s, start, &mut *out, to);
-        n = n + 1;
+    for id in ids {
+        to = put_each(row, *id, s, start, &mut *out, to);
     }
 }
 
@@ -145,9 +139,7 @@ fn put_block(row: PropertyRow, s: &[u8], start: usize, out: &mut [u8])
 fn put_byte(out: &mut [u8], at: usize, b: u8)
     ensures { out.new ≡ sets out.old at (b ∷ []) }
 {
-    if at < out.len() {
-        out[at] = b;
-    }
+    b.put(&mut *out, at);
 }
 
 // The index after the filter at an index; the end if none stands there.
@@ -155,8 +147,8 @@ fn pass_filter(s: &[u8], at: usize) -> usize
     ensures { FilterPassed s.now at result }
 {
     match read_filter(s, at) {
-        GotFilter::Value(_, next) => next,
-        GotFilter::Refused(_) => s.len(),
+        Ok((_, next)) => next,
+        Err(_) => s.len(),
     }
 }
 
@@ -165,6 +157,7 @@ fn put_filters(s: &[u8], at: usize, out: &mut [u8])
     ensures { FiltersPut s.now at out.old out.new }
 {
     let mut i = at;
+    // no `for`: the next one begins where this one ends
     while i < s.len() {
         let next = pass_filter(s, i);
         let last = next - 1;
@@ -181,10 +174,10 @@ fn give(b: &[u8], n: usize, out: &mut [u8]) -> Tidied
     ensures { Gives b.now n out.old out.new result }
 {
     if out.len() < b.len() {
-        return Tidied::Refused(Error::NoRoom(b.len()), 0);
+        return Err((Error::NoRoom(b.len()), 0));
     }
     put_bytes(&mut *out, 0, b);
-    Tidied::Put(b.len(), n)
+    Ok((b.len(), n))
 }
 
 // Puts the first byte, what stands before the properties, and these.
@@ -211,11 +204,11 @@ fn tidy_block(
 {
     let size = s.len();
     if out.len() < size {
-        return Tidied::Refused(Error::NoRoom(size), 0);
+        return Err((Error::NoRoom(size), 0));
     }
     put_front(row, first, s, start, end, &mut *out);
     put_bytes(&mut *out, end, run::piece(s, end, size));
-    Tidied::Put(size, size)
+    Ok((size, size))
 }
 
 // A Subscribe.
@@ -225,11 +218,11 @@ fn tidy_subscribe(first: u8, s: &[u8], start: usize, end: usize, out: &mut [u8])
 {
     let size = s.len();
     if out.len() < size {
-        return Tidied::Refused(Error::NoRoom(size), 0);
+        return Err((Error::NoRoom(size), 0));
     }
     put_front(PropertyRow::Subscribe, first, s, start, end, &mut *out);
     put_filters(s, end, &mut *out);
-    Tidied::Put(size, size)
+    Ok((size, size))
 }
 
 // Does an acknowledgement with no properties give success?
@@ -283,20 +276,20 @@ fn way_of(byte1: u8, bare: bool) -> Way
 {
     let first = first_byte(byte1 / 16);
     match kind_of(byte1 / 16) {
-        Kind::Publish => return Way::Block(PropertyRow::Publish, byte1),
+        Kind::Publish => Way::Block(PropertyRow::Publish, byte1),
         Kind::Ack(_) => {
             if bare {
                 return Way::Short(first);
             }
             return Way::Block(PropertyRow::Ack, first);
         }
-        Kind::Subscribe => return Way::Filters(first),
-        Kind::Reply(_) => return Way::Block(PropertyRow::Ack, first),
-        Kind::Unsubscribe => return Way::Block(PropertyRow::Unsubscribe, first),
-        Kind::PingReq => return Way::Ping(first),
-        Kind::PingResp => return Way::Ping(first),
-        Kind::Reserved(_) => return Way::No,
-        Kind::NotCarried(_) => return Way::No,
+        Kind::Subscribe => Way::Filters(first),
+        Kind::Reply(_) => Way::Block(PropertyRow::Ack, first),
+        Kind::Unsubscribe => Way::Block(PropertyRow::Unsubscribe, first),
+        Kind::PingReq => Way::Ping(first),
+        Kind::PingResp => Way::Ping(first),
+        Kind::Reserved(_) => Way::No,
+        Kind::NotCarried(_) => Way::No,
     }
 }
 
@@ -307,31 +300,23 @@ fn tidy_frame(s: &[u8], start: usize, end: usize, out: &mut [u8]) -> Tidied
 {
     let byte1 = s[0];
     match way_of(byte1, end <= start) {
-        Way::Block(row, first) => {
-            return tidy_block(row, first, s, start, end, &mut *out);
-        }
-        Way::Filters(first) => return tidy_subscribe(first, s, start, end, &mut *out),
-        Way::Short(first) => return tidy_short(first, s, &mut *out),
-        Way::Ping(first) => return tidy_ping(first, s.len(), &mut *out),
-        Way::No => return Tidied::Refused(Error::KindNotCarried(byte1 / 16), s.len()),
+        Way::Block(row, first) => tidy_block(row, first, s, start, end, &mut *out),
+        Way::Filters(first) => tidy_subscribe(first, s, start, end, &mut *out),
+        Way::Short(first) => tidy_short(first, s, &mut *out),
+        Way::Ping(first) => tidy_ping(first, s.len(), &mut *out),
+        Way::No => Err((Error::KindNotCarried(byte1 / 16), s.len())),
     }
 }
 
 // The frame at the start of a stream: where its properties start and end, and how many bytes it takes; or the refusal, and how many.
-#[derive(Clone, Copy)]
-enum Found {
-    Frame(usize, usize, usize),
-    Refused(Error, usize),
-}
+type Found = Result<(usize, usize, usize), (Error, usize)>;
 
 // What of the reader's answer is needed; a function of its own, so that no other carries a record.
 fn frame_of(stream: &[u8]) -> Found
     ensures { FoundIs stream.now result }
 {
-    match packet::read(stream, Limit::Unlimited) {
-        Read::Refused(e, n) => return Found::Refused(e, n),
-        Read::Packet(_, place, n) => return Found::Frame(place.start, place.end, n),
-    }
+    let (_, place, n) = packet::read(stream, None)?;
+    Ok((place.start, place.end, n))
 }
 
 // The tidy form of the frame at the start of the stream, from index 0 of the output on. Refused with what the reader refuses, with no limit, and with what
@@ -339,10 +324,6 @@ fn frame_of(stream: &[u8]) -> Found
 pub fn tidy(stream: &[u8], out: &mut [u8]) -> Tidied
     ensures { Tidies stream.now out.old out.new result }
 {
-    match frame_of(stream) {
-        Found::Refused(e, n) => return Tidied::Refused(e, n),
-        Found::Frame(start, end, n) => {
-            return tidy_frame(run::piece(stream, 0, n), start, end, &mut *out);
-        }
-    }
+    let (start, end, n) = frame_of(stream)?;
+    tidy_frame(run::piece(stream, 0, n), start, end, &mut *out)
 }

@@ -1,6 +1,6 @@
 -- Topics and filters as levels, and which of them hold wildcards: 02, P5 ("Port `has_wildcards`, `valid_topic`, `valid_filter` and `matches`,
 -- over bytes"), MQTT 4.7.1. Assumes nothing.
-use Rattle.std.specs.Prelude.{Bool, true, false, not, ◌&&◌, ◌||◌, cond, List, [], ◌∷◌, ◌++◌, ℕ, eqb}
+use Rattle.std.specs.Prelude.{Bool, true, false, not, ◌&&◌, ◌||◌, cond, List, [], ◌∷◌, ℕ, eqb}
 
 -- MQTT 4.7.1.1: "The forward slash ('/' U+002F) is used to separate each level within a topic tree"
 abbrev pub slash : ℕ

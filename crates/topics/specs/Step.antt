@@ -1,44 +1,10 @@
--- What the helpers of the code answer: of the bytes from one index to another, and at the front of a topic and of a filter. Assumes nothing.
-use Rattle.std.specs.Prelude.{◌≡◌, Bool, true, false, not, ◌||◌, cond, List, [], ◌∷◌, ℕ, suc, ◌+◌, ◌-◌, ◌≤◌, ◌<◌, eqb, length, take, drop, get_or}
-use Rattle.topics.specs.Levels.{slash, hash, is_wild, levels, lone}
+-- What the helpers of the code answer at the front of a topic and of a filter. Assumes nothing.
+use Rattle.std.specs.Prelude.{◌≡◌, Bool, true, false, ◌||◌, cond, List, [], ◌∷◌, ℕ, suc, ◌+◌, ◌-◌, ◌≤◌, ◌<◌, eqb, length, take, get_or}
+use Rattle.std.specs.Borrow.{Bor}
+use Rattle.std.specs.declared.ops.ControlFlow.{ControlFlow}
+use Rattle.std.specs.declared.ops.ControlFlow.TheVariants.{Continue, Break}
+use Rattle.topics.specs.Levels.{slash, hash, levels, lone}
 use Rattle.topics.specs.Match.{meets, rest_matches}
-use Rattle.topics.specs.declared.Met.{Met}
-use Rattle.topics.specs.declared.Met.TheVariants.{Decided, Rest}
-
--- ---- a test of the indices from a to e
-
--- it holds of none
-abbrev pub Clear : (ℕ → Bool) → ℕ → ℕ → Type 0
-Clear p a e = (k : ℕ) → a ≤ k → k < e → p k ≡ false
-
--- it holds of one
-pub record Hit (p : ℕ → Bool) (a e : ℕ) : Type 0 where
-  pub index : ℕ
-  pub low : a ≤ index
-  pub high : index < e
-  pub holds : p index ≡ true
-
--- r says whether it holds of one
-pub record Asked (p : ℕ → Bool) (a e : ℕ) (r : Bool) : Type 0 where
-  pub none : r ≡ false → Clear p a e
-  pub some : r ≡ true → Hit p a e
-
--- r is the first of which it holds, or e
-pub record First (p : ℕ → Bool) (a e r : ℕ) : Type 0 where
-  pub low : a ≤ r
-  pub high : r ≤ e
-  pub clear : Clear p a r
-  pub found : r < e → p r ≡ true
-
--- the byte at an index is a wildcard, a separator, not that of another run
-abbrev pub wild_at : List ℕ → ℕ → Bool
-wild_at s k = is_wild (get_or s k 0)
-
-abbrev pub slash_at : List ℕ → ℕ → Bool
-slash_at s k = eqb (get_or s k 0) slash
-
-abbrev pub differ_at : List ℕ → List ℕ → ℕ → Bool
-differ_at a b k = not (eqb (get_or a k 0) (get_or b k 0))
 
 -- ---- the first level
 
@@ -51,6 +17,10 @@ level_len (c ∷ s) = cond (eqb c slash) 0 (suc (level_len s))
 pub record Ends (s : List ℕ) (r : ℕ) : Type 0 where
   pub len : r ≡ level_len s
   pub within : r ≤ length s
+
+-- the byte at an index is a separator
+abbrev pub slash_at : List ℕ → ℕ → Bool
+slash_at s k = eqb (get_or s k 0) slash
 
 -- at n is the end, or a separator
 abbrev pub ends_at : List ℕ → ℕ → Bool
@@ -65,13 +35,17 @@ pub record HaveMet (topic filter : List ℕ) (t f : ℕ) : Type 0 where
   pub no_hash : lone hash (take f filter) ≡ false
   pub met : meets (take f filter) (take t topic) ≡ true
 
--- P5, "the rest of the filter matching the rest of the topic": the first levels decide, or the rest does, which is shorter
-unfoldable pub Decides : List ℕ → List ℕ → Met → Type 0
-Decides topic filter (Decided b) = b ≡ rest_matches (levels filter) (levels topic)
-Decides topic filter (Rest t f) =
-    (t ≤ length topic) × (f ≤ length filter) × (0 < f) × (rest_matches (levels (drop f filter)) (levels (drop t topic)) ≡ rest_matches (levels filter) (levels topic))
+-- P5, "the rest of the filter matching the rest of the topic": t and f are the rests, and the filter's is shorter
+pub record GoesOn (topic filter t f : List ℕ) : Type 0 where
+  pub shorter : length f < length filter
+  pub decides : rest_matches (levels f) (levels t) ≡ rest_matches (levels filter) (levels topic)
+
+-- the first levels decide, or the rest does
+abbrev pub Decides : List ℕ → List ℕ → ControlFlow Bool (Bor (List ℕ) × Bor (List ℕ)) → Type 0
+Decides topic filter (Break b) = b ≡ rest_matches (levels filter) (levels topic)
+Decides topic filter (Continue p) = GoesOn topic filter p.0.now p.1.now
 
 -- less of the filter is left than was passed, less by 64 bytes
-unfoldable pub Halves : List ℕ → Met → Type 0
-Halves filter (Decided b) = Unit
-Halves filter (Rest t f) = length filter - f + 64 < f
+abbrev pub Halves : List ℕ → ControlFlow Bool (Bor (List ℕ) × Bor (List ℕ)) → Type 0
+Halves filter (Break b) = Unit
+Halves filter (Continue p) = length p.1.now + 64 < length filter - length p.1.now

@@ -2,115 +2,46 @@
 // longer ones by sixteens, which the compiler tests at once.
 #![tactic(auto)]
 
-ghost use Rattle.std.specs.Prelude.{◌≡◌, not, true, ◌+◌, ◌-◌, ◌≤◌, ◌<◌, ltb, length, take};
+ghost use Rattle.std.specs.Prelude.{◌≡◌, true, ◌+◌, ◌≤◌, ◌<◌, length, take};
 ghost use Rattle.topics.specs.Levels.{levels, is_wild, has_wild, lone, hash, plus, level_fine, levels_fine, valid_topic, valid_filter};
 ghost use Rattle.topics.specs.Match.{same, rest_matches, matches_of, barred};
-ghost use Rattle.topics.specs.Step.{Clear, Asked, First, wild_at, slash_at, differ_at, level_len, Ends, ends_at, HaveMet, Decides, Halves};
+ghost use Rattle.topics.specs.Step.{level_len, Ends, ends_at, HaveMet, Decides, Halves};
 
-// ---- bytes
+use std::ops::ControlFlow;
 
-// A mark that `|` gathers: its top bit is set just where hit is true.
-fn mark(hit: bool) -> u8
-    ensures { ltb result 128 ≡ not hit }
-{
-    if hit {
-        return 128;
-    }
-    0
-}
+// ---- wildcards
 
 // Is the byte a wildcard?
 fn is_wild(b: u8) -> bool
     ensures { result ≡ is_wild b }
 {
-    if b == b'+' {
-        return true;
-    }
-    b == b'#'
+    b == b'+' || b == b'#'
 }
 
-// Is one of the bytes from index `at` to `end` a wildcard?
-fn wild_in(s: &[u8], at: usize, end: usize) -> bool
-    requires { (at ≤ end) × (end ≤ length s.now) }
-    ensures { Asked (wild_at s.now) at end result }
+// Is one byte of a run a wildcard? All are asked, with no way out, so that the compiler tests a run of a known length at once.
+fn wild_in(run: &[u8]) -> bool
+    ensures { result ≡ has_wild run.now }
 {
-    let mut any: u8 = 0;
-    let mut i = at;
-    while i < end {
-        any = any | mark(is_wild(s[i]));
-        i = i + 1;
+    let mut any = false;
+    for b in run {
+        any |= is_wild(*b);
     }
-    128 <= any
+    any
 }
 
-// Is one of them a separator?
-fn slash_in(s: &[u8], at: usize, end: usize) -> bool
-    requires { (at ≤ end) × (end ≤ length s.now) }
-    ensures { Asked (slash_at s.now) at end result }
-{
-    let mut any: u8 = 0;
-    let mut i = at;
-    while i < end {
-        any = any | mark(s[i] == b'/');
-        i = i + 1;
-    }
-    128 <= any
-}
-
-// Does one of them differ?
-fn differ_in(a: &[u8], b: &[u8], at: usize, end: usize) -> bool
-    requires { (at ≤ end) × (end ≤ length a.now) × (end ≤ length b.now) }
-    ensures { Asked (differ_at a.now b.now) at end result }
-{
-    let mut any: u8 = 0;
-    let mut i = at;
-    while i < end {
-        any = any | mark(a[i] != b[i]);
-        i = i + 1;
-    }
-    128 <= any
-}
-
-// ---- wildcards
-
-// The same of a few bytes.
-fn wild_short(s: &[u8]) -> bool
+// The same by runs of N; the last may be asked in part twice.
+fn wild_runs<const N: usize>(s: &[u8]) -> bool
+    requires { (0 < N) × (N ≤ length s.now) }
     ensures { result ≡ has_wild s.now }
 {
-    let mut i: usize = 0;
-    while i < s.len() {
-        if is_wild(s[i]) {
+    let mut rest = s;
+    while let Some((run, more)) = rest.split_first_chunk::<N>() {
+        if wild_in(run) {
             return true;
         }
-        i = i + 1;
+        rest = more;
     }
-    false
-}
-
-// The same of eight to sixteen: the first eight, and the last.
-fn wild_eights(s: &[u8]) -> bool
-    requires { (8 ≤ length s.now) × (length s.now ≤ 16) }
-    ensures { result ≡ has_wild s.now }
-{
-    if wild_in(s, 0, 8) {
-        return true;
-    }
-    wild_in(s, s.len() - 8, s.len())
-}
-
-// The same of sixteen and more; the last sixteen may be asked twice.
-fn wild_sixteens(s: &[u8]) -> bool
-    requires { 16 ≤ length s.now }
-    ensures { result ≡ has_wild s.now }
-{
-    let mut i: usize = 0;
-    while 16 <= s.len() - i {
-        if wild_in(s, i, i + 16) {
-            return true;
-        }
-        i = i + 16;
-    }
-    wild_in(s, s.len() - 16, s.len())
+    wild_in(&s[s.len() - N..])
 }
 
 // The same of eight and more. It has two callers, so that it stays a call, and what is small before it goes into the caller.
@@ -119,9 +50,9 @@ fn wild_long(s: &[u8]) -> bool
     ensures { result ≡ has_wild s.now }
 {
     if s.len() < 16 {
-        return wild_eights(s);
+        return wild_runs::<8>(s);
     }
-    wild_sixteens(s)
+    wild_runs::<16>(s)
 }
 
 // Does a topic or filter have wildcards, a + or a # somewhere?
@@ -129,7 +60,7 @@ pub fn has_wildcards(s: &[u8]) -> bool
     ensures { result ≡ has_wild s.now }
 {
     if s.len() < 8 {
-        return wild_short(s);
+        return s.iter().any(|b| is_wild(*b));
     }
     wild_long(s)
 }
@@ -143,127 +74,64 @@ pub fn valid_topic(topic: &[u8]) -> bool
 
 // ---- levels
 
-// The first separator from index `at` to `end`, or `end`.
-fn slash_from(s: &[u8], at: usize, end: usize) -> usize
-    requires { (at ≤ end) × (end ≤ length s.now) }
-    ensures { First (slash_at s.now) at end result }
+// The length of the first level, byte by byte.
+fn len_near(s: &[u8]) -> usize
+    ensures { Ends s.now result }
 {
-    let mut i = at;
-    while i < end {
-        if s[i] == b'/' {
-            return i;
-        }
-        i = i + 1;
-    }
-    i
+    s.iter().position(|b| *b == b'/').unwrap_or(s.len())
 }
 
-// The same up to the end of s, by sixteens until one of them is a separator.
-fn slash_far(s: &[u8], at: usize) -> usize
-    requires { at ≤ length s.now }
-    ensures { First (slash_at s.now) at (length s.now) result }
+// The same by sixteens until one of them is a separator.
+fn len_far(s: &[u8]) -> usize
+    ensures { Ends s.now result }
 {
-    let mut i = at;
-    while 16 <= s.len() - i {
-        if slash_in(s, i, i + 16) {
-            return slash_from(s, i, s.len());
+    let mut rest = s;
+    while let Some((run, more)) = rest.split_first_chunk::<16>() {
+        if run.contains(&b'/') {
+            break;
         }
-        i = i + 16;
+        rest = more;
     }
-    slash_from(s, i, s.len())
+    s.len() - rest.len() + len_near(rest)
 }
 
-// The length of the first level. Most are short: twelve bytes are asked one by one.
+// The same. Most are short: twelve bytes are asked one by one.
 fn level_len(s: &[u8]) -> usize
     ensures { Ends s.now result }
 {
-    if s.len() <= 12 {
-        return slash_from(s, 0, s.len());
+    let Some((near, far)) = s.split_first_chunk::<12>() else {
+        return len_near(s);
+    };
+    let n = len_near(near);
+    if n < 12 {
+        return n;
     }
-    let i = slash_from(s, 0, 12);
-    if i < 12 {
-        return i;
-    }
-    slash_far(s, 12)
+    12 + len_far(far)
 }
 
 // Is a level this byte and nothing else?
 fn is_lone(level: &[u8], b: u8) -> bool
     ensures { result ≡ lone b level.now }
 {
-    if level.len() == 1 {
-        return level[0] == b;
-    }
-    false
-}
-
-// Are the bytes of two runs of one length the same? Of a few bytes.
-fn same_short(a: &[u8], b: &[u8]) -> bool
-    requires { length a.now ≡ length b.now }
-    ensures { result ≡ same a.now b.now }
-{
-    let mut i: usize = 0;
-    while i < a.len() {
-        if a[i] != b[i] {
-            return false;
-        }
-        i = i + 1;
-    }
-    true
-}
-
-// Of sixteen and more; the last sixteen may be asked twice.
-fn same_long(a: &[u8], b: &[u8]) -> bool
-    requires { (length a.now ≡ length b.now) × (16 ≤ length a.now) }
-    ensures { result ≡ same a.now b.now }
-{
-    let mut i: usize = 0;
-    while 16 <= a.len() - i {
-        if differ_in(a, b, i, i + 16) {
-            return false;
-        }
-        i = i + 16;
-    }
-    !differ_in(a, b, a.len() - 16, a.len())
-}
-
-// Are the bytes the same?
-fn is_same(a: &[u8], b: &[u8]) -> bool
-    ensures { result ≡ same a.now b.now }
-{
-    if a.len() != b.len() {
-        return false;
-    }
-    if a.len() < 16 {
-        return same_short(a, b);
-    }
-    same_long(a, b)
+    level.len() == 1 && level[0] == b
 }
 
 // Does a level end at index n, at a separator or at the end?
 fn ends_at(s: &[u8], n: usize) -> bool
-    requires { n ≤ length s.now }
     ensures { result ≡ ends_at s.now n }
 {
-    if n == s.len() {
-        return true;
+    match s.get(n) {
+        Some(b) => *b == b'/',
+        None => n == s.len(),
     }
-    s[n] == b'/'
 }
 
-// Is the first level of a topic this one? The topic's separator is not looked for: it must stand right behind the level.
+// Is the first level of a topic this one, which has no separator? The topic's is not looked for: it must stand right behind the level.
 fn is_first(topic: &[u8], level: &[u8]) -> bool
-    requires { Clear (slash_at level.now) 0 (length level.now) }
+    requires { level_len level.now ≡ length level.now }
     ensures { result ≡ same level.now (take (level_len topic.now) topic.now) }
 {
-    let n = level.len();
-    if topic.len() < n {
-        return false;
-    }
-    if !ends_at(topic, n) {
-        return false;
-    }
-    is_same(level, &topic[..n])
+    ends_at(topic, level.len()) && topic.starts_with(level)
 }
 
 // ---- valid filters
@@ -273,10 +141,7 @@ fn level_fine(level: &[u8], last: bool) -> bool
     ensures { result ≡ level_fine last level.now }
 {
     if level.len() == 1 {
-        if level[0] == b'#' {
-            return last;
-        }
-        return true;
+        return last || level[0] != b'#';
     }
     !has_wildcards(level)
 }
@@ -302,68 +167,61 @@ fn levels_fine(filter: &[u8]) -> bool
 pub fn valid_filter(filter: &[u8]) -> bool
     ensures { result ≡ valid_filter filter.now }
 {
-    if filter.len() == 0 {
+    if filter.is_empty() {
         return false;
     }
-    if 8 <= filter.len() {
-        if !wild_long(filter) {
-            return true;
-        }
+    if 8 <= filter.len() && !wild_long(filter) {
+        return true;
     }
     levels_fine(filter)
 }
 
 // ---- matching
 
-// What the first levels of topic and filter say: the answer, or where the rest of each begins.
-#[derive(Clone, Copy)]
-enum Met {
-    Decided(bool),
-    Rest(usize, usize),
-}
+// What the first levels of topic and filter say: the answer, or the rest of each.
+type Met<'a> = ControlFlow<bool, (&'a [u8], &'a [u8])>;
 
 // Is the first level `#`?
 fn starts_hash(filter: &[u8]) -> bool
     ensures { result ≡ lone hash (take (level_len filter.now) filter.now) }
 {
-    let end = level_len(filter);
-    is_lone(&filter[..end], b'#')
+    is_lone(&filter[..level_len(filter)], b'#')
 }
 
 // The first levels, of t and f bytes, have met; the answer if one of the two has no more.
-fn after(topic: &[u8], t: usize, filter: &[u8], f: usize) -> Met
+fn after<'a>(topic: &'a [u8], t: usize, filter: &'a [u8], f: usize) -> Met<'a>
     requires { HaveMet topic.now filter.now t f }
     ensures { Decides topic.now filter.now result }
 {
     if f == filter.len() {
-        return Met::Decided(t == topic.len());
+        return ControlFlow::Break(t == topic.len());
     }
     if t == topic.len() {
-        return Met::Decided(starts_hash(&filter[f + 1..]));
+        return ControlFlow::Break(starts_hash(&filter[f + 1..]));
     }
-    Met::Rest(t + 1, f + 1)
+    ControlFlow::Continue((&topic[t + 1..], &filter[f + 1..]))
 }
 
 // The first level of the filter, of f bytes, is `+`.
-fn meet_plus(topic: &[u8], filter: &[u8], f: usize) -> Met
+fn meet_plus<'a>(topic: &'a [u8], filter: &'a [u8], f: usize) -> Met<'a>
     requires { Ends filter.now f × (lone plus (take f filter.now) ≡ true) }
     ensures { Decides topic.now filter.now result }
 {
     let t = level_len(topic);
     if is_lone(&topic[..t], b'#') {
-        return Met::Decided(false);
+        return ControlFlow::Break(false);
     }
     after(topic, t, filter, f)
 }
 
 // The first levels of both. The end of the topic's is looked for only under `+`.
-fn first_levels(topic: &[u8], filter: &[u8]) -> Met
+fn first_levels<'a>(topic: &'a [u8], filter: &'a [u8]) -> Met<'a>
     ensures { Decides topic.now filter.now result }
 {
     let f = level_len(filter);
     let level = &filter[..f];
     if is_lone(level, b'#') {
-        return Met::Decided(true);
+        return ControlFlow::Break(true);
     }
     if is_lone(level, b'+') {
         return meet_plus(topic, filter, f);
@@ -371,25 +229,19 @@ fn first_levels(topic: &[u8], filter: &[u8]) -> Met
     if is_first(topic, level) {
         return after(topic, f, filter, f);
     }
-    Met::Decided(false)
+    ControlFlow::Break(false)
 }
 
 // The same of so many levels that less of the filter is left than was passed, less by 64 bytes: a short filter is passed whole.
-fn half_levels(topic: &[u8], filter: &[u8]) -> Met
+fn half_levels<'a>(topic: &'a [u8], filter: &'a [u8]) -> Met<'a>
     ensures { Decides topic.now filter.now result × Halves filter.now result }
 {
-    let mut t: usize = 0;
-    let mut f: usize = 0;
-    while f <= filter.len() - f + 64 {
-        match first_levels(&topic[t..], &filter[f..]) {
-            Met::Decided(b) => return Met::Decided(b),
-            Met::Rest(x, y) => {
-                t = t + x;
-                f = f + y;
-            }
-        }
+    let mut t = topic;
+    let mut f = filter;
+    while filter.len() - f.len() <= f.len() + 64 {
+        (t, f) = first_levels(t, f)?;
     }
-    Met::Rest(t, f)
+    ControlFlow::Continue((t, f))
 }
 
 // The levels of the filter match those of the topic: the first levels meet, and the rest of the filter matches the rest of the topic. Each call
@@ -398,8 +250,8 @@ fn rest_matches(topic: &[u8], filter: &[u8]) -> bool
     ensures { result ≡ rest_matches (levels filter.now) (levels topic.now) }
 {
     match half_levels(topic, filter) {
-        Met::Decided(b) => b,
-        Met::Rest(t, f) => rest_matches(&topic[t..], &filter[f..]),
+        ControlFlow::Break(b) => b,
+        ControlFlow::Continue((t, f)) => rest_matches(t, f),
     }
 }
 
@@ -407,16 +259,10 @@ fn rest_matches(topic: &[u8], filter: &[u8]) -> bool
 fn is_barred(topic: &[u8], filter: &[u8]) -> bool
     ensures { result ≡ barred topic.now filter.now }
 {
-    if topic.len() == 0 {
-        return false;
+    match (topic, filter) {
+        ([b'$', ..], [b, ..]) => is_wild(*b),
+        _ => false,
     }
-    if topic[0] != b'$' {
-        return false;
-    }
-    if filter.len() == 0 {
-        return false;
-    }
-    is_wild(filter[0])
 }
 
 // Does the filter match the topic, level by level, and is not barred by a leading $? Neither is tested here.

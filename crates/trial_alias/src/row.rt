@@ -3,9 +3,8 @@
 // letter that the topic repeats. `!` damages the length byte of an alias; `0` begins with a fresh table.
 ghost use Rattle.std.specs.Prelude.{◌≤◌};
 
-use alias::{Judged, Placed};
-use records::span::{MaybeU16, Span};
-use std::num::wrapping_add_u64;
+use alias::{AliasError, Placed};
+use records::span::Span;
 use wire::string;
 
 fn fresh() -> [u8; 2064] {
@@ -26,10 +25,7 @@ fn long() -> [u8; 2065] {
 fn digit(b: u8) -> usize
     ensures { result ≤ 255 }
 {
-    if b < 97 {
-        return 0;
-    }
-    (b - 97) as usize
+    b.saturating_sub(b'a') as usize
 }
 
 fn length(x: u8, y: u8) -> usize {
@@ -39,73 +35,58 @@ fn length(x: u8, y: u8) -> usize {
 }
 
 fn byte(n: usize) -> u8 {
-    if 255 < n {
-        return 255;
-    }
-    n as u8
+    u8::try_from(n).unwrap_or(255)
 }
 
-fn alias_of(b: u8) -> MaybeU16 {
-    if b < 64 {
-        return MaybeU16::Absent;
-    }
-    MaybeU16::Present((b - 64) as u16)
+fn alias_of(b: u8) -> Option<u16> {
+    b.checked_sub(b'@').map(u16::from)
 }
 
 // ---- what is shown of an answer
 
-fn answer(j: Judged) -> u64 {
+fn answer(j: Result<(), AliasError>) -> u64 {
     match j {
-        Judged::Permitted => 0,
-        Judged::Refused(e) => alias::number(e) as u64,
+        Ok(()) => 0,
+        Err(e) => alias::number(e) as u64,
     }
 }
 
-fn slice(p: Placed) -> u64 {
+fn slice(p: Result<Placed, AliasError>) -> u64 {
     match p {
-        Placed::InPacket(_) => 1,
-        Placed::InTable(_) => 2,
-        Placed::Refused(_) => 0,
+        Ok(Placed::InPacket(_)) => 1,
+        Ok(Placed::InTable(_)) => 2,
+        Err(_) => 0,
     }
 }
 
-fn place(p: Placed) -> Span {
+fn place(p: Result<Placed, AliasError>) -> Span {
     match p {
-        Placed::InPacket(q) => q,
-        Placed::InTable(q) => q,
-        Placed::Refused(_) => Span { start: 0, len: 0 },
+        Ok(Placed::InPacket(q)) => q,
+        Ok(Placed::InTable(q)) => q,
+        Err(_) => Span { start: 0, len: 0 },
     }
 }
 
 // The first letter; `-` if there is none.
 fn first(s: &[u8]) -> u8 {
-    if s.len() == 0 {
-        return 45;
-    }
-    s[0]
+    s.first().copied().unwrap_or(b'-')
 }
 
-fn letter(packet: &[u8], table: &[u8], p: Placed) -> u8 {
+fn letter(packet: &[u8], table: &[u8], p: Result<Placed, AliasError>) -> u8 {
     match p {
-        Placed::InPacket(q) => first(string::part(packet, q)),
-        Placed::InTable(q) => first(string::part(table, q)),
-        Placed::Refused(_) => 45,
+        Ok(Placed::InPacket(q)) => first(string::part(packet, q)),
+        Ok(Placed::InTable(q)) => first(string::part(table, q)),
+        Err(_) => b'-',
     }
-}
-
-fn wide(b: u8) -> u64 {
-    b as u64
 }
 
 // Each byte counts as often as its index says, from 1: once in each turn from its own on.
 fn sum(table: &[u8]) -> u64 {
     let mut bytes: u64 = 0;
     let mut n: u64 = 0;
-    let mut i: usize = table.len();
-    while 0 < i {
-        i = i - 1;
-        bytes = wrapping_add_u64(bytes, wide(table[i]));
-        n = wrapping_add_u64(n, bytes);
+    for b in table.iter().rev() {
+        bytes = bytes.wrapping_add(*b as u64);
+        n = n.wrapping_add(bytes);
     }
     n
 }
@@ -115,14 +96,14 @@ fn number(n: u64) {
     io::print_decimal(1, n);
 }
 
-fn show_place(p: Placed) {
+fn show_place(p: Result<Placed, AliasError>) {
     let q = place(p);
     number(slice(p));
     number(q.start as u64);
     number(q.len as u64);
 }
 
-fn show(row: &[u8], packet: &[u8], table: &[u8], n: u64, p: Placed) {
+fn show(row: &[u8], packet: &[u8], table: &[u8], n: u64, p: Result<Placed, AliasError>) {
     io::write_all(1, row);
     io::write_all(1, b":");
     number(n);
@@ -136,7 +117,7 @@ fn show(row: &[u8], packet: &[u8], table: &[u8], n: u64, p: Placed) {
 // ---- the rows
 
 // A message whose topic stands at `own` of the packet: learnt, and looked up; gives the answer's number.
-fn message(table: &mut [u8], row: &[u8], packet: &[u8], own: Span, alias: MaybeU16) -> u64 {
+fn message(table: &mut [u8], row: &[u8], packet: &[u8], own: Span, alias: Option<u16>) -> u64 {
     let judged = alias::learn_topic(&mut *table, string::part(packet, own), alias);
     let n = answer(judged);
     let found = alias::find_topic(packet, &*table, own, alias);
@@ -146,23 +127,21 @@ fn message(table: &mut [u8], row: &[u8], packet: &[u8], own: Span, alias: MaybeU
 
 fn message_short(row: &[u8], packet: &[u8], own: Span) -> u64 {
     let mut table = short();
-    message(&mut table, row, packet, own, MaybeU16::Absent)
+    message(&mut table, row, packet, own, None)
 }
 
 fn message_long(row: &[u8], packet: &[u8], own: Span) -> u64 {
     let mut table = long();
-    message(&mut table, row, packet, own, MaybeU16::Absent)
+    message(&mut table, row, packet, own, None)
 }
 
 // By the table that the row says.
 fn message_by(table: &mut [u8], row: &[u8], what: u8, packet: &[u8], own: Span) -> u64 {
-    if what == 60 {
-        return message_short(row, packet, own);
+    match what {
+        b'<' => message_short(row, packet, own),
+        b'>' => message_long(row, packet, own),
+        _ => message(&mut *table, row, packet, own, alias_of(what)),
     }
-    if what == 62 {
-        return message_long(row, packet, own);
-    }
-    message(&mut *table, row, packet, own, alias_of(what))
 }
 
 fn message_of(table: &mut [u8], row: &[u8], what: u8, len: usize, letter: u8) -> u64 {
@@ -177,57 +156,44 @@ fn damage(table: &mut [u8], at: usize, b: u8) {
     }
 }
 
-fn clear(table: &mut [u8]) {
-    let mut i: usize = 0;
-    while i < table.len() {
-        table[i] = 0;
-        i = i + 1;
-    }
-}
-
 // Where the length byte of an alias stands.
 fn length_byte(b: u8) -> usize {
-    if b < 65 {
-        return 0;
-    }
-    (b - 65) as usize * 129
+    b.saturating_sub(b'A') as usize * 129
 }
 
 // The count with one more, and in the upper half the refusals.
 fn counted(count: u64, n: u64) -> u64 {
-    if n == 0 {
-        return wrapping_add_u64(count, 1);
-    }
-    wrapping_add_u64(count, 4294967297)
+    count.wrapping_add(if n == 0 { 1 } else { 4294967297 })
 }
 
 fn row(table: &mut [u8], count: u64, what: u8, x: u8, y: u8, z: u8, text: &[u8]) -> u64 {
-    if what == 48 {
-        clear(&mut *table);
-        return count;
+    match what {
+        b'0' => {
+            table.fill(0);
+            count
+        }
+        b'!' => {
+            damage(&mut *table, length_byte(x), byte(length(y, z)));
+            count
+        }
+        _ => counted(count, message_of(&mut *table, text, what, length(x, y), z)),
     }
-    if what == 33 {
-        damage(&mut *table, length_byte(x), byte(length(y, z)));
-        return count;
-    }
-    counted(count, message_of(&mut *table, text, what, length(x, y), z))
 }
 
 fn rows(table: &mut [u8], text: &[u8]) -> u64 {
     let mut count: u64 = 0;
-    let mut i: usize = 0;
-    while 5 <= text.len() - i {
-        let r = string::part(text, Span { start: i, len: 4 });
-        count = row(
-            &mut *table,
-            count,
-            text[i],
-            text[i + 1],
-            text[i + 2],
-            text[i + 3],
-            r,
-        );
-        i = i + 5;
+    for r in text.chunks_exact(5) {
+        if let [what, x, y, z, _] = r {
+            count = row(
+                &mut *table,
+                count,
+                *what,
+                *x,
+                *y,
+                *z,
+                string::part(r, Span { start: 0, len: 4 }),
+            );
+        }
     }
     count
 }

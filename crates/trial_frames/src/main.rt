@@ -4,25 +4,20 @@
 
 mod show;
 
-ghost use Rattle.std.specs.Prelude.{◌≤◌};
-
 use packet;
-use records::answer::{Limit, Read};
-use records::span::Span;
-use wire::string;
 
-fn answer(s: &[u8], limit: Limit) {
+fn answer(s: &[u8], limit: Option<usize>) {
     match packet::read(s, limit) {
-        Read::Packet(p, _, taken) => {
+        Ok((p, _, taken)) => {
             show::packet(s, p);
             show::taken(taken);
         }
-        Read::Refused(e, taken) => show::refused(e, taken),
+        Err((e, taken)) => show::refused(e, taken),
     }
 }
 
 // The answer to the frame s; gives the count of rows.
-fn row(rows: u64, s: &[u8], limit: Limit) -> u64 {
+fn row(rows: u64, s: &[u8], limit: Option<usize>) -> u64 {
     io::write_all(1, b"frame");
     show::bytes(s);
     show::limit(limit);
@@ -31,29 +26,22 @@ fn row(rows: u64, s: &[u8], limit: Limit) -> u64 {
     std::num::wrapping_add_u64(rows, 1)
 }
 
-fn wide(b: u8) -> usize
-    ensures { result ≤ 255 }
-{
-    b as usize
-}
-
 // The frames of a table, each behind a byte with its length.
 fn frames(rows: u64, table: &[u8]) -> u64 {
     let mut n = rows;
-    let mut at: usize = 0;
-    while at < table.len() {
-        let len = wide(table[at]);
-        let frame = Span { start: at + 1, len };
-        n = row(n, string::part(table, frame), Limit::Unlimited);
-        at = at + 1 + len;
+    let mut rest = table;
+    while let Some((len, behind)) = rest.split_first() {
+        let (frame, next) = behind.split_at(behind.len().min(*len as usize));
+        n = row(n, frame, None);
+        rest = next;
     }
     n
 }
 
 // A frame under two limits: the one below its size, and its size.
 fn limits(rows: u64, frame: &[u8], below: usize, size: usize) -> u64 {
-    let n = row(rows, frame, Limit::AtMost(below));
-    row(n, frame, Limit::AtMost(size))
+    let n = row(rows, frame, Some(below));
+    row(n, frame, Some(size))
 }
 
 // 01's table "Frames on the bench", with 02's limit.

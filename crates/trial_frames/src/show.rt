@@ -3,10 +3,9 @@ use entry_runs;
 use publish_parts;
 use qos_numbers;
 use records::ack_record::Ack;
-use records::answer::{FilterItem, IdentifierItem, Limit, ReasonItem, TopicItem};
 use records::error::Error;
 use records::packet_record::Packet;
-use records::publish_record::{MaybePublishProperties, Publish};
+use records::publish_record::Publish;
 use records::reply_record::{Reply, ReplyKind};
 use records::span::Span;
 use records::subscribe_record::{Filter, Subscribe};
@@ -24,10 +23,8 @@ fn byte(b: u8) {
 
 // The bytes in hexadecimal, a space before each.
 pub fn bytes(s: &[u8]) {
-    let mut i: usize = 0;
-    while i < s.len() {
-        byte(s[i]);
-        i = i + 1;
+    for b in s {
+        byte(*b);
     }
 }
 
@@ -49,8 +46,8 @@ fn text(words: &[u8], s: &[u8]) {
     io::write_all(1, string::part(&out, place));
 }
 
-pub fn limit(limit: Limit) {
-    if let Limit::AtMost(most) = limit {
+pub fn limit(limit: Option<usize>) {
+    if let Some(most) = limit {
         number(b", limit ", most as u64);
     }
 }
@@ -73,22 +70,31 @@ fn identifier(id: u32) {
     number(b" subscription-id=", id as u64);
 }
 
-// The subscription identifiers in the block; a block has fewer than it has bytes.
-fn identifiers(s: &[u8], block: Span) {
-    let mut n: usize = 0;
-    while n < s.len() {
-        match items::subscription_identifier(s, block, n) {
-            IdentifierItem::NoItem => return,
-            IdentifierItem::Number(id) => identifier(id),
-        }
-        n = n + 1;
+// Shows each item that there is, from the one at 0 on; a frame has no more than it has bytes.
+fn each<T: Drop, I: Fn(usize) -> Option<T>, S: Fn(T)>(s: &[u8], item: I, show: S)
+    requires { I.IsAlwaysCallable item × S.IsAlwaysCallable show }
+{
+    for n in 0..s.len() {
+        let Some(x) = item(n) else {
+            return;
+        };
+        show(x);
     }
+}
+
+// The subscription identifiers in the block.
+fn identifiers(s: &[u8], block: Span) {
+    each(
+        s,
+        |n| items::subscription_identifier(s, block, n),
+        identifier,
+    );
 }
 
 fn publish_of(s: &[u8], m: Publish) {
     text(b" topic=", publish_parts::topic(s, m));
     let properties = m.properties;
-    if let MaybePublishProperties::Present(p) = properties {
+    if let Some(p) = properties {
         identifiers(s, p.block);
     }
     text(b" payload=", publish_parts::payload(s, m));
@@ -100,16 +106,13 @@ fn filter_of(s: &[u8], f: Filter) {
     number(b" qos=", wide(qos_numbers::qos_number(q)));
 }
 
-// The filters of the run; it has fewer than it has bytes.
+// The filters of the run.
 fn subscribe_of(s: &[u8], m: Subscribe) {
-    let mut n: usize = 0;
-    while n < s.len() {
-        match filter_runs::filter(s, m.filters, n) {
-            FilterItem::NoItem => return,
-            FilterItem::Filter(f) => filter_of(s, f),
-        }
-        n = n + 1;
-    }
+    each(
+        s,
+        |n| filter_runs::filter(s, m.filters, n),
+        |f| filter_of(s, f),
+    );
 }
 
 fn reason(code: u8) {
@@ -121,32 +124,22 @@ fn ack_of(m: Ack) {
     reason(m.reason);
 }
 
-// The reasons of the run; it has no more than the frame has bytes.
+// The reasons of the run.
 fn reply_of(s: &[u8], kind: ReplyKind, m: Reply) {
-    let mut n: usize = 0;
-    while n < s.len() {
-        match entry_runs::reason(kind, s, m.reasons, n) {
-            ReasonItem::NoItem => return,
-            ReasonItem::Reason(code) => reason(code),
-        }
-        n = n + 1;
-    }
+    each(s, |n| entry_runs::reason(kind, s, m.reasons, n), reason);
 }
 
 fn topic_of(s: &[u8], topic: Span) {
     text(b" filter=", string::part(s, topic));
 }
 
-// The topics of the run; it has fewer than it has bytes.
+// The topics of the run.
 fn unsubscribe_of(s: &[u8], m: Unsubscribe) {
-    let mut n: usize = 0;
-    while n < s.len() {
-        match entry_runs::topic(s, m.topics, n) {
-            TopicItem::NoItem => return,
-            TopicItem::Topic(topic) => topic_of(s, topic),
-        }
-        n = n + 1;
-    }
+    each(
+        s,
+        |n| entry_runs::topic(s, m.topics, n),
+        |topic| topic_of(s, topic),
+    );
 }
 
 // The word for a number's kind.

@@ -10,9 +10,8 @@ ghost use Rattle.std.specs.Prelude.{◌≤◌};
 use c_inflight::{
     ecch_inflight_acked, ecch_inflight_claim, ecch_inflight_start, ecch_inflight_waiting,
 };
-use inflight::{Answer, Answered, Claim, InFlight, code};
+use inflight::{Answer, Answered, ClaimError, InFlight, NotWaiting, code};
 use records::ack_record::{Ack, AckKind};
-use records::properties_record::MaybeProperties;
 use records::qos::QoS;
 
 // ---- what a row says
@@ -32,10 +31,10 @@ fn digit(b: u8) -> u32
 fn at(s: &[u8], i: usize) -> u32
     ensures { result ≤ 9 }
 {
-    if i < s.len() {
-        return digit(s[i]);
+    match s.get(i) {
+        Some(b) => digit(*b),
+        None => 0,
     }
-    0
 }
 
 fn identifier(row: &[u8]) -> u16 {
@@ -59,10 +58,7 @@ fn reason(row: &[u8]) -> u8 {
 }
 
 fn first(row: &[u8]) -> u8 {
-    if row.len() == 0 {
-        return 0;
-    }
-    row[0]
+    row.first().copied().unwrap_or(0)
 }
 
 fn small(n: u16) -> u8 {
@@ -87,34 +83,34 @@ fn say(n: u64) {
     io::print_decimal(1, n);
 }
 
-fn say_claim(c: Claim) {
-    match c {
-        Claim::Granted(n) => {
+fn say_claim(claim: Result<u16, ClaimError>) {
+    match claim {
+        Ok(n) => {
             say(0);
             say(n as u64);
         }
-        Claim::InFlightFull => {
+        Err(ClaimError::InFlightFull) => {
             say(29);
             say(0);
         }
-        Claim::NoClaim => {
+        Err(ClaimError::NoClaim) => {
             say(30);
             say(0);
         }
     }
 }
 
-fn say_answer(a: Answer) {
-    match a {
-        Answer::Freed => {
+fn say_answer(answer: Result<Answer, NotWaiting>) {
+    match answer {
+        Ok(Answer::Freed) => {
             say(0);
             say(0);
         }
-        Answer::Moved => {
+        Ok(Answer::Moved) => {
             say(0);
             say(3);
         }
-        Answer::NotWaiting => {
+        Err(NotWaiting) => {
             say(31);
             say(0);
         }
@@ -131,8 +127,7 @@ fn say_table(table: InFlight, id: u16) {
 
 fn claims(table: InFlight, qos: u16) -> InFlight {
     let c = table.claim(qos_of(qos));
-    let claim = c.claim;
-    say_claim(claim);
+    say_claim(c.claim);
     c.table
 }
 
@@ -140,24 +135,20 @@ fn acked(table: InFlight, kind: u8, id: u16, reason: u8) -> Answered {
     let ack = Ack {
         pkid: id,
         reason,
-        properties: MaybeProperties::Absent,
+        properties: None,
     };
-    if kind == 52 {
-        return table.acked(AckKind::PubAck, ack);
-    }
-    if kind == 53 {
-        return table.acked(AckKind::PubRec, ack);
-    }
-    if kind == 54 {
-        return table.acked(AckKind::PubRel, ack);
-    }
-    table.acked(AckKind::PubComp, ack)
+    let kind = match kind {
+        52 => AckKind::PubAck,
+        53 => AckKind::PubRec,
+        54 => AckKind::PubRel,
+        _ => AckKind::PubComp,
+    };
+    table.acked(kind, ack)
 }
 
 fn answers(table: InFlight, kind: u8, id: u16, reason: u8) -> InFlight {
     let a = acked(table, kind, id, reason);
-    let answer = a.answer;
-    say_answer(answer);
+    say_answer(a.answer);
     a.table
 }
 
@@ -175,8 +166,8 @@ fn by_value(table: InFlight, what: u8, id: u16, reason: u8) -> InFlight {
 
 fn say_lent(number: u32, answer: &[u64]) {
     say(number as u64);
-    if 0 < answer.len() {
-        say(answer[0]);
+    if let Some(n) = answer.first() {
+        say(*n);
     }
 }
 
@@ -246,12 +237,10 @@ fn turn(table: InFlight, codes: &mut [u8], row: &[u8]) -> InFlight {
 }
 
 fn rows(codes: &mut [u8], text: &[u8]) {
+    let (rows, _) = text.as_chunks::<12>();
     let mut table = InFlight::new();
-    let mut i: usize = 0;
-    while 12 <= text.len() - i {
-        let end = i + 11;
-        table = turn(table, &mut *codes, &text[i..end]);
-        i = i + 12;
+    for row in rows {
+        table = turn(table, &mut *codes, &row[..11]);
     }
 }
 

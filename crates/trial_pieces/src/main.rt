@@ -2,23 +2,19 @@
 // stdout was written by the model of oracle/ (`pieces rows`).
 #![tactic(auto)]
 
-ghost use Rattle.std.specs.Prelude.{◌<◌, ◌≤◌};
-
 use pieces;
-use pieces::State;
+use pieces::{State, Stop};
 use pieces_read;
 use pieces_read::Answer;
-use records::answer::{Limit, Read};
-use records::span::Span;
+use records::answer::Read;
 use refusal_numbers;
-use wire::string;
 
 // The refusal's number, or 0 for a record, and the bytes taken.
 fn frame(words: &[u8], r: Read) {
     io::write_all(1, words);
     match r {
-        Read::Packet(_, _, taken) => said(0, taken),
-        Read::Refused(e, taken) => said(refusal_numbers::number(e), taken),
+        Ok((_, _, taken)) => said(0, taken),
+        Err((e, taken)) => said(refusal_numbers::number(e), taken),
     }
 }
 
@@ -29,18 +25,18 @@ fn said(number: u8, taken: usize) {
 }
 
 // An answer; whether the piece may hold another.
-fn answered(answer: Answer) -> bool {
+fn answered(answer: Result<Answer, Stop>) -> bool {
     match answer {
-        Answer::More => return false,
-        Answer::InPiece(r) => {
+        Ok(Answer::More) => return false,
+        Ok(Answer::InPiece(r)) => {
             frame(b" ", r);
             return true;
         }
-        Answer::InBuffer(r) => {
+        Ok(Answer::InBuffer(r)) => {
             frame(b" buffer:", r);
             return true;
         }
-        Answer::Stopped(why) => {
+        Err(why) => {
             io::write_all(1, b" ");
             said(pieces::number(why), 0);
             return false;
@@ -48,35 +44,15 @@ fn answered(answer: Answer) -> bool {
     }
 }
 
-// How many bytes are left of s from index `at` on.
-fn left(s: &[u8], at: usize) -> usize {
-    if s.len() < at {
-        return 0;
-    }
-    s.len() - at
-}
-
-// What is left of a piece.
-fn rest(s: &[u8], at: usize) -> &[u8] {
-    let len = left(s, at);
-    string::part(s, Span { start: at, len })
-}
-
-fn after(at: usize, used: usize) -> usize {
-    std::num::wrapping_add_u64(at as u64, used as u64) as usize
-}
-
 // The calls for a piece: one more than it has bytes is enough.
-fn push(state: State, limit: Limit, buffer: &mut [u8], piece: &[u8]) -> State {
+fn push(state: State, limit: Option<usize>, buffer: &mut [u8], piece: &[u8]) -> State {
     let mut st = state;
-    let mut at: usize = 0;
-    let mut turns: usize = 0;
-    while turns <= piece.len() {
-        let reply = pieces_read::next(st, limit, &mut *buffer, rest(piece, at));
+    let mut rest = piece;
+    for _ in 0..=piece.len() {
+        let reply = pieces_read::next(st, limit, &mut *buffer, rest);
         let answer = reply.answer;
         st = reply.state;
-        at = after(at, reply.used);
-        turns = turns + 1;
+        rest = rest.get(reply.used..).unwrap_or(b"");
         if !answered(answer) {
             return st;
         }
@@ -85,76 +61,51 @@ fn push(state: State, limit: Limit, buffer: &mut [u8], piece: &[u8]) -> State {
 }
 
 // A piece, and one of no bytes.
-fn push_two(state: State, limit: Limit, buffer: &mut [u8], piece: &[u8]) -> State {
+fn push_two(state: State, limit: Option<usize>, buffer: &mut [u8], piece: &[u8]) -> State {
     let st = push(state, limit, &mut *buffer, piece);
     push(st, limit, &mut *buffer, b"")
 }
 
-fn wide(b: u8) -> usize
-    ensures { result ≤ 255 }
-{
-    b as usize
-}
-
 // The stream in pieces of so many bytes and one.
-fn cut(buffer: &mut [u8], limit: Limit, s: &[u8], more: u8) {
+fn cut(buffer: &mut [u8], limit: Option<usize>, s: &[u8], more: u8) {
     let mut st = pieces::start();
-    let mut at: usize = 0;
-    let size = wide(more) + 1;
-    while at < s.len() {
-        st = push_two(
-            st,
-            limit,
-            &mut *buffer,
-            string::part(
-                s,
-                Span {
-                    start: at,
-                    len: fewer(size, left(s, at)),
-                },
-            ),
-        );
-        at = at + size;
+    for piece in s.chunks(more as usize + 1) {
+        st = push_two(st, limit, &mut *buffer, piece);
     }
     io::write_all(1, b"\n");
 }
 
-fn fewer(a: usize, b: usize) -> usize {
-    if a < b { a } else { b }
-}
-
 // One stream, with each buffer, and under a limit.
 fn stream(rows: u64, s: &[u8], more: u8) -> u64 {
-    let mut five: [u8; 5] = [0; 5];
-    let mut ten: [u8; 10] = [0; 10];
+    let mut five = [0; 5];
+    let mut ten = [0; 10];
     io::write_all(1, b"pieces of ");
     io::print_decimal(1, more as u64 + 1);
     io::write_all(1, b", buffer of 5:");
-    cut(&mut five, Limit::Unlimited, s, more);
+    cut(&mut five, None, s, more);
     io::write_all(1, b"  buffer of 10:");
-    cut(&mut ten, Limit::Unlimited, s, more);
+    cut(&mut ten, None, s, more);
     io::write_all(1, b"  buffer of 10, limit 9:");
-    cut(&mut ten, Limit::AtMost(9), s, more);
+    cut(&mut ten, Some(9), s, more);
     std::num::wrapping_add_u64(rows, 3)
 }
 
 fn sizes(rows: u64, s: &[u8]) -> u64 {
-    let a = stream(rows, s, 0);
-    let b = stream(a, s, 1);
-    let c = stream(b, s, 2);
-    let d = stream(c, s, 6);
-    stream(d, s, 15)
+    let mut n = rows;
+    for more in [0, 1, 2, 6, 15] {
+        n = stream(n, s, more);
+    }
+    n
 }
 
 // The streams of a table, each behind a byte with its length.
 fn streams(table: &[u8]) -> u64 {
     let mut n: u64 = 0;
-    let mut at: usize = 0;
-    while at < table.len() {
-        let len = wide(table[at]);
-        let place = Span { start: at + 1, len };
-        n = sizes(n, string::part(table, place));
-        at = at + 1 + len;
+    let mut rest = table;
+    while let Some((len, behind)) = rest.split_first() {
+        let (stream, next) = behind.split_at(behind.len().min(*len as usize));
+        n = sizes(n, stream);
+        rest = next;
     }
     n
 }

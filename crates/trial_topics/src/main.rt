@@ -2,32 +2,15 @@
 // filter and a newline each; the file stdout was made from 02 and MQTT 4.7 by oracle/topics-rows.
 #![tactic(auto)]
 
-ghost use Rattle.std.specs.Prelude.{◌≤◌, length};
-
 use std::num;
 
-#[derive(Clone, Copy)]
+#[derive(Clone, Copy, Default)]
 struct Counts {
     rows: u64,
     wild: u64,
     topics: u64,
     filters: u64,
     matches: u64,
-}
-
-// The index of the first byte b from `at` on, or the end.
-fn find(s: &[u8], at: usize, b: u8) -> usize
-    requires { at ≤ length s.now }
-    ensures { (at ≤ result) × (result ≤ length s.now) }
-{
-    let mut i = at;
-    while i < s.len() {
-        if s[i] == b {
-            return i;
-        }
-        i = i + 1;
-    }
-    i
 }
 
 fn wide(flag: u8) -> u64 {
@@ -62,29 +45,16 @@ fn row(c: Counts, topic: &[u8], filter: &[u8]) -> Counts {
 
 // A line that has a tab; what is behind the last newline is no row.
 fn line(c: Counts, s: &[u8]) -> Counts {
-    let tab = find(s, 0, b'\t');
-    if tab == s.len() {
-        return c;
+    match s.iter().position(|b| *b == b'\t') {
+        Some(tab) => row(c, &s[..tab], &s[tab + 1..]),
+        None => c,
     }
-    row(c, &s[..tab], &s[tab + 1..])
 }
 
 fn every(s: &[u8]) -> Counts {
-    let mut c = Counts {
-        rows: 0,
-        wild: 0,
-        topics: 0,
-        filters: 0,
-        matches: 0,
-    };
-    let mut at: usize = 0;
-    while at < s.len() {
-        let end = find(s, at, b'\n');
-        c = line(c, &s[at..end]);
-        if end == s.len() {
-            return c;
-        }
-        at = end + 1;
+    let mut c = Counts::default();
+    for l in s.split(|b| *b == b'\n') {
+        c = line(c, l);
     }
     c
 }

@@ -7,10 +7,10 @@ use packet_write::head::PacketHead;
 use packet_write::{size, write};
 use publish_plan::head::PublishHead;
 use records::ack_record::AckKind;
-use records::answer::{Limit, Written};
+use records::error::Error;
 use records::qos::QoS;
 use records::reply_record::ReplyKind;
-use records::span::{MaybeU8, MaybeU16, MaybeU32, Span};
+use records::span::Span;
 use reply_write::ReplyHead;
 use subscribe_write::SubscribeHead;
 use unsubscribe_write::UnsubscribeHead;
@@ -65,7 +65,7 @@ const OPTIONS: usize = 16;
 // The reason of an acknowledgement.
 const CODE: usize = 17;
 
-fn field<'a>(row: &'a [u8], n: usize) -> &'a [u8] {
+fn field(row: &[u8], n: usize) -> &[u8] {
     text::part(row, b'|', n)
 }
 
@@ -75,24 +75,14 @@ fn number(row: &[u8], n: usize) -> usize {
 
 // The first byte of a field, or 0.
 fn mark(row: &[u8], n: usize) -> u8 {
-    let s = field(row, n);
-    if s.len() == 0 {
-        return 0;
-    }
-    s[0]
+    field(row, n).first().copied().unwrap_or(0)
 }
 
-fn limit(row: &[u8]) -> Limit {
+fn limit(row: &[u8]) -> Option<usize> {
     if mark(row, LIMIT) == 0 {
-        return Limit::Unlimited;
+        return None;
     }
-    Limit::AtMost(number(row, LIMIT))
-}
-
-fn least(n: usize, most: usize) -> usize
-    ensures { result ≤ most }
-{
-    if n < most { n } else { most }
+    Some(number(row, LIMIT))
 }
 
 // How many numbers a list has, at most two.
@@ -144,9 +134,9 @@ fn message(row: &[u8]) -> PacketHead {
         retain: false,
         pkid: pkid(row),
         block: set != 0,
-        payload_format_indicator: MaybeU8::Absent,
-        message_expiry_interval: MaybeU32::Absent,
-        topic_alias: MaybeU16::Absent,
+        payload_format_indicator: None,
+        message_expiry_interval: None,
+        topic_alias: None,
         response_topic: set == b'+',
         correlation_data: false,
         content_type: false,
@@ -161,9 +151,9 @@ fn full(row: &[u8]) -> PacketHead {
         retain: true,
         pkid: pkid(row),
         block: true,
-        payload_format_indicator: MaybeU8::Present(1),
-        message_expiry_interval: MaybeU32::Present(3),
-        topic_alias: MaybeU16::Present(4),
+        payload_format_indicator: Some(1),
+        message_expiry_interval: Some(3),
+        topic_alias: Some(4),
         response_topic: true,
         correlation_data: true,
         content_type: true,
@@ -218,11 +208,11 @@ fn leave(row: &[u8]) -> PacketHead {
     })
 }
 
-fn id(row: &[u8]) -> MaybeU32 {
+fn id(row: &[u8]) -> Option<u32> {
     match mark(row, KIND) {
-        b'I' => MaybeU32::Present(268435456),
-        b'Z' => MaybeU32::Present(0),
-        _ => MaybeU32::Absent,
+        b'I' => Some(268435456),
+        b'Z' => Some(0),
+        _ => None,
     }
 }
 
@@ -255,7 +245,7 @@ fn put(
     ids: &[u32],
     entry_lengths: &[usize],
     out: &mut [u8],
-) -> Written {
+) -> Result<usize, Error> {
     let payload = field(row, PAYLOAD);
     let user = field(row, USER);
     let response = field(row, RESPONSE);
@@ -300,13 +290,13 @@ fn put(
     )
 }
 
-fn record(row: &[u8], topic: &[u8], out: &mut [u8]) -> Written {
+fn record(row: &[u8], topic: &[u8], out: &mut [u8]) -> Result<usize, Error> {
     let lengths = user_lengths(row);
     let ids = identifiers(row);
     let ones = [1, 1];
     let users = count(row, USER_LENGTHS);
     let given = count(row, IDENTIFIERS);
-    let filters = least(field(row, FILTERS).len(), 2);
+    let filters = field(row, FILTERS).len().min(2);
     put(
         row,
         topic,
@@ -317,7 +307,7 @@ fn record(row: &[u8], topic: &[u8], out: &mut [u8]) -> Written {
     )
 }
 
-fn written(row: &[u8], topic: &[u8], out: &mut [u8]) -> Written {
+fn written(row: &[u8], topic: &[u8], out: &mut [u8]) -> Result<usize, Error> {
     match mark(row, KIND) {
         b'L' => write_remaining_length(&mut *out, number(row, NUMBER)),
         b'T' => write_mqtt_bytes(&mut *out, topic),
@@ -328,29 +318,22 @@ fn written(row: &[u8], topic: &[u8], out: &mut [u8]) -> Written {
 // The answers and the output; gives the count of rows.
 fn answered(rows: u64, row: &[u8], topic: &[u8], out: &mut [u8]) -> u64 {
     show::written(written(row, topic, &mut *out));
-    let len = least(out.len(), 44);
-    show::output(rows, string::part(&*out, Span { start: 0, len }))
+    show::output(rows, &out[..out.len().min(44)])
 }
 
 // The line of a row, its topic lent beside it.
 pub fn row(rows: u64, row: &[u8], topic: &[u8]) -> u64 {
     io::write_all(1, field(row, WHAT));
     let mut out = [0xAA; 65540];
-    let room = least(number(row, ROOM), 65540);
+    let room = number(row, ROOM).min(65540);
     answered(rows, row, topic, &mut out[..room])
 }
 
-// The rows of a table; it has fewer than it has bytes.
+// The rows of a table; an empty line ends it.
 pub fn table(rows: u64, s: &[u8]) -> u64 {
     let mut n = rows;
-    let mut i: usize = 0;
-    while i < s.len() {
-        let next = text::part(s, b'\n', i);
-        if next.len() == 0 {
-            return n;
-        }
-        n = row(n, next, field(next, TOPIC));
-        i = i + 1;
+    for line in s.split(|b| *b == b'\n').take_while(|line| !line.is_empty()) {
+        n = row(n, line, field(line, TOPIC));
     }
     n
 }

@@ -1,12 +1,7 @@
 // A size, a write and their answers in 01's words, on standard output.
-use records::answer::{Sized, Written};
 use records::error::Error;
 use records::values::Values;
 use refusal_numbers;
-
-fn wide(b: u8) -> usize {
-    b as usize
-}
 
 fn byte(b: u8) {
     io::write_all(1, b" ");
@@ -15,10 +10,8 @@ fn byte(b: u8) {
 
 // The bytes in hexadecimal, a space before each.
 pub fn bytes(s: &[u8]) {
-    let mut i: usize = 0;
-    while i < s.len() {
-        byte(s[i]);
-        i = i + 1;
+    for b in s {
+        byte(*b);
     }
 }
 
@@ -41,21 +34,21 @@ fn values(v: Values) {
 
 // The number of the row, and its values.
 fn refusal(words: &[u8], e: Error) {
-    number(words, wide(refusal_numbers::number(e)));
+    number(words, refusal_numbers::number(e) as usize);
     values(refusal_numbers::values(e));
 }
 
-pub fn sized(s: Sized) {
+pub fn sized(s: Result<usize, Error>) {
     match s {
-        Sized::Size(n) => number(b", size ", n),
-        Sized::Refused(e) => refusal(b", size refused ", e),
+        Ok(n) => number(b", size ", n),
+        Err(e) => refusal(b", size refused ", e),
     }
 }
 
-pub fn written(w: Written) {
+pub fn written(w: Result<usize, Error>) {
     match w {
-        Written::Size(n) => number(b", write ", n),
-        Written::Refused(e) => refusal(b", write refused ", e),
+        Ok(n) => number(b", write ", n),
+        Err(e) => refusal(b", write refused ", e),
     }
 }
 

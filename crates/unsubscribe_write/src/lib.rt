@@ -14,7 +14,7 @@ ghost use Rattle.writing.specs.Order.{word};
 ghost use Rattle.writing.specs.Refuse.{Writable};
 ghost use Rattle.writing.specs.Write.{size_of, Written as WrittenOf};
 ghost use Rattle.records.specs.AsNumbers.{limit_of};
-ghost use Rattle.records.specs.Answered.{told_sized, told_written};
+ghost use Rattle.records.specs.Answered.{told_size};
 ghost use Rattle.write_runs.specs.Given.{run as run_of};
 ghost use Rattle.write_tests.specs.Tested.{told_tested};
 ghost use Rattle.write_properties.specs.Behind.{Behind};
@@ -22,13 +22,11 @@ ghost use Rattle.write_order.specs.Found.{before_size, Stored};
 ghost use Rattle.unsubscribe_write.specs.Handed.{handed};
 
 use kinds;
-use records::answer::{Limit, Sized, Written};
 use records::error::Error;
 use write_belongs;
 use write_lengths::put_length;
-use write_numbers::fixed;
+use write_numbers::fixed::Fixed;
 use write_runs::run;
-use write_tests::Tested;
 
 // What is handed over by value; the user properties and the topics are lent beside it.
 #[derive(Clone, Copy)]
@@ -78,8 +76,8 @@ pub fn size(
     user_lengths: &[usize],
     topics: &[u8],
     topic_lengths: &[usize],
-) -> Sized
-    ensures { told_sized result ≡ size_of (unsubscribe (handed m user.now user_lengths.now topics.now topic_lengths.now)) }
+) -> Result<usize, Error>
+    ensures { told_size result ≡ size_of (unsubscribe (handed m user.now user_lengths.now topics.now topic_lengths.now)) }
 {
     write_order::size(
         belongs(m, user, user_lengths, topics, topic_lengths),
@@ -94,16 +92,14 @@ fn before_size(
     user_lengths: &[usize],
     topics: &[u8],
     topic_lengths: &[usize],
-) -> Tested
+) -> Result<(), Error>
     ensures { told_tested result ≡ before_size (unsubscribe (handed m user.now user_lengths.now topics.now topic_lengths.now)) }
 {
     if !belongs(m, user, user_lengths, topics, topic_lengths) {
-        return Tested::Refused(Error::ListMismatch);
+        return Err(Error::ListMismatch);
     }
-    write_tests::then(
-        write_tests::test_words(user, user_lengths),
-        write_tests::test_words(topics, topic_lengths),
-    )
+    write_tests::test_words(user, user_lengths)?;
+    write_tests::test_words(topics, topic_lengths)
 }
 
 // L and the properties, where they can be written; gives the index behind them.
@@ -132,7 +128,7 @@ fn put(
     let byte1 = kinds::first_byte(10);
     let n = write_properties::put_header(&mut *out, byte1, len);
     let first = run::after(out.len(), 0, n);
-    fixed::put_u16(&mut *out, first, m.pkid);
+    m.pkid.put(&mut *out, first);
     let second = run::after(out.len(), first, 2);
     let third = put_block(&mut *out, second, user, user_lengths);
     topic::put_topics(&mut *out, third, topics, topic_lengths);
@@ -145,19 +141,15 @@ pub fn write(
     user_lengths: &[usize],
     topics: &[u8],
     topic_lengths: &[usize],
-    limit: Limit,
+    limit: Option<usize>,
     out: &mut [u8],
-) -> Written
-    ensures { WrittenOf (limit_of limit) (unsubscribe (handed m user.now user_lengths.now topics.now topic_lengths.now)) out.old out.new (told_written result) }
+) -> Result<usize, Error>
+    ensures { WrittenOf (limit_of limit) (unsubscribe (handed m user.now user_lengths.now topics.now topic_lengths.now)) out.old out.new (told_size result) }
 {
     let fields = before_size(m, user, user_lengths, topics, topic_lengths);
     let len = rest(m, user, user_lengths, topics, topic_lengths);
     let end = topic::test_asked(topic_lengths);
-    match write_order::settle(fields, len, limit, end, out.len()) {
-        Written::Refused(e) => Written::Refused(e),
-        Written::Size(n) => {
-            put(&mut *out, m, user, user_lengths, topics, topic_lengths);
-            Written::Size(n)
-        }
-    }
+    let n = write_order::settle(fields, len, limit, end, out.len())?;
+    put(&mut *out, m, user, user_lengths, topics, topic_lengths);
+    Ok(n)
 }

@@ -15,7 +15,6 @@ ghost use Rattle.write_properties.specs.Put.{Put};
 use records::error::Error;
 use write_runs::run;
 use write_strings::put_string;
-use write_tests::Tested;
 
 // Their bytes, cut off where they are too many: a topic has two bytes of length.
 pub fn topics_size(bytes: &[u8], lengths: &[usize]) -> usize
@@ -26,13 +25,13 @@ pub fn topics_size(bytes: &[u8], lengths: &[usize]) -> usize
 }
 
 // 13 if there is no topic.
-pub fn test_asked(lengths: &[usize]) -> Tested
+pub fn test_asked(lengths: &[usize]) -> Result<(), Error>
     ensures { (bytes : List ℕ) → told_tested result ≡ guard (not (is_empty (strings (run_of bytes lengths.now)))) (nr 13 []) }
 {
     if lengths.len() == 0 {
-        return Tested::Refused(Error::EmptySubscription);
+        return Err(Error::EmptySubscription);
     }
-    Tested::Fine
+    Ok(())
 }
 
 // Topics one after the other, as the lengths cut the run, of one that does not fit nothing.
@@ -41,13 +40,10 @@ pub fn put_topics(out: &mut [u8], at: usize, bytes: &[u8], lengths: &[usize]) ->
 {
     let mut n: usize = 0;
     let mut from: usize = 0;
-    let mut i: usize = 0;
-    while i < lengths.len() {
-        let k = lengths[i];
+    for k in lengths {
         let to = run::after(out.len(), at, n);
-        n = n + put_string(&mut *out, to, run::piece(bytes, from, k));
-        from = run::after(bytes.len(), from, k);
-        i = i + 1;
+        n += put_string(&mut *out, to, run::piece(bytes, from, *k));
+        from = run::after(bytes.len(), from, *k);
     }
     n
 }

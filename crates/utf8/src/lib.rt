@@ -2,33 +2,18 @@
 // tested by windows (`text_windows`), or by characters if it is short (`text_chars`).
 #![tactic(auto)]
 
-ghost use Rattle.std.specs.Prelude.{◌≡◌, true, ◌+◌, ◌-◌, ◌≤◌, ◌<◌, length, take, drop};
+ghost use Rattle.std.specs.Prelude.{◌≡◌, true, ◌+◌, ◌-◌, ◌≤◌, ◌<◌, length, drop};
 ghost use Rattle.reading.specs.Read.{is_text};
 ghost use Rattle.utf8.specs.Text.{all_ascii};
 
-// Is each byte from index `at` to `end` ASCII, and none of them 0?
-fn is_ascii(s: &[u8], at: usize, end: usize) -> bool
-    requires { (at ≤ end) × (end ≤ length s.now) }
-    ensures { (result ≡ true → is_text (drop at s.now) ≡ is_text (drop end s.now)) × (result ≡ all_ascii (take (end - at) (drop at s.now))) }
-{
-    let mut all: u8 = 0;
-    let mut i = at;
-    while i < end {
-        all = all | text_chars::flaw(s[i]);
-        i = i + 1;
-    }
-    all < 128
-}
+use text_chars::is_ascii;
 
 // Two chunks of n bytes, which cover `s` and may overlap: is each byte of them ASCII, and none of them 0?
 fn is_twice(s: &[u8], n: usize) -> bool
     requires { (n ≤ length s.now) × (length s.now ≤ n + n) }
     ensures { result ≡ true → is_text s.now ≡ true }
 {
-    if is_ascii(s, 0, n) {
-        return is_ascii(s, s.len() - n, s.len());
-    }
-    false
+    is_ascii(&s[..n]) && is_ascii(&s[s.len() - n..])
 }
 
 // Four chunks of 16 bytes in the same way. (Two of 32 take more instructions, since they are gathered in two steps.)
@@ -37,16 +22,10 @@ fn is_four_times(s: &[u8]) -> bool
     ensures { result ≡ true → is_text s.now ≡ true }
 {
     let last = s.len() - 16;
-    if !is_ascii(s, 0, 16) {
+    if !is_ascii(&s[..16]) || !is_ascii(&s[16..32]) || !is_ascii(&s[last - 16..last]) {
         return false;
     }
-    if !is_ascii(s, 16, 32) {
-        return false;
-    }
-    if !is_ascii(s, last - 16, last) {
-        return false;
-    }
-    is_ascii(s, last, s.len())
+    is_ascii(&s[last..])
 }
 
 // The same of `s` of 16 to 256 bytes; no, if it is shorter or longer.
@@ -81,10 +60,10 @@ fn pass_few(s: &[u8], at: usize) -> usize
     if end < 8 {
         return at;
     }
-    if !is_ascii(s, 0, 8) {
+    if !is_ascii(&s[..8]) {
         return 0;
     }
-    if is_ascii(s, end - 8, end) {
+    if is_ascii(&s[end - 8..]) {
         return end;
     }
     8
@@ -108,12 +87,10 @@ fn by_chunks(s: &[u8], at: usize) -> bool
 fn is_short_utf8(s: &[u8]) -> bool
     ensures { result ≡ is_text s.now }
 {
-    let mut i: usize = 0;
-    while i < s.len() {
-        if 128 <= text_chars::flaw(s[i]) {
+    for (i, b) in s.iter().enumerate() {
+        if 128 <= text_chars::flaw(*b) {
             return by_chunks(s, i);
         }
-        i = i + 1;
     }
     true
 }
@@ -132,16 +109,15 @@ pub fn is_utf8(s: &[u8]) -> bool
 pub fn is_all_ascii(s: &[u8]) -> bool
     ensures { result ≡ all_ascii s.now }
 {
-    let end = s.len();
-    if end < 16 {
-        return is_ascii(s, 0, end);
+    if s.len() < 16 {
+        return is_ascii(s);
     }
-    let mut i: usize = 0;
-    while 16 <= end - i {
-        if !is_ascii(s, i, i + 16) {
+    let mut rest = s;
+    while let Some((run, more)) = rest.split_first_chunk::<16>() {
+        if !is_ascii(run) {
             return false;
         }
-        i = i + 16;
+        rest = more;
     }
-    is_ascii(s, end - 16, end)
+    is_ascii(&s[s.len() - 16..])
 }

@@ -5,17 +5,14 @@ ghost use Rattle.std.specs.Prelude.{◌≡◌, ◌||◌, ◌<◌, leb};
 ghost use Rattle.reading.specs.Refusal.{Refusal, cut};
 ghost use Rattle.reading.specs.Read.{num_of};
 ghost use Rattle.positions.specs.Position.{from_at};
-ghost use Rattle.numbers.specs.NumberRead.{told_got_u32};
+ghost use Rattle.numbers.specs.NumberRead.{told_got_number};
 ghost use Rattle.var_length.specs.Length.{told_length};
 
-use numbers::got::GotU32;
 use records::error::Error;
 
-// The number that stands at an index, with no word yet on what a number cut off means: the header and a frame refuse it in different ways.
+// Why no number stands at an index, with no word yet on what a number cut off means: the header and a frame refuse it in different ways.
 #[derive(Clone, Copy)]
-pub enum GotLength {
-    // the number, and how many bytes spell it
-    Number(u32, usize),
+pub enum LengthError {
     // the bytes end before the number does
     Cut,
     // the fourth byte has its top bit set, or fewer bytes could spell the number
@@ -40,7 +37,7 @@ fn is_shortest(n: u32, unit: u32, count: usize) -> bool
 
 // The variable length number at index `at`, and how many bytes spell it; cut off; or malformed: four bytes without an end, or more than
 // needed.
-pub fn length(s: &[u8], at: usize) -> GotLength
+pub fn length(s: &[u8], at: usize) -> Result<(u32, usize), LengthError>
     ensures { (c : Refusal) → told_length c at result ≡ from_at (num_of c 4) s.now at }
 {
     let mut value: u32 = 0;
@@ -48,7 +45,7 @@ pub fn length(s: &[u8], at: usize) -> GotLength
     let mut next = at;
     loop {
         if s.len() <= next {
-            break GotLength::Cut;
+            break Err(LengthError::Cut);
         }
         let b = widen(s[next]);
         next = next + 1;
@@ -56,12 +53,12 @@ pub fn length(s: &[u8], at: usize) -> GotLength
         if b < 128 {
             let n = value + b * unit;
             if is_shortest(n, unit, count) {
-                break GotLength::Number(n, count);
+                break Ok((n, count));
             }
-            break GotLength::Long;
+            break Err(LengthError::Long);
         }
         if 4 <= count {
-            break GotLength::Long;
+            break Err(LengthError::Long);
         }
         value = value + (b - 128) * unit;
         unit = unit * 128;
@@ -69,15 +66,15 @@ pub fn length(s: &[u8], at: usize) -> GotLength
 }
 
 // The same inside a frame: the number and the index after it, or 7, or 2.
-pub fn read_length(s: &[u8], at: usize) -> GotU32
-    ensures { told_got_u32 result ≡ from_at (num_of cut 4) s.now at }
+pub fn read_length(s: &[u8], at: usize) -> Result<(u32, usize), Error>
+    ensures { told_got_number result ≡ from_at (num_of cut 4) s.now at }
 {
     match length(s, at) {
-        GotLength::Number(n, count) => {
+        Ok((n, count)) => {
             let next = at + count;
-            GotU32::Value(n, next)
+            Ok((n, next))
         }
-        GotLength::Cut => GotU32::Refused(Error::MalformedPacket),
-        GotLength::Long => GotU32::Refused(Error::MalformedRemainingLength),
+        Err(LengthError::Cut) => Err(Error::MalformedPacket),
+        Err(LengthError::Long) => Err(Error::MalformedRemainingLength),
     }
 }

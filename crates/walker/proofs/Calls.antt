@@ -1,4 +1,5 @@
 -- The answers to calls one after the other are the user properties of the record in order, and then nothing for ever. Assumes nothing.
+use Rattle.std.specs.Prelude as std
 use mathlib.Core.Path.{◌≡◌, refl, sym, ap, ◌∙◌, subst}
 use mathlib.Core.Option.{Option, none, some}
 use mathlib.Core.List.{List, [], ◌∷◌, map}
@@ -15,7 +16,6 @@ use Rattle.positions.proofs.At.{part_slice}
 use Rattle.positions.proofs.Less.{property_less, once_many}
 use Rattle.positions.proofs.Run.{none_passed, passed_end}
 use Rattle.records.specs.Answered.{told_user}
-use Rattle.records.specs.declared.answer.UserItem.{UserItem}
 use Rattle.tables.specs.Property.{table_row}
 use Rattle.tables.specs.declared.property.PropertyRow.{PropertyRow}
 use Rattle.walker.specs.Walk.{Next, block_of, spread, Begins}
@@ -23,6 +23,7 @@ use Rattle.walker.specs.Calls.{Calls, uncalled, called, answers_of, users_in}
 use Rattle.walker.specs.declared.Walker.{Walker}
 use Rattle.walker.proofs.Lies.{again_got, read_block}
 use Rattle.walker.proofs.Theorem.{Takes, took, ended, next_after, front, front_is}
+use Rattle.records.specs.declared.span.Span.{Span as CodeSpan}
 
 pub cons_answers : {o : Fit (Val Span)} {vs ws : List (Val Span)} (k : ℕ) → Takes o vs ws → o ∷ answers_of k ws ≡ answers_of (suc k) vs
 cons_answers k took = refl
@@ -51,7 +52,7 @@ module _ (s : List ℕ) (end : ℕ) (which : PropertyRow) where
   abbrev t : List ℕ
   t = front s end
 
-  calls_list : {w v : Walker} {rs : List UserItem} → Calls w rs v → w.frame.now ≡ s → w.end ≡ end → w.which ≡ which
+  calls_list : {w v : Walker} {rs : List (std.Option (CodeSpan × CodeSpan))} → Calls w rs v → w.frame.now ≡ s → w.end ≡ end → w.which ≡ which
       → (ps : List (PropOf Span)) → many_fit (property_of as_places (table_row which) (length t)) (drop w.at t) ≡ got ps → map told_user rs ≡ answers_of (length rs) (all_of 38 ps)
   calls_list uncalled i j k ps e = refl
   calls_list {w = w} (called {v = v} {r = r} {rs = rs} (fr, (en, (pl, g))) c) i j k ps e =
@@ -59,7 +60,7 @@ module _ (s : List ℕ) (end : ℕ) (which : PropertyRow) where
       let (ws, f, q) = next_after (table_row which) t n ps e in
       ap (λ (l : List (Fit (Val Span))). told_user r ∷ l) (calls_list c (ap (λ x. x.now) fr ∙ i) (en ∙ j) (pl ∙ k) ws f) ∙ cons_answers (length rs) q
 
-module _ (s : List ℕ) (w v : Walker) (rs : List UserItem) (c : Calls w rs v) (h : w.frame.now ≡ s) where
+module _ (s : List ℕ) (w v : Walker) (rs : List (std.Option (CodeSpan × CodeSpan))) (c : Calls w rs v) (h : w.frame.now ≡ s) where
   -- the answers are those of the user properties that u says
   abbrev Lists : Option (Row × Span) → Type 0
   Lists u = (vs : List (Val Span)) × (users_in s u ≡ got vs) × (map told_user rs ≡ answers_of (length rs) vs)

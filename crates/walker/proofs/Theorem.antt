@@ -12,7 +12,7 @@ use borrow.Author.Tests.{leb-false, le-leb, ne_eqb}
 use Rattle.grammar.specs.Record.{Val, PropOf, all_of}
 use Rattle.grammar.specs.Tables.{Row, publish_row}
 use Rattle.reading.specs.Refusal.{cut}
-use Rattle.reading.specs.Reader.{Fit, got, bad, Reader, ◌>>=◌, many_fit}
+use Rattle.reading.specs.Reader.{Fit, got, bad, Reader, many_fit}
 use Rattle.reading.specs.Read.{property_of, properties_fit}
 use Rattle.reading.specs.Place.{Span, part_of, held_of, as_places, no_item, again, nth_of, values_at, user_at, read_placed_of}
 use Rattle.reading.proofs.Lists.{T_of}

@@ -1,5 +1,6 @@
 -- The user properties of a frame, one after another: what a walker yields, and where it stands then. Assumes nothing.
-use Rattle.std.specs.Prelude.{◌≡◌, List, [], ℕ, zero, suc, ◌+◌, ◌≤◌, length}
+use Rattle.std.specs.Prelude as std
+use Rattle.std.specs.Prelude.{◌≡◌, List, [], ℕ, zero, suc, ◌+◌, ◌≤◌, length, Some, None}
 use Rattle.std.proofs.Math.Option.{Option, none, some}
 use Rattle.grammar.specs.Record.{Val, PropOf, publish, ack, subscribe, reply, unsubscribe, ping}
 use Rattle.grammar.specs.Tables.{Row, publish_row, subscribe_row, ack_row, unsubscribe_row}
@@ -10,12 +11,13 @@ use Rattle.reading.specs.Place.{Span, held_of, as_places, Placed, read_placed_of
 use Rattle.positions.specs.Position.{from_at}
 use Rattle.tables.specs.Property.{table_row}
 use Rattle.tables.specs.declared.property.PropertyRow.{PropertyRow}
+use Rattle.records.specs.AsNumbers.{told_span}
 use Rattle.records.specs.Answered.{told_user}
-use Rattle.records.specs.declared.answer.UserItem.{UserItem}
 use Rattle.property_value.specs.OneProperty.{told_value, form_of}
 use Rattle.property_value.specs.declared.Value.{Value}
 use Rattle.grammar.specs.Tables as tables
 use Rattle.walker.specs.declared.Walker.{Walker}
+use Rattle.records.specs.declared.span.Span.{Span as CodeSpan}
 
 -- 01, grammar: "an identifier byte and a value", from index `at` of s on
 abbrev pub property_at : Row → List ℕ → ℕ → Fit (PropOf Span × ℕ)
@@ -28,15 +30,15 @@ pub data Next (row : Row) (s : List ℕ) : ℕ → Fit (Val Span) → ℕ → Ty
   done : {at : ℕ} {k : _} → property_at row s at ≡ bad k → Next row s at (bad no_item) at
 
 -- 02, P7: "holds the frame": a walk over the bytes before index `end` of the frame s; there are none where the frame ends before
-abbrev pub Goes : PropertyRow → List ℕ → ℕ → ℕ → UserItem → ℕ → Type 0
+abbrev pub Goes : PropertyRow → List ℕ → ℕ → ℕ → std.Option (CodeSpan × CodeSpan) → ℕ → Type 0
 Goes which s end at r m = Next (table_row which) (held_of s (record { start = 0; len = end })) at (told_user r) m
 
 -- the contract of `next`: r comes next in the walk w, and the walker v that is left stands behind it and is w else
-abbrev pub Moves : Walker → UserItem → Walker → Type 0
+abbrev pub Moves : Walker → std.Option (CodeSpan × CodeSpan) → Walker → Type 0
 Moves w r v = (v.frame ≡ w.frame) × ((v.end ≡ w.end) × ((v.which ≡ w.which) × Goes w.which w.frame.now w.end w.at r v.at))
 
 -- 01, table of properties: 38 is a pair
-pub record UserOf (v : Value) (r : UserItem) : Type 0 where
+pub record UserOf (v : Value) (r : std.Option (CodeSpan × CodeSpan)) : Type 0 where
   pub says : form_of v ≡ tables.pair → told_user r ≡ got (told_value v)
 
 -- 01, grammar: the block of a record, where its user properties stand, with its row; none for a ping
@@ -47,6 +49,11 @@ block_in (subscribe m) = on_some (λ ps. (subscribe_row, ps.user)) m.props
 block_in (reply k m) = on_some (λ ps. (ack_row, ps.user)) m.props
 block_in (unsubscribe m) = on_some (λ ps. (unsubscribe_row, ps.user)) m.props
 block_in (ping k) = none
+
+-- a block in a row, if it stands at a place
+abbrev pub place_in : PropertyRow → std.Option CodeSpan → Option (Row × Span)
+place_in which None = none
+place_in which (Some p) = some (table_row which, told_span p)
 
 -- 02, P7: "the walker yields nothing on a frame the reader refuses"
 abbrev pub block_of : Answer Placed → Option (Row × Span)

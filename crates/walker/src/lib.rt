@@ -4,21 +4,18 @@
 
 ghost use Rattle.std.proofs.Math.Option.{none, some};
 ghost use Rattle.std.specs.Prelude.{◌≡◌};
-ghost use Rattle.grammar.specs.Tables.{publish_row};
-ghost use Rattle.reading.specs.Place.{on_some};
 ghost use Rattle.records.specs.AsNumbers.{told_span};
-ghost use Rattle.records.specs.Said.{told_publish_block, told_block, told_packet};
+ghost use Rattle.records.specs.Said.{told_packet};
 ghost use Rattle.records.specs.Answered.{told_user};
 ghost use Rattle.tables.specs.Property.{table_row};
-ghost use Rattle.walker.specs.Walk.{Next, Goes, UserOf, Begins, Spread, block_in, Moves};
+ghost use Rattle.walker.specs.Walk.{Next, Goes, UserOf, Begins, Spread, place_in, block_in, Moves};
 
 use packet;
 use property_value;
-use property_value::{GotProperty, Value};
-use records::answer::{Limit, Read, UserItem};
+use property_value::Value;
 use records::packet_record::Packet;
-use records::properties_record::MaybeProperties;
-use records::publish_record::MaybePublishProperties;
+use records::properties_record::Properties;
+use records::publish_record::PublishProperties;
 use records::span::Span;
 use tables::property::PropertyRow;
 use wire::string;
@@ -26,7 +23,7 @@ use wire::string;
 // The next user property, and where the walk stands after it.
 #[derive(Clone, Copy)]
 pub struct Step {
-    pub item: UserItem,
+    pub item: Option<(Span, Span)>,
     pub at: usize,
 }
 
@@ -47,13 +44,13 @@ pub struct Walker<'a> {
 }
 
 // A value as a user property.
-fn user_item(v: Value) -> UserItem
+fn user_item(v: Value) -> Option<(Span, Span)>
     ensures { UserOf v result }
 {
-    if let Value::Pair(key, value) = v {
-        return UserItem::Pair(key, value);
+    match v {
+        Value::Pair(key, value) => Some((key, value)),
+        _ => None,
     }
-    UserItem::NoItem
 }
 
 // The next user property from `at` on.
@@ -61,23 +58,14 @@ fn step_in(s: &[u8], at: usize, which: PropertyRow) -> Step
     ensures { Next (table_row which) s.now at (told_user result.item) result.at }
 {
     let mut i = at;
-    while i < s.len() {
-        match property_value::read_property(which, s, i) {
-            GotProperty::Refused(_) => {
-                let item = UserItem::NoItem;
-                return Step { item, at: i };
-            }
-            GotProperty::Found(k, v, next) => {
-                if k == 38 {
-                    let item = user_item(v);
-                    return Step { item, at: next };
-                }
-                i = next;
-            }
+    while let Ok((k, v, next)) = property_value::read_property(which, s, i) {
+        if k == 38 {
+            let item = user_item(v);
+            return Step { item, at: next };
         }
+        i = next;
     }
-    let item = UserItem::NoItem;
-    Step { item, at: i }
+    Step { item: None, at: i }
 }
 
 // The next user property from an index on, in the bytes before `end`, and the index after it.
@@ -92,12 +80,9 @@ fn over(which: PropertyRow, s: &[u8], p: Span) -> Block
     ensures { Spread s.now (some (table_row which, told_span p)) result.at result.end result.which }
 {
     if string::within(s, p) {
-        let start = p.start;
-        let len = p.len;
-        let end = start + len;
         return Block {
-            at: start,
-            end,
+            at: p.start,
+            end: p.start + p.len,
             which,
         };
     }
@@ -118,21 +103,12 @@ fn nowhere(s: &[u8]) -> Block
 }
 
 // The walk over a block that may be absent.
-fn of_publish(s: &[u8], properties: MaybePublishProperties) -> Block
-    ensures { Spread s.now (on_some (λ ps. (publish_row, ps.user)) (told_publish_block properties)) result.at result.end result.which }
+fn of_block(which: PropertyRow, s: &[u8], block: Option<Span>) -> Block
+    ensures { Spread s.now (place_in which block) result.at result.end result.which }
 {
-    match properties {
-        MaybePublishProperties::Absent => return nowhere(s),
-        MaybePublishProperties::Present(ps) => return over(PropertyRow::Publish, s, ps.block),
-    }
-}
-
-fn of_block(which: PropertyRow, s: &[u8], properties: MaybeProperties) -> Block
-    ensures { Spread s.now (on_some (λ ps. (table_row which, ps.user)) (told_block properties)) result.at result.end result.which }
-{
-    match properties {
-        MaybeProperties::Absent => return nowhere(s),
-        MaybeProperties::Present(ps) => return over(which, s, ps.block),
+    match block {
+        None => nowhere(s),
+        Some(p) => over(which, s, p),
     }
 }
 
@@ -141,28 +117,20 @@ fn of_packet(s: &[u8], p: Packet) -> Block
     ensures { Spread s.now (block_in (told_packet p)) result.at result.end result.which }
 {
     match p {
-        Packet::Publish(m) => {
-            let properties = m.properties;
-            return of_publish(s, properties);
-        }
-        Packet::Ack(_, m) => {
-            let properties = m.properties;
-            return of_block(PropertyRow::Ack, s, properties);
-        }
-        Packet::Subscribe(m) => {
-            let properties = m.properties;
-            return of_block(PropertyRow::Subscribe, s, properties);
-        }
-        Packet::Reply(_, m) => {
-            let properties = m.properties;
-            return of_block(PropertyRow::Ack, s, properties);
-        }
-        Packet::Unsubscribe(m) => {
-            let properties = m.properties;
-            return of_block(PropertyRow::Unsubscribe, s, properties);
-        }
-        Packet::PingReq => return nowhere(s),
-        Packet::PingResp => return nowhere(s),
+        Packet::Publish(m) => of_block(PropertyRow::Publish, s, m.properties.map(|ps| ps.block)),
+        Packet::Ack(_, m) => of_block(PropertyRow::Ack, s, m.properties.map(|ps| ps.block)),
+        Packet::Subscribe(m) => of_block(
+            PropertyRow::Subscribe,
+            s,
+            m.properties.map(|ps| ps.block),
+        ),
+        Packet::Reply(_, m) => of_block(PropertyRow::Ack, s, m.properties.map(|ps| ps.block)),
+        Packet::Unsubscribe(m) => of_block(
+            PropertyRow::Unsubscribe,
+            s,
+            m.properties.map(|ps| ps.block),
+        ),
+        Packet::PingReq | Packet::PingResp => nowhere(s),
     }
 }
 
@@ -170,9 +138,9 @@ fn of_packet(s: &[u8], p: Packet) -> Block
 pub fn begin_at(s: &[u8]) -> Block
     ensures { Begins s.now result.at result.end result.which }
 {
-    match packet::read(s, Limit::Unlimited) {
-        Read::Refused(_, _) => return nowhere(s),
-        Read::Packet(p, _, _) => return of_packet(s, p),
+    match packet::read(s, None) {
+        Err(_) => nowhere(s),
+        Ok((p, _, _)) => of_packet(s, p),
     }
 }
 
@@ -189,8 +157,8 @@ pub fn make<'a>(frame: &'a [u8]) -> Walker<'a>
     }
 }
 
-// The next user property, and the walker behind it; or NoItem when there is none left.
-pub fn next<'s, 'a>(w: &'s mut Walker<'a>) -> UserItem
+// The next user property, and the walker behind it; or None when there is none left.
+pub fn next<'s, 'a>(w: &'s mut Walker<'a>) -> Option<(Span, Span)>
     ensures { Moves w.old result w.new }
 {
     let t = step_at(w.frame, w.at, w.end, w.which);

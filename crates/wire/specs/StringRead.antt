@@ -1,18 +1,17 @@
 -- What the answer on a string tells: its place and the index after it, or 01's number and values of the refusal; and the bytes of a string
 -- that may be absent. Assumes nothing.
 use Rattle.std.proofs.Math.Option.{Option, none, some}
-use Rattle.std.specs.Prelude.{List, [], ℕ}
+use Rattle.std.specs.Prelude.{List, [], ℕ, Result}
 use Rattle.grammar.specs.Record.{Val, num, str, duo}
-use Rattle.reading.specs.Reader.{Fit, got, bad}
+use Rattle.reading.specs.Reader.{Fit}
 use Rattle.reading.specs.Place as place
-use Rattle.records.specs.AsNumbers.{told_error, told_span}
-use Rattle.wire.specs.declared.got.GotSpan.{GotSpan}
-use Rattle.wire.specs.declared.got.GotSpan.TheVariants.{Value, Refused}
+use Rattle.records.specs.AsNumbers.{told_span, told_by}
+use Rattle.records.specs.declared.span.Span.{Span}
+use Rattle.records.specs.declared.error.Error.{Error}
 
 -- 01, grammar: the place of a string, and the index after it; or the refusal
-abbrev pub told_part : GotSpan → Fit (place.Span × ℕ)
-told_part (Value p next) = got (told_span p, next)
-told_part (Refused e) = bad (told_error e)
+abbrev pub told_part : Result (Span × ℕ) Error → Fit (place.Span × ℕ)
+told_part = told_by (λ (p, next). (told_span p, next))
 
 -- ---- strings that may be absent
 

@@ -1,5 +1,4 @@
 // Strings of the codec, after the helpers of v5/mod.rs: what stands at an index or a place of a slice.
 #![tactic(auto)]
 
-pub mod got;
 pub mod string;

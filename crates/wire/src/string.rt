@@ -8,41 +8,31 @@ ghost use Rattle.records.specs.AsNumbers.{told_span, told_string};
 ghost use Rattle.wire.specs.Part.{PartAt, place_if};
 ghost use Rattle.wire.specs.StringRead.{told_part};
 
-use crate::got::GotSpan;
 use numbers::fixed;
-use numbers::got::GotU16;
 use records::error::Error;
-use records::span::{MaybeSpan, Span};
+use records::span::Span;
 
 // The place of a string of any bytes, behind its length, and the index after it; 7, or 8 with the length.
-pub fn read_mqtt_bytes(s: &[u8], at: usize) -> GotSpan
+pub fn read_mqtt_bytes(s: &[u8], at: usize) -> Result<(Span, usize), Error>
     ensures { told_part result ≡ from_at (bytes_of as_places (length s.now)) s.now at }
 {
-    match fixed::read_u16(s, at) {
-        GotU16::Refused(e) => GotSpan::Refused(e),
-        GotU16::Value(n, start) => {
-            let len = n as usize;
-            if s.len() - start < len {
-                return GotSpan::Refused(Error::BoundaryCrossed(len));
-            }
-            GotSpan::Value(Span { start, len }, start + len)
-        }
+    let (n, start) = fixed::read_u16(s, at)?;
+    let len = n as usize;
+    if s.len() - start < len {
+        return Err(Error::BoundaryCrossed(len));
     }
+    Ok((Span { start, len }, start + len))
 }
 
 // The same of a string of text; 9 last.
-pub fn read_mqtt_string(s: &[u8], at: usize) -> GotSpan
+pub fn read_mqtt_string(s: &[u8], at: usize) -> Result<(Span, usize), Error>
     ensures { told_part result ≡ from_at (text_of as_places (length s.now)) s.now at }
 {
-    match read_mqtt_bytes(s, at) {
-        GotSpan::Refused(e) => GotSpan::Refused(e),
-        GotSpan::Value(p, next) => {
-            if utf8::is_utf8(part(s, p)) {
-                return GotSpan::Value(p, next);
-            }
-            GotSpan::Refused(Error::TopicNotUtf8)
-        }
+    let (p, next) = read_mqtt_bytes(s, at)?;
+    if utf8::is_utf8(part(s, p)) {
+        return Ok((p, next));
     }
+    Err(Error::TopicNotUtf8)
 }
 
 // Whether a place lies within `s`.
@@ -71,11 +61,11 @@ pub fn part<'a>(s: &'a [u8], p: Span) -> &'a [u8]
 }
 
 // The same of a place that may be absent, which gives the empty part at 0.
-pub fn part_if<'a>(s: &'a [u8], p: MaybeSpan) -> &'a [u8]
+pub fn part_if<'a>(s: &'a [u8], p: Option<Span>) -> &'a [u8]
     ensures { PartAt s.entry (place_if (told_string p)) result }
 {
     match p {
-        MaybeSpan::Absent => part(s, Span { start: 0, len: 0 }),
-        MaybeSpan::Present(q) => part(s, q),
+        None => part(s, Span { start: 0, len: 0 }),
+        Some(q) => part(s, q),
     }
 }

@@ -14,10 +14,10 @@ ghost use Rattle.write_properties.specs.Behind.{Behind};
 ghost use Rattle.write_properties.specs.Fitting.{fit_props};
 ghost use Rattle.write_ack_properties.specs.Given.{given};
 
+use records::error::Error;
 use write_belongs;
 use write_lengths::put_length;
 use write_runs::run;
-use write_tests::Tested;
 
 // False is 20: the reason string or the user properties do not belong together.
 pub fn rows_belong(block: bool, on: bool, text: &[u8], user: &[u8], user_lengths: &[usize]) -> bool
@@ -40,13 +40,11 @@ pub fn rows_length(on: bool, text: &[u8], user: &[u8], user_lengths: &[usize]) -
 }
 
 // Their texts, the reason string first: 18, then 9.
-pub fn test_rows(on: bool, text: &[u8], user: &[u8], user_lengths: &[usize]) -> Tested
+pub fn test_rows(on: bool, text: &[u8], user: &[u8], user_lengths: &[usize]) -> Result<(), Error>
     ensures { told_tested result ≡ judge (flat field_tests (props_fields ack_row (given on text.now user.now user_lengths.now))) }
 {
-    write_tests::then(
-        write_tests::test_text(on, text),
-        write_tests::test_words(user, user_lengths),
-    )
+    write_tests::test_text(on, text)?;
+    write_tests::test_words(user, user_lengths)
 }
 
 // L and the properties, 31 before 38, of what does not fit nothing; gives the index behind them.

@@ -2,11 +2,10 @@
 // absent. The crate has no such test: its lists carry their own lengths.
 #![tactic(auto)]
 
-ghost use Rattle.std.specs.Prelude.{◌≡◌, ◌&&◌};
+ghost use Rattle.std.specs.Prelude.{◌≡◌, ◌&&◌, ℕ};
 ghost use Rattle.writing.specs.Handed.{several, row_belongs};
-ghost use Rattle.write_runs.specs.Given.{given_u8, given_u16, given_u32, given_lent, given_pairs};
+ghost use Rattle.write_runs.specs.Given.{given_by, given_lent, given_pairs};
 
-use records::span::{MaybeU8, MaybeU16, MaybeU32};
 use write_runs::run::adds_up;
 
 // Whether both hold.
@@ -19,37 +18,18 @@ pub fn both(a: bool, b: bool) -> bool
     false
 }
 
-// 20 of a u8: none where there is no block.
-pub fn u8_belongs(block: bool, v: MaybeU8) -> bool
-    ensures { result ≡ row_belongs block (given_u8 v) }
+// 20 of a number of any form: none where there is no block.
+pub fn one_belongs<T: Copy>(block: bool, v: Option<T>) -> bool
+    ensures { (f : T → ℕ) → result ≡ row_belongs block (given_by f v) }
 {
     match v {
-        MaybeU8::Absent => true,
-        MaybeU8::Present(_) => block,
+        None => true,
+        Some(_) => block,
     }
 }
 
-// 20 of a u16, likewise.
-pub fn u16_belongs(block: bool, v: MaybeU16) -> bool
-    ensures { result ≡ row_belongs block (given_u16 v) }
-{
-    match v {
-        MaybeU16::Absent => true,
-        MaybeU16::Present(_) => block,
-    }
-}
-
-// 20 of a u32 or a variable length number, likewise.
-pub fn u32_belongs(block: bool, v: MaybeU32) -> bool
-    ensures { result ≡ row_belongs block (given_u32 v) }
-{
-    match v {
-        MaybeU32::Absent => true,
-        MaybeU32::Present(_) => block,
-    }
-}
-
-// 20 of text or bytes: none where there is no block, and no bytes where there is none.
+// 20 of text or bytes: none where there is no block, and no bytes where there is none. A flag beside the bytes, and no Option: `row_belongs` refuses
+// bytes that are handed over for an absent string, and so do the writers and the functions for C.
 pub fn lent_belongs(block: bool, on: bool, s: &[u8]) -> bool
     ensures { result ≡ row_belongs block (given_lent on s.now) }
 {

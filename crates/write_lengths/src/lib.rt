@@ -8,13 +8,12 @@ ghost use Rattle.std.proofs.lemmas.List.Edits.{sets};
 ghost use Rattle.writing.specs.Spell.{short};
 ghost use Rattle.writing.specs.Size.{most};
 ghost use Rattle.writing.specs.Order.{number_test};
-ghost use Rattle.records.specs.Answered.{told_written};
+ghost use Rattle.records.specs.Answered.{told_size};
 ghost use Rattle.write_numbers.specs.Leaf.{LeafWritten};
 ghost use Rattle.write_lengths.specs.Fitting.{fit_short};
 
-use records::answer::Written;
 use records::error::Error;
-use write_numbers::fixed;
+use write_numbers::fixed::Fixed;
 use write_sizes::{MOST, len_len};
 
 fn put_groups(out: &mut [u8], at: usize, n: usize) -> usize
@@ -22,19 +21,15 @@ fn put_groups(out: &mut [u8], at: usize, n: usize) -> usize
     ensures { (out.new ≡ sets out.old at (short n)) × (result ≡ list.length (short n)) }
 {
     let mut rest = n;
-    let mut i: usize = 0;
-    loop {
+    for i in 0..4 {
         if rest < 128 {
-            fixed::put_u8(&mut *out, at + i, rest as u8);
-            break i + 1;
+            (rest as u8).put(&mut *out, at + i);
+            return i + 1;
         }
-        fixed::put_u8(&mut *out, at + i, (rest % 128 + 128) as u8);
-        rest = rest / 128;
-        i = i + 1;
-        if 4 <= i {
-            break i;
-        }
+        ((rest % 128 + 128) as u8).put(&mut *out, at + i);
+        rest /= 128;
     }
+    4
 }
 
 // Puts the shortest spelling, and gives how many bytes it has.
@@ -61,16 +56,16 @@ pub fn put_length(out: &mut [u8], at: usize, n: usize) -> usize
 
 // Writes the shortest spelling, and gives how many bytes it has: 17 above 268,435,455, then 19 with the size where there is no room; a refusal
 // leaves the output as it stood.
-pub fn write_remaining_length(out: &mut [u8], n: usize) -> Written
-    ensures { LeafWritten (number_test n) (short n) out.old out.new (told_written result) }
+pub fn write_remaining_length(out: &mut [u8], n: usize) -> Result<usize, Error>
+    ensures { LeafWritten (number_test n) (short n) out.old out.new (told_size result) }
 {
     if MOST < n {
-        return Written::Refused(Error::PayloadTooLong);
+        return Err(Error::PayloadTooLong);
     }
     let need = len_len(n);
     if out.len() < need {
-        return Written::Refused(Error::NoRoom(need));
+        return Err(Error::NoRoom(need));
     }
     let size = put_fitting(&mut *out, 0, n);
-    Written::Size(size)
+    Ok(size)
 }

@@ -52,6 +52,7 @@ fn cut_pairs(
     let mut n: usize = 0;
     let mut from = start;
     let mut i = first;
+    // by index, not `chunks_exact(2)`: it goes on at the length where `lay_pairs` stopped
     while i + 1 < lengths.len() {
         let k = lengths[i];
         let v = lengths[i + 1];
@@ -100,6 +101,7 @@ fn lay_pairs(out: &mut [u8], at: usize, bytes: &[u8], lengths: &[usize]) -> usiz
     let mut n: usize = 0;
     let mut from: usize = 0;
     let mut i: usize = 0;
+    // by index, not `chunks_exact(2)`: the index is handed on to `cut_pairs`
     while i + 1 < lengths.len() {
         let k = lengths[i];
         let v = lengths[i + 1];
@@ -130,11 +132,9 @@ pub fn put_ids(out: &mut [u8], at: usize, ids: &[u32]) -> usize
     ensures { Put out.old at (fit_row (11, number) (several ids.now)) out.new result }
 {
     let mut n: usize = 0;
-    let mut i: usize = 0;
-    while i < ids.len() {
+    for id in ids {
         let to = run::after(out.len(), at, n);
-        n = n + put_number(&mut *out, to, 11, ids[i]);
-        i = i + 1;
+        n += put_number(&mut *out, to, 11, *id);
     }
     n
 }

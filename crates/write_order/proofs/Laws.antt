@@ -9,10 +9,15 @@ use native.Mathlib.Omega.{arith}
 use lib.Dec.{leb}
 use lib.ListN.{length}
 use lib.Seq.{sets}
+use Rattle.std.specs.Prelude.{Result, IsErrAnd}
+use Rattle.std.proofs.lemmas.Result.{err_from_is_err_and}
 use borrow.Author.Tests.{le-leb, lt-leb, leb-false}
 use Rattle.reading.specs.Refusal.{Refusal, nr}
 use Rattle.reading.specs.Reader.{Fit, got, bad, ◌>>◌, guard}
 use Rattle.reading.proofs.Reading.{bad_got}
+use Rattle.records.specs.AsNumbers.{told_error}
+use Rattle.records.specs.Answered.{told_size}
+use Rattle.records.specs.declared.error.Error.{Error}
 use Rattle.writing.specs.Lists.{flat}
 use Rattle.writing.specs.Handed.{Handed, belongs}
 use Rattle.writing.specs.Size.{most, with_length, rest_is, size_is, cap}
@@ -116,6 +121,10 @@ module _ (limit : Option ℕ) (h : Handed) (before : List ℕ) where
       go : (p : Fit (Unit {0})) → permit limit (length before) h ≡ p → bad k ≡ (p >> got (size_is h)) → Written limit h before before (bad k)
       go (got u) p e = absurd (bad_got e)
       go (bad j) p e = writes_none limit h before k (cc)
+
+  -- the same, of a refusal that leaves by a `?`
+  pub none_handed_on : (r : Result ℕ Error) (e : Error) → IsErrAnd r (λ y. y ≡ e) → bad (told_error e) ≡ answer_of limit (length before) h → Written limit h before before (told_size r)
+  none_handed_on r e i a = let p = err_from_is_err_and r i in rw (p.1, p.2) (none_written (told_error e) a)
 
   module _ (n : ℕ) (e : got n ≡ answer_of limit (length before) h) where
     permitted : permit limit (length before) h ≡ got tt

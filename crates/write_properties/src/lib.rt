@@ -5,17 +5,16 @@
 #![tactic(auto)]
 
 ghost use Rattle.std.specs.Prelude.{◌∷◌, [], ◌≤◌};
-ghost use Rattle.grammar.specs.Tables.{Form, u8, u16, u32, number};
+ghost use Rattle.grammar.specs.Tables.{Form, number};
 ghost use Rattle.writing.specs.Spell.{row_bytes};
 ghost use Rattle.write_lengths.specs.Fitting.{fit_short};
-ghost use Rattle.write_runs.specs.Given.{given_u8, given_u16, given_u32, given_lent};
+ghost use Rattle.write_runs.specs.Given.{given_by, given_one, given_lent};
 ghost use Rattle.write_properties.specs.Put.{Put};
 ghost use Rattle.write_properties.specs.Behind.{Behind};
 ghost use Rattle.write_properties.specs.Fitting.{fit_row};
 
-use records::span::{MaybeU8, MaybeU16, MaybeU32};
 use write_lengths::put_length;
-use write_numbers::fixed;
+use write_numbers::fixed::Fixed;
 use write_runs::run;
 use write_strings::put_string;
 
@@ -23,48 +22,20 @@ use write_strings::put_string;
 pub fn put_id(out: &mut [u8], at: usize, id: u8) -> usize
     ensures { Behind out.old at (id ∷ []) out.new result }
 {
-    fixed::put_u8(&mut *out, at, id);
+    id.put(&mut *out, at);
     run::after(out.len(), at, 1)
 }
 
-// A u8 that may be absent, its identifier byte before it.
-pub fn put_u8_if(out: &mut [u8], at: usize, id: u8, v: MaybeU8) -> usize
-    ensures { Put out.old at (row_bytes (id, u8) (given_u8 v)) out.new result }
+// A number of a fixed width that may be absent, its identifier byte before it.
+pub fn put_if<T: Fixed>(out: &mut [u8], at: usize, id: u8, v: Option<T>) -> usize
+    ensures { Put out.old at (row_bytes (id, T.form) (given_by T.value v)) out.new result }
 {
     match v {
-        MaybeU8::Absent => 0,
-        MaybeU8::Present(n) => {
+        None => 0,
+        Some(n) => {
             let next = put_id(&mut *out, at, id);
-            fixed::put_u8(&mut *out, next, n);
-            2
-        }
-    }
-}
-
-// The same of a u16.
-pub fn put_u16_if(out: &mut [u8], at: usize, id: u8, v: MaybeU16) -> usize
-    ensures { Put out.old at (row_bytes (id, u16) (given_u16 v)) out.new result }
-{
-    match v {
-        MaybeU16::Absent => 0,
-        MaybeU16::Present(n) => {
-            let next = put_id(&mut *out, at, id);
-            fixed::put_u16(&mut *out, next, n);
-            3
-        }
-    }
-}
-
-// The same of a u32.
-pub fn put_u32_if(out: &mut [u8], at: usize, id: u8, v: MaybeU32) -> usize
-    ensures { Put out.old at (row_bytes (id, u32) (given_u32 v)) out.new result }
-{
-    match v {
-        MaybeU32::Absent => 0,
-        MaybeU32::Present(n) => {
-            let next = put_id(&mut *out, at, id);
-            fixed::put_u32(&mut *out, next, n);
-            5
+            n.put(&mut *out, next);
+            1 + T::WIDTH
         }
     }
 }
@@ -92,12 +63,12 @@ pub fn put_number(out: &mut [u8], at: usize, id: u8, n: u32) -> usize
 }
 
 // The same of a variable length number.
-pub fn put_number_if(out: &mut [u8], at: usize, id: u8, v: MaybeU32) -> usize
-    ensures { Put out.old at (fit_row (id, number) (given_u32 v)) out.new result }
+pub fn put_number_if(out: &mut [u8], at: usize, id: u8, v: Option<u32>) -> usize
+    ensures { Put out.old at (fit_row (id, number) (given_one v)) out.new result }
 {
     match v {
-        MaybeU32::Absent => 0,
-        MaybeU32::Present(n) => put_number(&mut *out, at, id, n),
+        None => 0,
+        Some(n) => put_number(&mut *out, at, id, n),
     }
 }
 

@@ -1,22 +1,17 @@
 -- What is handed over, from the arguments of a function. Assumes nothing.
-use Rattle.std.specs.Prelude.{Bool, List, ℕ}
+use Rattle.std.specs.Prelude.{Bool, List, ℕ, Option, Some, None}
+use Rattle.std.proofs.Math.Option.{none, some}
 use Rattle.writing.specs.Handed.{Run, Given, one, lent, pairs}
-use Rattle.records.specs.AsNumbers.{number_u8, number_u16, number_u32}
-use Rattle.records.specs.declared.span.MaybeU8.{MaybeU8}
-use Rattle.records.specs.declared.span.MaybeU16.{MaybeU16}
-use Rattle.records.specs.declared.span.MaybeU32.{MaybeU32}
+use Rattle.records.specs.AsNumbers.{number_if}
 
--- 01, table of properties: a row of a u8
-abbrev pub given_u8 : MaybeU8 → Given
-given_u8 v = one (number_u8 v)
+-- 01, table of properties: a row of a number of any form, which f reads off the value
+abbrev pub given_by : {A : Type 0} → (A → ℕ) → Option A → Given
+given_by f None = one none
+given_by f (Some x) = one (some (f x))
 
--- 01, table of properties: a row of a u16
-abbrev pub given_u16 : MaybeU16 → Given
-given_u16 v = one (number_u16 v)
-
--- 01, table of properties: a row of a u32 or of a variable length number
-abbrev pub given_u32 : MaybeU32 → Given
-given_u32 v = one (number_u32 v)
+-- the same, where the value is the number
+abbrev pub given_one : Option ℕ → Given
+given_one v = one (number_if v)
 
 -- 01, table of properties: text or bytes, if they are on
 abbrev pub given_lent : Bool → List ℕ → Given

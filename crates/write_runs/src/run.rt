@@ -33,14 +33,11 @@ pub fn adds_up(bytes: &[u8], lengths: &[usize]) -> bool
     ensures { result ≡ adds_up (run_of bytes.now lengths.now) }
 {
     let mut left = bytes.len();
-    let mut i: usize = 0;
-    while i < lengths.len() {
-        let n = lengths[i];
-        if left < n {
+    for n in lengths {
+        if left < *n {
             return false;
         }
-        left = left - n;
-        i = i + 1;
+        left -= *n;
     }
     left == 0
 }

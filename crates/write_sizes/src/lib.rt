@@ -4,12 +4,12 @@
 #![tactic(auto)]
 
 ghost use Rattle.std.specs.Prelude.{◌≡◌, ◌+◌, ◌≤◌};
-ghost use Rattle.grammar.specs.Tables.{Form, u8, u16, u32, number, pair};
+ghost use Rattle.grammar.specs.Tables.{Form, number, pair};
 ghost use Rattle.writing.specs.Handed.{several};
 ghost use Rattle.writing.specs.Size.{len_len, with_length, given_size, cap};
-ghost use Rattle.write_runs.specs.Given.{given_u8, given_u16, given_u32, given_lent, given_pairs};
+ghost use Rattle.write_runs.specs.Given.{given_by, given_one, given_lent, given_pairs};
 
-use records::span::{MaybeU8, MaybeU16, MaybeU32};
+use write_numbers::fixed::Fixed;
 
 // The largest number that can be spelled.
 pub const MOST: usize = 268435455;
@@ -56,43 +56,23 @@ fn number_size(n: u32) -> usize
     1 + len_len(n as usize)
 }
 
-// The bytes of a u8 that may be absent, its identifier byte among them; 0 if it is.
-pub fn one_size_u8(v: MaybeU8) -> usize
-    ensures { result ≡ cap (given_size u8 (given_u8 v)) }
+// The bytes of a number of a fixed width that may be absent, its identifier byte among them; 0 if it is.
+pub fn one_size<T: Fixed>(v: Option<T>) -> usize
+    ensures { result ≡ cap (given_size T.form (given_by T.value v)) }
 {
     match v {
-        MaybeU8::Absent => 0,
-        MaybeU8::Present(_) => 2,
-    }
-}
-
-// The same of a u16.
-pub fn one_size_u16(v: MaybeU16) -> usize
-    ensures { result ≡ cap (given_size u16 (given_u16 v)) }
-{
-    match v {
-        MaybeU16::Absent => 0,
-        MaybeU16::Present(_) => 3,
-    }
-}
-
-// The same of a u32.
-pub fn one_size_u32(v: MaybeU32) -> usize
-    ensures { result ≡ cap (given_size u32 (given_u32 v)) }
-{
-    match v {
-        MaybeU32::Absent => 0,
-        MaybeU32::Present(_) => 5,
+        None => 0,
+        Some(_) => 1 + T::WIDTH,
     }
 }
 
 // The same of a variable length number.
-pub fn one_size_number(v: MaybeU32) -> usize
-    ensures { result ≡ cap (given_size number (given_u32 v)) }
+pub fn one_size_number(v: Option<u32>) -> usize
+    ensures { result ≡ cap (given_size number (given_one v)) }
 {
     match v {
-        MaybeU32::Absent => 0,
-        MaybeU32::Present(n) => number_size(n),
+        None => 0,
+        Some(n) => number_size(n),
     }
 }
 
@@ -118,10 +98,8 @@ pub fn ids_size(ids: &[u32]) -> usize
     ensures { result ≡ cap (given_size number (several ids.now)) }
 {
     let mut n: usize = 0;
-    let mut i: usize = 0;
-    while i < ids.len() {
-        n = add(n, number_size(ids[i]));
-        i = i + 1;
+    for id in ids {
+        n = add(n, number_size(*id));
     }
     n
 }

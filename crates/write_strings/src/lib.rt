@@ -6,15 +6,14 @@ ghost use Rattle.std.specs.Prelude.{◌≡◌, ◌≤◌, length};
 ghost use Rattle.std.proofs.lemmas.List.Edits.{sets};
 ghost use Rattle.writing.specs.Spell.{string};
 ghost use Rattle.writing.specs.Order.{length_test};
-ghost use Rattle.records.specs.Answered.{told_written};
+ghost use Rattle.records.specs.Answered.{told_size};
 ghost use Rattle.write_numbers.specs.Leaf.{LeafWritten};
 ghost use Rattle.write_strings.specs.Fitting.{fit_string};
 
-use records::answer::Written;
 use records::error::Error;
 use write_bytes::put_bytes;
-use write_numbers::fixed;
-use write_tests::{Tested, test_raw};
+use write_numbers::fixed::Fixed;
+use write_tests::test_raw;
 
 // Two bytes of length and the bytes.
 fn put_fitting(out: &mut [u8], at: usize, s: &[u8])
@@ -22,7 +21,7 @@ fn put_fitting(out: &mut [u8], at: usize, s: &[u8])
     ensures { out.new ≡ sets out.old at (string s.now) }
 {
     if at < out.len() {
-        fixed::put_u16(&mut *out, at, s.len() as u16);
+        (s.len() as u16).put(&mut *out, at);
         put_bytes(&mut *out, at + 2, s);
     }
 }
@@ -39,25 +38,23 @@ pub fn put_string(out: &mut [u8], at: usize, s: &[u8]) -> usize
 }
 
 // A string whose length is fine.
-fn write_string(out: &mut [u8], s: &[u8]) -> Written
+fn write_string(out: &mut [u8], s: &[u8]) -> Result<usize, Error>
     requires { length s.now ≤ 65535 }
-    ensures { LeafWritten (length_test s.now) (string s.now) out.old out.new (told_written result) }
+    ensures { LeafWritten (length_test s.now) (string s.now) out.old out.new (told_size result) }
 {
     let size = 2 + s.len();
     if out.len() < size {
-        return Written::Refused(Error::NoRoom(size));
+        return Err(Error::NoRoom(size));
     }
     put_fitting(&mut *out, 0, s);
-    Written::Size(size)
+    Ok(size)
 }
 
 // Writes a length and the bytes, and gives how many they are together: 18 above 65,535 bytes, then 19 with the size where there is no room; a
 // refusal leaves the output as it stood.
-pub fn write_mqtt_bytes(out: &mut [u8], s: &[u8]) -> Written
-    ensures { LeafWritten (length_test s.now) (string s.now) out.old out.new (told_written result) }
+pub fn write_mqtt_bytes(out: &mut [u8], s: &[u8]) -> Result<usize, Error>
+    ensures { LeafWritten (length_test s.now) (string s.now) out.old out.new (told_size result) }
 {
-    match test_raw(s) {
-        Tested::Refused(e) => Written::Refused(e),
-        Tested::Fine => write_string(&mut *out, s),
-    }
+    test_raw(s)?;
+    write_string(&mut *out, s)
 }

@@ -5,7 +5,7 @@ use mathlib.Core.List.{List, [], ◌∷◌, append-nil}
 use Prim.Native.Nat.{ℕ, ◌≤◌, ◌<◌}
 use borrow.Author.Tests.{le-leb, lt-leb, ne_eqb}
 use Rattle.reading.specs.Refusal.{Refusal, nr}
-use Rattle.reading.specs.Reader.{got, bad, ◌>>◌}
+use Rattle.reading.specs.Reader.{Fit, got, bad, ◌>>◌}
 use Rattle.reading.specs.Read.{is_text}
 use Rattle.writing.specs.Lists.{flat}
 use Rattle.writing.specs.Size.{most}
@@ -21,14 +21,16 @@ module _ (s : List ℕ) where
   pub word_long : (k : Refusal) → bad k ≡ judge (field_tests (raw s)) → bad k ≡ judge (field_tests (word s))
   word_long k e = sym (word_tests ∙ rw (sym e))
 
-  module _ (h : got tt ≡ judge (field_tests (raw s))) where
-    pub word_fine : is_text s ≡ true → got tt ≡ judge (field_tests (word s))
-    unfolding judge
-    word_fine e = sym (word_tests ∙ rw (sym h, e))
+  pub word_chars : got tt ≡ judge (field_tests (raw s)) → (f : Fit (Unit {0})) → f ≡ judge (utf8_test s ∷ []) → f ≡ judge (field_tests (word s))
+  word_chars h f e = sym (word_tests ∙ rw (sym h, sym e))
 
-    pub word_broken : is_text s ≡ false → bad (nr 9 []) ≡ judge (field_tests (word s))
-    unfolding judge
-    word_broken e = sym (word_tests ∙ rw (sym h, e))
+  pub chars_fine : is_text s ≡ true → got tt ≡ judge (utf8_test s ∷ [])
+  unfolding judge
+  chars_fine e = rw e
+
+  pub chars_broken : is_text s ≡ false → bad (nr 9 []) ≡ judge (utf8_test s ∷ [])
+  unfolding judge
+  chars_broken e = rw e
 
 -- a field by itself
 pub field_alone : (f : Field) → judge (field_tests f) ≡ judge (flat field_tests (f ∷ []))

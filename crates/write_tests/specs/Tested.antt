@@ -1,9 +1,9 @@
 -- What an answer of a test tells. Assumes nothing.
-use Rattle.reading.specs.Reader.{Fit, got, bad}
-use Rattle.records.specs.AsNumbers.{told_error}
-use Rattle.write_tests.specs.declared.Tested.{Tested}
+use Rattle.std.specs.Prelude.{Result}
+use Rattle.reading.specs.Reader.{Fit}
+use Rattle.records.specs.AsNumbers.{told_by}
+use Rattle.records.specs.declared.error.Error.{Error}
 
 -- 01, writing order: fine so far, or the refusal
-abbrev pub told_tested : Tested → Fit (Unit {0})
-told_tested Tested.Fine = got tt
-told_tested (Tested.Refused e) = bad (told_error e)
+abbrev pub told_tested : Result (Unit {0}) Error → Fit (Unit {0})
+told_tested = told_by (λ u. u)

@@ -7,4 +7,4 @@ use Rattle.ack_write.proofs.put_reason.Goals as goal
 
 pub returns : goal.returns
 returns c =
-    c.put_u8.ensures ∙ ap (sets c.args.out.now c.args.at) (sym (wide_one (omega (arith, c.ranges.reason))))
+    c.put.ensures.stores ∙ ap (sets c.args.out.now c.args.at) (sym (wide_one (omega (arith, c.ranges.reason))))

@@ -6,5 +6,5 @@ use Rattle.alias.proofs.learn.Goals as goal
 
 pub returns : goal.returns
 returns c =
-    let a = c.alias_of-alias in
-    learnt_as _ _ c.topic-topic.ensures.bytes (number_told a.result ∙ ap number_if a.ensures) c.learn_topic.ensures
+    let a = c.alias_of in
+    learnt_as _ _ c.topic.ensures.bytes (number_told a.result ∙ ap number_if a.ensures) c.learn_topic.ensures

@@ -7,5 +7,5 @@ use Rattle.alias.proofs.place_in_force.Goals as goal
 
 pub returns : goal.returns
 returns c =
-    let a = c.alias_of-alias in
+    let a = c.alias_of in
     c.find_topic.ensures ∙ ap (in_force _ _ _) (number_told a.result ∙ ap number_if a.ensures)

@@ -2,6 +2,7 @@
 use mathlib.Core.Path.{refl, sym, ◌∙◌}
 use mathlib.Core.List.{◌∷◌, []}
 use native.Mathlib.Omega.{arith}
+use Rattle.inflight.proofs.Laws.{below_four}
 use Rattle.c_inflight.proofs.Laws.{refuses, named, claim_none, claim_zero, claim_odd, claim_some}
 use Rattle.c_inflight.proofs.claims.Goals as goal
 
@@ -15,4 +16,5 @@ pub returns-then-qos-gt2 : goal.returns-then-qos-gt2
 returns-then-qos-gt2 c = refuses 11 (c.args.qos ∷ []) (claim_odd _ _ (sym c.is_table.ensures ∙ c.if-not-is_table.false) (omega arith)) refl
 
 pub returns : goal.returns
-returns c = named c.claim_for.ensures (claim_some _ _ (sym c.is_table.ensures ∙ c.if-not-is_table.false) c.if-qos-eq0.false (omega arith))
+returns c =
+    named c.claim_for.ensures (claim_some _ _ (sym c.is_table.ensures ∙ c.if-not-is_table.false) c.if-qos-eq0.false (omega arith) (c.wait_of.ensures ∙ below_four (omega arith)))

@@ -1,14 +1,10 @@
--- `c_inflight::first_free` is right since none of the bytes before the one reached is free. Assumes nothing.
-use Prim.Native.Nat.{◌-◌}
-use native.Mathlib.Omega.{arith}
-use Rattle.inflight.proofs.Laws.{passed, found, none_free}
+-- `c_inflight::first_free` is right since what is passed is taken, and the rest is searched. Assumes nothing.
+use Rattle.std.proofs.lemmas.List.{take_rest}
+use Rattle.c_inflight.proofs.Laws.{zero_at, zero_none}
 use Rattle.c_inflight.proofs.first_free.Goals as goal
 
-pub returns-then-codes-i-eq0 : goal.returns-then-codes-i-eq0
-returns-then-codes-i-eq0 c = found c.loop-i.invariant (omega arith) c.if-codes-i-eq0.true
-
-pub loop-i-preserved : goal.loop-i-preserved
-loop-i-preserved c = passed c.loop-i.invariant (omega arith) c.if-codes-i-eq0.false
+pub returns-in_err-i : goal.returns-in_err-i
+returns-in_err-i c = rw c.from_residual.ensures (zero_none c.pass_taken-from.ensures (take_rest c.args.codes.now c.pass_taken-from.result) c.in_err-i.ensures)
 
 pub returns : goal.returns
-returns c = none_free c.loop-i.invariant (omega arith)
+returns c = zero_at c.pass_taken-from.ensures (take_rest c.args.codes.now c.pass_taken-from.result) c.in_ok-i.ensures

@@ -1,13 +1,12 @@
 -- `c_journal::from_codes` is right since each byte is a state, or the first that is none ends it. Assumes nothing.
 use mathlib.Core.Path.{◌∙◌}
-use Prim.Native.Nat.{◌-◌}
 use native.Mathlib.Omega.{arith}
 use Rattle.inflight.proofs.Laws.{below_four}
 use Rattle.c_journal.proofs.Bytes.{taken_more, not_long, not_states, taken_all}
 use Rattle.c_journal.proofs.from_codes.Goals as goal
 
 pub returns-then-codes-ne-LIMIT : goal.returns-then-codes-ne-LIMIT
-returns-then-codes-ne-LIMIT c = not_long c.if-codes-ne-LIMIT.true
+returns-then-codes-ne-LIMIT c = not_long _ c.if-codes-ne-LIMIT.true
 
 pub returns-then-x-gt3 : goal.returns-then-x-gt3
 returns-then-x-gt3 c = not_states c.loop-i.invariant (omega arith) (omega arith) (omega arith)

@@ -1,6 +1,5 @@
--- `c_journal::put_all` is right since the places are stored one behind the other. Assumes nothing.
+-- `c_journal::put_all` is right since each byte stored is the one of the table. Assumes nothing.
 use mathlib.Core.Path.{◌≡◌, sym, ◌∙◌}
-use Prim.Native.Nat.{◌-◌}
 use native.Mathlib.Omega.{arith}
 use borrow.Author.Rules.{rules}
 use lib.ListN.{length}

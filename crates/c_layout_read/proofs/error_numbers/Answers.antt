@@ -7,5 +7,5 @@ use Rattle.c_layout_read.proofs.error_numbers.Goals as goal
 pub returns : goal.returns
 returns c =
     c.numbers.ensures
-    ∙ rw (c.refused_head.ensures, c.no_block.ensures, c.second_value.ensures, c.first_value.ensures, c.values-v.ensures)
+    ∙ rw (c.second_value.ensures, c.first_value.ensures, c.values-v.ensures)
     (refused_encoded (told_error c.args.e) _)

@@ -5,4 +5,4 @@ use Rattle.c_layout_read.proofs.ping_numbers.Goals as goal
 
 pub returns : goal.returns
 unfolding packet_numbers
-returns c = c.numbers.ensures ∙ rw (c.no_block.ensures, c.plain_head.ensures, c.no_span-nowhere.ensures)
+returns c = c.numbers.ensures ∙ rw c.kind_head.ensures

@@ -2,6 +2,6 @@
 use Rattle.c_layout_read.specs.Record.{encoded}
 use Rattle.c_layout_read.proofs.read_numbers.Goals as goal
 
-pub returns-in-Packet : goal.returns-in-Packet
+pub returns-in-Ok : goal.returns-in-Ok
 unfolding encoded
-returns-in-Packet c = rw c.in-Packet.is c.packet_numbers.ensures
+returns-in-Ok c = rw c.in-Ok.is c.packet_numbers.ensures

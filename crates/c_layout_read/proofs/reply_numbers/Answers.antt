@@ -5,4 +5,4 @@ use Rattle.c_layout_read.proofs.reply_numbers.Goals as goal
 
 pub returns : goal.returns
 unfolding packet_numbers
-returns c = c.numbers.ensures ∙ rw (c.props_block.ensures, c.plain_head-head.ensures, c.no_span-nowhere.ensures)
+returns c = c.numbers.ensures ∙ rw (c.props_block.ensures, c.kind_head.ensures)

@@ -6,8 +6,8 @@ use Rattle.c_pieces.proofs.state_of.Goals as goal
 pub returns-then-state-lt4 : goal.returns-then-state-lt4
 returns-then-state-lt4 c = rw (lt-leb 4 _ c.if-state-lt4.true)
 
-pub returns-in-Bad : goal.returns-in-Bad
-returns-in-Bad c = given_none c.args.state.now c.if-state-lt4.false (rw c.in-Bad.is at c.end_of.ensures)
+pub returns-in_err-end : goal.returns-in_err-end
+returns-in_err-end c = rw c.from_residual.ensures (given_none c.args.state.now c.if-state-lt4.false c.in_err-end.ensures)
 
-pub returns-in-End : goal.returns-in-End
-returns-in-End c = given_some c.args.state.now c.if-state-lt4.false _ (rw c.in-End.is at c.end_of.ensures)
+pub returns : goal.returns
+returns c = given_some c.args.state.now c.if-state-lt4.false _ c.in_ok-end.ensures

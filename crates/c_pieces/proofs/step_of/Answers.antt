@@ -3,12 +3,12 @@ use mathlib.Core.Path.{◌∙◌}
 use Rattle.c_pieces.proofs.Laws.{none_frame, some_frame, none_kept, some_kept}
 use Rattle.c_pieces.proofs.step_of.Goals as goal
 
-pub returns-in-Bad : goal.returns-in-Bad
-returns-in-Bad c =
-    let e = rw c.in-Bad.is at c.state_of.ensures in
+pub returns-in_default : goal.returns-in_default
+returns-in_default c =
+    let e = rw c.in_default.is at c.state_of.ensures in
     record { step = none_frame _ _ _ _ e c.start.ensures; kept = none_kept _ _ e }
 
-pub returns-in-State : goal.returns-in-State
-returns-in-State c =
-    let e = rw c.in-State.is at c.state_of.ensures in
+pub returns : goal.returns
+returns c =
+    let e = rw c.in-Some.is at c.state_of.ensures in
     record { step = some_frame _ _ _ _ _ e c.step_from.ensures.step; kept = c.step_from.ensures.kept ∙ some_kept _ _ _ e }

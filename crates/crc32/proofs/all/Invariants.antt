@@ -1,11 +1,7 @@
-use Prim.Native.Nat.{◌-◌}
-use lib.ListN.{length}
+use Prim.Native.Nat.{◌*◌}
 use Rattle.crc32.specs.Crc.{bytes_in, all_ones}
 use Rattle.crc32.proofs.Laws.{Passed}
 use Rattle.crc32.proofs.all.Given as goal
 
-abbrev pub invariant-loop-i : goal.invariant-loop-i
-invariant-loop-i l = Passed l.s (bytes_in all_ones l.s) l.r l.i
-
-abbrev pub decreases-loop-i : goal.decreases-loop-i
-decreases-loop-i l = length l.s - l.i
+abbrev pub invariant-loop-e : goal.invariant-loop-e
+invariant-loop-e l = Passed l.s (bytes_in all_ones l.s) l.r (8 * l.e-index)

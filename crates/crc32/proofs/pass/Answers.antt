@@ -7,4 +7,4 @@ use Rattle.crc32.proofs.Laws.{by_tables}
 use Rattle.crc32.proofs.pass.Goals as goal
 
 pub returns : goal.returns
-returns c = by_tables c.args.k c.args.r c.args.b _ c.requires.0 c.requires.1 (omega arith) (ap (λ (n : ℕ). bit_and (bit_xor c.args.r n) 255) c.wide.ensures)
+returns c = by_tables c.args.k c.args.r c.args.b _ c.requires.0 c.requires.1 (omega arith) (ap (λ (n : ℕ). bit_and (bit_xor c.args.r n) 255) c.from.ensures)

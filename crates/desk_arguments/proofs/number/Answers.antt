@@ -1,25 +1,25 @@
 -- `desk_arguments::number` is right since the number so far, with what is left, decides. Assumes nothing.
-use Prim.Native.Nat.{◌-◌}
+use Rattle.std.proofs.Common.{sym, ◌∙◌, rules}
 use Rattle.desk_arguments.proofs.Laws.{number_empty, number_start, number_end, number_next, number_bad}
 use Rattle.desk_arguments.proofs.number.Goals as goal
 
-pub returns-then-s-eq0 : goal.returns-then-s-eq0
-returns-then-s-eq0 c = number_empty c.args.s.now c.if-s-eq0.true
+pub returns-then-is_empty : goal.returns-then-is_empty
+returns-then-is_empty c = number_empty _ (search rules)
 
-pub loop-i-init : goal.loop-i-init
-loop-i-init c = number_start c.args.s.now c.if-s-eq0.false
+pub loop-b-init : goal.loop-b-init
+loop-b-init c = number_start _ (sym c.is_empty.ensures ∙ c.if-is_empty.false)
 
-pub returns-in-Bad : goal.returns-in-Bad
-returns-in-Bad c =
-    let l = c.loop-i in
-    number_bad c.args.s.now l.n l.i l.invariant c.loop-i-test.true (rw c.in-Bad.is at c.grown.ensures)
+pub returns-in_err-n : goal.returns-in_err-n
+returns-in_err-n c =
+    let l = c.loop-b in
+    rw c.from_residual.ensures (number_bad c.args.s.now l.n l.b-index l.invariant c.loop-b-test.true c.in_err-n.ensures)
 
-pub loop-i-preserved : goal.loop-i-preserved
-loop-i-preserved c =
-    let l = c.loop-i in
-    number_next c.args.s.now l.n l.i l.invariant c.loop-i-test.true _ (rw c.in-Value.is at c.grown.ensures)
+pub loop-b-preserved : goal.loop-b-preserved
+loop-b-preserved c =
+    let l = c.loop-b in
+    number_next c.args.s.now l.n l.b-index l.invariant c.loop-b-test.true _ c.in_ok-n.ensures
 
 pub returns : goal.returns
 returns c =
-    let l = c.loop-i in
-    number_end c.args.s.now l.n l.i l.invariant c.loop-i-test.false
+    let l = c.loop-b in
+    number_end c.args.s.now l.n l.b-index l.invariant c.loop-b-test.false

@@ -3,8 +3,8 @@ use mathlib.Core.Path.{ap, ◌∙◌}
 use Rattle.desk_arguments.specs.Words.{with_most}
 use Rattle.desk_arguments.proofs.with_most.Goals as goal
 
-pub returns-in-Value : goal.returns-in-Value
-returns-in-Value c = c.styled.ensures ∙ ap (with_most c.args.a) (rw c.in-Value.is at c.number.ensures)
+pub returns-in-Some : goal.returns-in-Some
+returns-in-Some c = c.styled.ensures ∙ ap (with_most c.args.a) (rw c.in-Some.is at c.number.ensures)
 
-pub returns-in-Bad : goal.returns-in-Bad
-returns-in-Bad c = c.as_bad.ensures ∙ ap (with_most c.args.a) (rw c.in-Bad.is at c.number.ensures)
+pub returns-in-None : goal.returns-in-None
+returns-in-None c = c.as_bad.ensures ∙ ap (with_most c.args.a) (rw c.in-None.is at c.number.ensures)

@@ -1,5 +1,6 @@
 -- `desk_render::put_shown` is right since each turn shows one byte, and what is left decides. Assumes nothing.
-use Prim.Native.Nat.{◌-◌}
+use mathlib.Core.Path.{◌≡◌}
+use lib.ListN.{length}
 use native.Mathlib.Omega.{arith}
 use Rattle.desk_render.proofs.Laws.{showing_start, showing_full, showing_next, showing_end, shows_none}
 use Rattle.desk_render.proofs.put_shown.Goals as goal
@@ -18,7 +19,10 @@ loop-i-preserved c =
     showing_next l.invariant c.loop-i-test.true c.shown_size-n.ensures (omega (arith, c.if-out-next.false, l.invariant.same)) c.put_byte.ensures
 
 pub returns : goal.returns
-returns c = record { shows = showing_end c.loop-i.invariant c.loop-i-test.false; within = c.loop-i.invariant.ahead; room = omega (arith, c.loop-i.invariant.within) }
+returns c =
+    let i = c.loop-i.invariant in
+    let e : c.loop-i.i ≡ length c.args.s.now = omega arith in
+    record { shows = rw e at (showing_end i (omega arith)); within = omega arith; room = omega (arith, i.within) }
 
 pub loop-i-init : goal.loop-i-init
 loop-i-init c = showing_start _ _ _ c.if-out-at.false

@@ -1,5 +1,5 @@
 -- `desk_summary::refusals` is right since each turn puts the next behind those before it. Assumes nothing.
-use Rattle.std.proofs.Common.{◌≡◌, ◌-◌, refl, arith, rules}
+use Rattle.std.proofs.Common.{◌≡◌, refl, arith, rules}
 use Rattle.desk_summary.proofs.Laws.{to_none, to_next}
 use Rattle.desk_summary.proofs.refusals.Goals as goal
 

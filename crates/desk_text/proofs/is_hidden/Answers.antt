@@ -10,16 +10,16 @@ returns-then-control_at c = rw (sym c.control_at.ensures ∙ c.if-control_at.tru
 
 pub returns-then-control_at-2 : goal.returns-then-control_at-2
 unfolding hidden
-returns-then-control_at-2 c = rw (sym c.control_at.ensures ∙ c.if-control_at.false, ap (λ (j : ℕ). control_at c.args.s.now j) (sym c.less.ensures) ∙ sym c.control_at-2.ensures ∙ c.if-control_at-2.true)
+returns-then-control_at-2 c = rw (sym c.control_at.ensures ∙ c.if-control_at.false, ap (λ (j : ℕ). control_at c.args.s.now j) (sym c.saturating_sub.ensures) ∙ sym c.control_at-2.ensures ∙ c.if-control_at-2.true)
 
 pub returns-then-turning_at : goal.returns-then-turning_at
 unfolding hidden
-returns-then-turning_at c = rw (sym c.control_at.ensures ∙ c.if-control_at.false, ap (λ (j : ℕ). control_at c.args.s.now j) (sym c.less.ensures) ∙ sym c.control_at-2.ensures ∙ c.if-control_at-2.false, sym c.turning_at.ensures ∙ c.if-turning_at.true)
+returns-then-turning_at c = rw (sym c.control_at.ensures ∙ c.if-control_at.false, ap (λ (j : ℕ). control_at c.args.s.now j) (sym c.saturating_sub.ensures) ∙ sym c.control_at-2.ensures ∙ c.if-control_at-2.false, sym c.turning_at.ensures ∙ c.if-turning_at.true)
 
 pub returns-then-turning_at-2 : goal.returns-then-turning_at-2
 unfolding hidden
-returns-then-turning_at-2 c = rw (sym c.control_at.ensures ∙ c.if-control_at.false, ap (λ (j : ℕ). control_at c.args.s.now j) (sym c.less.ensures) ∙ sym c.control_at-2.ensures ∙ c.if-control_at-2.false, sym c.turning_at.ensures ∙ c.if-turning_at.false, ap (λ (j : ℕ). turning_at c.args.s.now j) (sym c.less-2.ensures) ∙ sym c.turning_at-2.ensures ∙ c.if-turning_at-2.true)
+returns-then-turning_at-2 c = rw (sym c.control_at.ensures ∙ c.if-control_at.false, ap (λ (j : ℕ). control_at c.args.s.now j) (sym c.saturating_sub.ensures) ∙ sym c.control_at-2.ensures ∙ c.if-control_at-2.false, sym c.turning_at.ensures ∙ c.if-turning_at.false, ap (λ (j : ℕ). turning_at c.args.s.now j) (sym c.saturating_sub-2.ensures) ∙ sym c.turning_at-2.ensures ∙ c.if-turning_at-2.true)
 
 pub returns : goal.returns
 unfolding hidden
-returns c = rw (sym c.control_at.ensures ∙ c.if-control_at.false, ap (λ (j : ℕ). control_at c.args.s.now j) (sym c.less.ensures) ∙ sym c.control_at-2.ensures ∙ c.if-control_at-2.false, sym c.turning_at.ensures ∙ c.if-turning_at.false, ap (λ (j : ℕ). turning_at c.args.s.now j) (sym c.less-2.ensures) ∙ sym c.turning_at-2.ensures ∙ c.if-turning_at-2.false) (c.turning_at-3.ensures ∙ ap (λ (j : ℕ). turning_at c.args.s.now j) c.less-3.ensures)
+returns c = rw (sym c.control_at.ensures ∙ c.if-control_at.false, ap (λ (j : ℕ). control_at c.args.s.now j) (sym c.saturating_sub.ensures) ∙ sym c.control_at-2.ensures ∙ c.if-control_at-2.false, sym c.turning_at.ensures ∙ c.if-turning_at.false, ap (λ (j : ℕ). turning_at c.args.s.now j) (sym c.saturating_sub-2.ensures) ∙ sym c.turning_at-2.ensures ∙ c.if-turning_at-2.false) (c.turning_at-3.ensures ∙ ap (λ (j : ℕ). turning_at c.args.s.now j) c.saturating_sub-3.ensures)

@@ -1,17 +1,18 @@
 -- `desk_text::is_seen` is right since its tests are those of the definition. Assumes nothing.
-use mathlib.Core.Path.{sym, ◌∙◌}
+use mathlib.Core.Path.{◌≡◌, refl}
+use mathlib.Core.Bool.{Bool, true, false, not, cond}
 use borrow.Author.Tests.{le-leb, lt-leb}
 use Rattle.desk_text.specs.Text.{seen}
 use Rattle.desk_text.proofs.is_seen.Goals as goal
 
-pub returns-then-s-i-lt128 : goal.returns-then-s-i-lt128
-unfolding seen
-returns-then-s-i-lt128 c = rw (lt-leb _ _ c.if-s-i-lt128.true)
+negated : (b : Bool) → not b ≡ cond b false true
+negated true = refl
+negated false = refl
 
-pub returns-then-is_hidden : goal.returns-then-is_hidden
+pub returns-then-s-i-ge128 : goal.returns-then-s-i-ge128
 unfolding seen
-returns-then-is_hidden c = rw (le-leb _ _ c.if-s-i-lt128.false, sym c.is_hidden.ensures ∙ c.if-is_hidden.true)
+returns-then-s-i-ge128 c = rw (c.is_hidden.ensures, le-leb _ _ c.if-s-i-ge128.true) (negated _)
 
-pub returns : goal.returns
+pub returns-else-s-i-ge128 : goal.returns-else-s-i-ge128
 unfolding seen
-returns c = rw (le-leb _ _ c.if-s-i-lt128.false, sym c.is_hidden.ensures ∙ c.if-is_hidden.false)
+returns-else-s-i-ge128 c = rw (lt-leb _ _ c.if-s-i-ge128.false)

@@ -1,5 +1,6 @@
 -- `desk_text::put_text` is right since each turn shows one byte, and what is left decides. Assumes nothing.
-use Prim.Native.Nat.{◌-◌}
+use mathlib.Core.Path.{◌≡◌}
+use lib.ListN.{length}
 use native.Mathlib.Omega.{arith}
 use Rattle.desk_text.proofs.Laws.{showing_end, turn_full, turn_next, shows_none, shows_past}
 use Rattle.desk_text.proofs.put_text.Goals as goal
@@ -17,4 +18,7 @@ pub loop-i-preserved : goal.loop-i-preserved
 loop-i-preserved c = turn_next c.loop-i.invariant c.loop-i-test.true c.put_piece-n.ensures c.if-n-eq0.false
 
 pub returns : goal.returns
-returns c = record { shows = showing_end c.loop-i.invariant c.loop-i-test.false; within = omega (arith, c.loop-i.invariant.ahead); room = omega (arith, c.loop-i.invariant.within) }
+returns c =
+    let i = c.loop-i.invariant in
+    let e : c.loop-i.i ≡ length c.args.s.now = omega (arith, i.ahead) in
+    record { shows = rw e at (showing_end i (omega arith)); within = omega arith; room = omega (arith, i.within) }

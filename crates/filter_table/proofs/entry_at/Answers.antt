@@ -2,8 +2,8 @@
 use Rattle.filter_table.proofs.Laws.{entry_got, entry_bad}
 use Rattle.filter_table.proofs.entry_at.Goals as goal
 
-pub returns-in-Refused : goal.returns-in-Refused
-returns-in-Refused c = entry_bad _ _ _ (rw (c.in-Refused.is, c.part.ensures.bytes) at c.read_filter.ensures)
+pub returns-in-Err : goal.returns-in-Err
+returns-in-Err c = entry_bad _ _ _ (rw (c.in-Err.is, c.part.ensures.bytes) at c.read_filter.ensures)
 
-pub returns-in-Value : goal.returns-in-Value
-returns-in-Value c = entry_got _ _ _ (rw (c.in-Value.is, c.part.ensures.bytes) at c.read_filter.ensures) c.to_entry-entry.ensures
+pub returns-in-Ok : goal.returns-in-Ok
+returns-in-Ok c = entry_got _ _ _ (rw (c.in-Ok.is, c.part.ensures.bytes) at c.read_filter.ensures) c.to_entry-entry.ensures

@@ -10,17 +10,17 @@ loop-at-init c = seeking_start _ _ _ _ _
 pub returns-then-met-first : goal.returns-then-met-first
 returns-then-met-first c = seeking_twice _ _ _ _ _ c.loop-at.invariant c.loop-at-test.true c.if-met-first.true
 
-pub returns-in-Refused : goal.returns-in-Refused
-returns-in-Refused c = seeking_bad _ _ _ _ _ c.loop-at.invariant c.loop-at-test.true c.if-met-first.false (rw c.in-Refused.is at c.read_property.ensures)
+pub returns-in-Err : goal.returns-in-Err
+returns-in-Err c = seeking_bad _ _ _ _ _ c.loop-at.invariant c.loop-at-test.true c.if-met-first.false (rw c.in-Err.is at c.read_property.ensures)
 
 pub loop-at-smaller : goal.loop-at-smaller
 loop-at-smaller c =
-    let r = rw c.in-Found.is at c.read_property.ensures in
+    let r = rw c.in-Ok.is at c.read_property.ensures in
     omega (arith, c.loop-at-test.true, seeking_ahead _ _ _ _ _ c.loop-at.invariant c.loop-at-test.true c.if-met-first.false r)
 
 pub loop-at-preserved : goal.loop-at-preserved
 loop-at-preserved c =
-    let r = rw c.in-Found.is at c.read_property.ensures in
+    let r = rw c.in-Ok.is at c.read_property.ensures in
     seeking_next _ _ _ _ _ c.loop-at.invariant c.loop-at-test.true c.if-met-first.false r (omega (arith, c.type_inv.s c.loop-at.at)) c.is_single.ensures c.seek_on-seek.ensures
 
 pub returns : goal.returns

@@ -1,12 +1,14 @@
-use native.Mathlib.Omega.{arith}
+-- `journal::find` is right since what is behind the blocks that are left decides. Assumes nothing.
+use mathlib.Core.Path.{◌≡◌}
+use borrow.Author.Rules.{rules}
 use Rattle.journal.proofs.Finding.{walk_none, walk_more, walk_all}
 use Rattle.journal.proofs.find.Goals as goal
 
-pub loop-i-init : goal.loop-i-init
-loop-i-init c = walk_none _ _
+pub loop-b-init : goal.loop-b-init
+loop-b-init c = let e : c.into_iter-b-iterator.result.iter.rest.now ≡ c.args.blocks.now = search rules in walk_none _ e
 
-pub loop-i-preserved : goal.loop-i-preserved
-loop-i-preserved c = walk_more c.loop-i.invariant (omega arith) c.better-best.ensures
+pub loop-b-preserved : goal.loop-b-preserved
+loop-b-preserved c = walk_more _ c.loop-b.invariant c.in-Some.ensures.steps c.better-best.ensures
 
 pub returns : goal.returns
-returns c = walk_all c.loop-i.invariant (omega arith) c.requires
+returns c = walk_all c.loop-b.invariant c.in-None.ensures.steps.0

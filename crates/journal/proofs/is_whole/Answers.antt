@@ -8,6 +8,6 @@ pub returns-then-area-eq0 : goal.returns-then-area-eq0
 unfolding whole
 returns-then-area-eq0 c = rw (eq-eqb (length c.args.area.now % 512) 0 c.if-area-eq0.true)
 
-pub returns : goal.returns
+pub returns-else-area-eq0 : goal.returns-else-area-eq0
 unfolding whole
-returns c = rw (ne_eqb (length c.args.area.now % 512) 0 c.if-area-eq0.false)
+returns-else-area-eq0 c = rw (ne_eqb (length c.args.area.now % 512) 0 c.if-area-eq0.false)

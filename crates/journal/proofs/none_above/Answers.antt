@@ -1,5 +1,4 @@
 use mathlib.Core.Path.{sym, ◌∙◌}
-use Prim.Native.Nat.{◌-◌}
 use native.Mathlib.Omega.{arith}
 use Rattle.journal.proofs.Turns.{above_more, above_not, above_all}
 use Rattle.journal.proofs.none_above.Goals as goal

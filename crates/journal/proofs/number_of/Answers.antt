@@ -1,6 +1,7 @@
-use Rattle.journal.specs.Block.{number_of}
+-- `journal::number_of` is right since the library reads a number as the definition does. Assumes nothing.
+use mathlib.Core.Path.{◌∙◌}
+use Rattle.journal.proofs.Turns.{number_read}
 use Rattle.journal.proofs.number_of.Goals as goal
 
 pub returns : goal.returns
-unfolding number_of
-returns c = c.big_endian.ensures
+returns c = c.from_be_bytes.ensures ∙ number_read _ c.told-b

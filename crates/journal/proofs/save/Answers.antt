@@ -1,29 +1,30 @@
-use mathlib.Core.Path.{sym, ◌∙◌}
+-- `journal::save` is right since the block goes where the definition puts it. Assumes nothing.
+use mathlib.Core.Path.{ap, ◌∙◌}
 use native.Mathlib.Omega.{arith}
-use Rattle.journal.proofs.Finding.{save_bad, save_ended, whole_count, block_fits, save_put}
+use Rattle.journal.specs.Area.{left}
+use Rattle.journal.proofs.Finding.{save_bad, save_ended, whole_count, block_fits, save_put, latest_number, length_of_blocks, bad_save}
 use Rattle.journal.proofs.save.Goals as goal
 
-pub returns-then-not-is_whole : goal.returns-then-not-is_whole
-returns-then-not-is_whole c = save_bad _ _ (sym c.is_whole.ensures ∙ c.if-not-is_whole.true)
-
-pub find-best-requires : goal.find-best-requires
-find-best-requires c = (whole_count c.args.area.now (sym c.is_whole.ensures ∙ c.if-not-is_whole.false)).0
+pub returns-in_err-blocks : goal.returns-in_err-blocks
+returns-in_err-blocks c = ap (left c.args.area.now) (bad_save _ c.from_residual.ensures.1) ∙ save_bad _ _ c.in_err-blocks.ensures
 
 pub returns-then-last : goal.returns-then-last
-returns-then-last c = save_ended _ _ _ (sym c.is_whole.ensures ∙ c.if-not-is_whole.false) c.find-best.ensures.high c.if-last.true
+returns-then-last c =
+    save_ended _ _ _ c.in_ok-blocks.ensures.0 (latest_number _ c.in_ok-blocks.ensures.1 c.find.ensures c.highest-last.ensures) c.if-last.true
 
-pub nonzero_rem-i : goal.nonzero_rem-i
-nonzero_rem-i c = omega (arith, (whole_count c.args.area.now (sym c.is_whole.ensures ∙ c.if-not-is_whole.false)).1)
+pub nonzero_rem-at : goal.nonzero_rem-at
+nonzero_rem-at c = omega (arith, (whole_count c.args.area.now c.in_ok-blocks.ensures.0).1, length_of_blocks c.args.area.now c.in_ok-blocks.ensures.1)
 
-pub slice_bounds-put_block-end : goal.slice_bounds-put_block-end
-slice_bounds-put_block-end c = block_fits c.args.area.now c.find-best.result.number (sym c.is_whole.ensures ∙ c.if-not-is_whole.false)
+pub overflow_mul-from : goal.overflow_mul-from
+overflow_mul-from c = omega (arith, block_fits c.args.area.now c.highest-last.result c.in_ok-blocks.ensures.0 (length_of_blocks c.args.area.now c.in_ok-blocks.ensures.1))
+
+pub overflow_add-end : goal.overflow_add-end
+overflow_add-end c = omega (arith, block_fits c.args.area.now c.highest-last.result c.in_ok-blocks.ensures.0 (length_of_blocks c.args.area.now c.in_ok-blocks.ensures.1))
+
+pub slice_bounds-copy_from_slice-end : goal.slice_bounds-copy_from_slice-end
+slice_bounds-copy_from_slice-end c = block_fits c.args.area.now c.highest-last.result c.in_ok-blocks.ensures.0 (length_of_blocks c.args.area.now c.in_ok-blocks.ensures.1)
 
 pub returns : goal.returns
 returns c =
-    save_put c.args.area.now _ c.find-best.result.number (sym c.is_whole.ensures ∙ c.if-not-is_whole.false) c.find-best.ensures.high c.if-last.false c.put_block.ensures
-
-pub overflow_mul-from : goal.overflow_mul-from
-overflow_mul-from c = omega (arith, block_fits c.args.area.now c.find-best.result.number (sym c.is_whole.ensures ∙ c.if-not-is_whole.false))
-
-pub overflow_add-end : goal.overflow_add-end
-overflow_add-end c = omega (arith, block_fits c.args.area.now c.find-best.result.number (sym c.is_whole.ensures ∙ c.if-not-is_whole.false))
+    save_put c.args.area.now _ c.highest-last.result c.in_ok-blocks.ensures.0 (length_of_blocks c.args.area.now c.in_ok-blocks.ensures.1)
+    (latest_number c.args.area.now c.in_ok-blocks.ensures.1 c.find.ensures c.highest-last.ensures) c.if-last.false c.copy_from_slice.ensures.after c.block_of.ensures

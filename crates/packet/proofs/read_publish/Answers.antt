@@ -1,14 +1,12 @@
--- `packet::read_publish` is right since record and refusal tell the same, the frame is taken, and the block ends where what follows it begins. Assumes nothing.
+-- `packet::read_publish` is right since record and refusal tell the same, and the block ends where what follows it begins. Assumes nothing.
 use mathlib.Core.Path.{ap}
 use Rattle.reading.specs.Reader.{got}
-use Rattle.reading.specs.Read.{body_answer}
-use Rattle.packet.proofs.Laws.{refusing}
+use Rattle.records.proofs.Laws.{err_is}
+use Rattle.packet.proofs.Laws.{refusing_body}
 use Rattle.packet.proofs.read_publish.Goals as goal
 
-pub returns-in-Value : goal.returns-in-Value
-unfolding body_answer
-returns-in-Value c = record { answer = ap (body_answer _) (rw c.in-Value.is at c.read.ensures); bounded = ap got c.publish_bounds-place.ensures }
+pub returns-in_err-m : goal.returns-in_err-m
+returns-in_err-m c = rw (err_is _ _ c.from_residual.ensures.1) (refusing_body c.in_err-m.ensures)
 
-pub returns-in-Refused : goal.returns-in-Refused
-unfolding body_answer
-returns-in-Refused c = refusing (ap (body_answer _) (rw c.in-Refused.is at c.read.ensures))
+pub returns : goal.returns
+returns c = record { answer = c.in_ok-m.ensures; bounded = ap got c.publish_bounds-place.ensures }

@@ -1,14 +1,12 @@
--- `packet::read_reply` is right since record and refusal tell the same, the frame is taken, and the block ends where what follows it begins. Assumes nothing.
+-- `packet::read_reply` is right since record and refusal tell the same, and the block ends where what follows it begins. Assumes nothing.
 use mathlib.Core.Path.{ap}
 use Rattle.reading.specs.Reader.{got}
-use Rattle.reading.specs.Read.{body_answer}
-use Rattle.packet.proofs.Laws.{refusing}
+use Rattle.records.proofs.Laws.{err_is}
+use Rattle.packet.proofs.Laws.{refusing_body}
 use Rattle.packet.proofs.read_reply.Goals as goal
 
-pub returns-in-Value : goal.returns-in-Value
-unfolding body_answer
-returns-in-Value c = λ x h. record { answer = ap (body_answer _) (rw c.in-Value.is at c.read.ensures x h); bounded = ap got c.bounds-place.ensures }
+pub returns-in_err-m : goal.returns-in_err-m
+returns-in_err-m c = λ x h. rw (err_is _ _ c.from_residual.ensures.1) (refusing_body (c.in_err-m.ensures x h))
 
-pub returns-in-Refused : goal.returns-in-Refused
-unfolding body_answer
-returns-in-Refused c = λ x h. refusing (ap (body_answer _) (rw c.in-Refused.is at c.read.ensures x h))
+pub returns : goal.returns
+returns c = λ x h. record { answer = c.in_ok-m.ensures x h; bounded = ap got c.bounds-place.ensures }

@@ -9,7 +9,7 @@ pub returns-else-most-f : goal.returns-else-most-f
 unfolding within
 returns-else-most-f c =
     let a = c.args in
-    under (limit_of a.limit) a.f (rw (c.in-AtMost.is, le-leb _ _ c.if-most-f.false))
+    under (limit_of a.limit) a.f (rw (c.in-Some.is, le-leb _ _ c.if-most-f.false))
 
 pub returns-in_default : goal.returns-in_default
 unfolding within

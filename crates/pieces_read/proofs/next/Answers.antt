@@ -6,8 +6,8 @@ use Rattle.pieces_rules.proofs.Calls.{found_read}
 use Rattle.pieces.specs.PieceAnswer.{told_state}
 use Rattle.pieces_read.proofs.next.Goals as goal
 
-pub returns : goal.returns
-returns c =
+pub returns-clause-answer : goal.returns-clause-answer
+returns-clause-answer c =
     let a = c.args in
     let l = limit_of a.limit in
-    record { answer = rw c.answer_in-answer.ensures.answer (ap (read_step l a.piece.now) c.next_frame-step.ensures ∙ found_read l a.piece.now (told_state a.state) a.buffer.now); carries = c.answer_in-answer.ensures.carries }
+    rw c.answer_in.ensures.answer (ap (read_step l a.piece.now) c.next_frame-step.ensures ∙ found_read l a.piece.now (told_state a.state) a.buffer.now)

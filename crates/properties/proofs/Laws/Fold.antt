@@ -1,4 +1,5 @@
 -- A loop over the properties of a block, one law over the row: how it goes on, and what it comes to. Assumes nothing.
+use Rattle.std.specs.Prelude.{Result, Ok, Err}
 use mathlib.Core.Path.{◌≡◌, refl, sym, ap, ◌∙◌}
 use mathlib.Core.Bool.{Bool, true, false, ◌||◌, cond}
 use mathlib.Core.Logic.{◌⊎◌, inl, inr}
@@ -34,8 +35,6 @@ use Rattle.tables.specs.declared.property.PropertyRow.TheVariants.{Publish, Subs
 use Rattle.property_value.specs.OneProperty.{told_value, form_of, publish_lists, PropertyRead, PropertyPassed}
 use Rattle.property_value.proofs.Laws.{value_tag, property_left, property_ahead}
 use Rattle.property_value.specs.declared.Value.{Value}
-use Rattle.property_value.specs.declared.GotProperty.{GotProperty}
-use Rattle.property_value.specs.declared.GotProperty.TheVariants.{Found, Refused}
 use Rattle.properties.specs.Block.{or_false, said_of, publish_said, props_said, RowRecord, publish_record, props_row, applied, loop_from, filled_at}
 
 -- 01, table of properties: the identifiers of each form
@@ -289,7 +288,7 @@ module _ {w : RowRecord} {s : List ℕ} {whole : Fit w.Props} {o : w.Props} {at 
 
   -- it is not
   module _ (n : w.has o (get_or s at 0) ≡ false) where
-    pub filling_next : Lawful w → {k m : ℕ} {v : Value} {r : GotProperty} {o' : w.Props} → PropertyRead w.row s at r → r ≡ Found k v m → o' ≡ applied w o (k, told_value v) → Filling w s whole o' m
+    pub filling_next : Lawful w → {k m : ℕ} {v : Value} {r : Result (ℕ × Value × ℕ) Error} {o' : w.Props} → PropertyRead w.row s at r → r ≡ Ok (k, v, m) → o' ≡ applied w o (k, told_value v) → Filling w s whole o' m
     filling_next W {k = k} {m = m} {v = v} {o' = o'} P e i = record {
       σ = met w.row f.σ (k, told_value v);
       there = λ j. now j (is_list w.row k) ∙ sym (lookup_each (Seen w) W.seen k (form_of v) (rw e at P.typed) o (told_value v) j) ∙ ap (λ (u : w.Props). w.has u j) (sym i);
@@ -307,7 +306,7 @@ filling_end : {w : RowRecord} {s : List ℕ} {whole : Fit w.Props} {o : w.Props}
 filling_end {w = w} {s = s} {o = o} {at = at} f h = f.rest ∙ loop_end w o f.σ s at h
 
 -- a property takes a byte at least
-pub read_ahead : {row : Row} {s : List ℕ} {at k n : ℕ} {v : Value} {r : GotProperty} → PropertyRead row s at r → r ≡ Found k v n → at < n
+pub read_ahead : {row : Row} {s : List ℕ} {at k n : ℕ} {v : Value} {r : Result (ℕ × Value × ℕ) Error} → PropertyRead row s at r → r ≡ Ok (k, v, n) → at < n
 read_ahead {row = row} {s = s} {at = at} {k = k} {n = n} {v = v} P e = property_ahead row s at (k, told_value v) n (rw e at P.says)
 
 -- a property of a list is passed over
@@ -337,7 +336,7 @@ module _ {w : RowRecord} {s : List ℕ} {o₀ o : w.Props} {at : ℕ} (p : Span)
   unfolding filled_at
   filled_twice h n = rw (sym i, filling_twice f h n)
 
-  pub filled_bad : at < length s → w.has o (get_or s at 0) ≡ false → {e : Error} {r : GotProperty} → PropertyRead w.row s at r → r ≡ Refused e → bad (told_error e) ≡ filled_at w s p
+  pub filled_bad : at < length s → w.has o (get_or s at 0) ≡ false → {e : Error} {r : Result (ℕ × Value × ℕ) Error} → PropertyRead w.row s at r → r ≡ Err e → bad (told_error e) ≡ filled_at w s p
   unfolding filled_at
   filled_bad h n {e = e} P j = rw (sym i, filling_bad f h n (told_error e) (rw j at P.says))
 

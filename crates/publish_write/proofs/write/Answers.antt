@@ -1,9 +1,8 @@
 -- `publish_write::write` is right since the order is settled from what is found, and only then is the frame laid, which fits. Assumes nothing.
-use mathlib.Core.Path.{sym, ap, ◌∙◌}
+use mathlib.Core.Path.{◌∙◌}
 use Rattle.writing.specs.Handed.{publish}
 use Rattle.records.specs.AsNumbers.{limit_of}
-use Rattle.records.specs.Answered.{told_written}
-use Rattle.write_order.proofs.Laws.{settled_found, none_written, all_written}
+use Rattle.write_order.proofs.Laws.{settled_found, none_handed_on, all_written}
 use Rattle.publish_plan.specs.Handed.{handed}
 use Rattle.publish_write.proofs.Laws.{put_frame, frame_fits}
 use Rattle.publish_write.proofs.Parts.{props_rows}
@@ -24,10 +23,10 @@ lay_frame-requires c =
     let g = props_rows a.head a.topic.now a.response_topic.now a.correlation_data.now a.user.now a.user_lengths.now a.subscription_identifiers.now
     a.content_type.now a.payload.now in
     let s = c.sizes-sizes.ensures in
-    frame_fits h s.0 s.1 g (limit_of a.limit) a.out.now _ (sym (ap told_written c.in-Size.is) ∙ c.settle.ensures ∙ f)
+    frame_fits h s.0 s.1 g (limit_of a.limit) a.out.now _ (c.in_ok-n.ensures ∙ f)
 
-pub returns-in-Refused : goal.returns-in-Refused
-returns-in-Refused c =
+pub returns-in_err-n : goal.returns-in_err-n
+returns-in_err-n c =
     let a = c.args in
     let h =
     handed a.head a.topic.now a.response_topic.now a.correlation_data.now a.user.now a.user_lengths.now a.subscription_identifiers.now
@@ -38,10 +37,10 @@ returns-in-Refused c =
       late = c.after_limit-end.ensures a.topic.now a.response_topic.now a.correlation_data.now a.user.now a.user_lengths.now
           a.content_type.now a.payload.now;
     }) in
-    none_written (limit_of a.limit) (publish h) a.out.now _ (sym (ap told_written c.in-Refused.is) ∙ c.settle.ensures ∙ f)
+    none_handed_on (limit_of a.limit) (publish h) a.out.now _ _ c.from_residual.ensures.1 (c.in_err-n.ensures ∙ f)
 
-pub returns-in-Size : goal.returns-in-Size
-returns-in-Size c =
+pub returns : goal.returns
+returns c =
     let a = c.args in
     let h =
     handed a.head a.topic.now a.response_topic.now a.correlation_data.now a.user.now a.user_lengths.now a.subscription_identifiers.now
@@ -56,5 +55,5 @@ returns-in-Size c =
     a.content_type.now a.payload.now in
     let s = c.sizes-sizes.ensures in
     all_written (limit_of a.limit) (publish h) a.out.now _
-    (sym (ap told_written c.in-Size.is) ∙ c.settle.ensures ∙ f) _
+    (c.in_ok-n.ensures ∙ f) _
     (put_frame h s.0 s.1 g a.out.now c.lay_frame.ensures)

@@ -1,28 +1,20 @@
 -- `reply::read` is right since a reply is an identifier, a block, and reasons to the end, each read where the last ends. Assumes nothing.
 use mathlib.Core.Path.{◌∙◌}
+use Rattle.records.proofs.Laws.{err_is}
 use Rattle.positions.proofs.Listed.{listed_ident, listed_block, listed_entries, listed_fine}
 use Rattle.reply.proofs.Laws.{as_listed}
 use Rattle.reply.proofs.read.Goals as goal
 
-pub returns-in-Refused : goal.returns-in-Refused
-returns-in-Refused c =
-    let a = c.args in
-    λ x h. listed_ident _ _ _ a.s.now a.at (rw c.in-Refused.is at c.read_u16.ensures) ∙ as_listed _ _ a.s.now a.at x h
+pub returns-in_err-pkid : goal.returns-in_err-pkid
+returns-in_err-pkid c = λ x h. rw (err_is _ _ c.from_residual.ensures.1) (listed_ident _ _ _ _ _ c.in_err-pkid.ensures ∙ as_listed _ _ _ _ x h)
 
-pub returns-in-Refused-read_block : goal.returns-in-Refused-read_block
-returns-in-Refused-read_block c =
-    let a = c.args in
-    λ x h. listed_block _ _ _ a.s.now a.at (rw c.in-Value.is at c.read_u16.ensures)
-    (rw c.in-Refused-read_block.is at c.read_block.ensures) ∙ as_listed _ _ a.s.now a.at x h
+pub returns-in_err-properties : goal.returns-in_err-properties
+returns-in_err-properties c = λ x h. rw (err_is _ _ c.from_residual-in_err-properties.ensures.1) (listed_block _ _ _ _ _ c.in_ok-pkid.ensures c.in_err-properties.ensures ∙ as_listed _ _ _ _ x h)
 
-pub returns-in-Refused-read_reasons : goal.returns-in-Refused-read_reasons
-returns-in-Refused-read_reasons c =
-    let a = c.args in
-    λ x h. listed_entries _ _ _ a.s.now a.at (rw c.in-Value.is at c.read_u16.ensures) (rw c.in-Value-read_block.is at c.read_block.ensures)
-    (rw c.in-Refused-read_reasons.is at c.read_reasons.ensures) ∙ as_listed _ _ a.s.now a.at x h
+pub returns-in_err-reasons : goal.returns-in_err-reasons
+returns-in_err-reasons c =
+    λ x h. rw (err_is _ _ c.from_residual-in_err-reasons.ensures.1)
+    (listed_entries _ _ _ _ _ c.in_ok-pkid.ensures c.in_ok-properties.ensures c.in_err-reasons.ensures ∙ as_listed _ _ _ _ x h)
 
-pub returns-in-Place : goal.returns-in-Place
-returns-in-Place c =
-    let a = c.args in
-    λ x h. listed_fine _ _ _ a.s.now a.at (rw c.in-Value.is at c.read_u16.ensures) (rw c.in-Value-read_block.is at c.read_block.ensures)
-    (rw c.in-Place.is at c.read_reasons.ensures) ∙ as_listed _ _ a.s.now a.at x h
+pub returns : goal.returns
+returns c = λ x h. listed_fine _ _ _ _ _ c.in_ok-pkid.ensures c.in_ok-properties.ensures c.in_ok-reasons.ensures ∙ as_listed _ _ _ _ x h

@@ -17,13 +17,13 @@ pub loop-i-preserved : goal.loop-i-preserved
 loop-i-preserved c =
     let a = c.args in
     let rs = reasons_of (told_reply_kind a.kind) in
-    going_next _ (reason_less rs _) c.loop-i.invariant (trails_reason rs) c.loop-i-test.true (reason_here rs a.s.now c.loop-i.i c.loop-i-test.true (sym c.is_reply_reason.ensures ∙ c.if-is_reply_reason.true))
+    going_next _ (reason_less rs _) c.loop-i.invariant (trails_reason rs) c.loop-i-test.true (reason_here rs a.s.now c.loop-i.i c.loop-i-test.true (sym c.is_reply_reason.ensures ∙ c.if-not-is_reply_reason.false))
 
-pub returns-else-is_reply_reason : goal.returns-else-is_reply_reason
-returns-else-is_reply_reason c =
+pub returns-then-not-is_reply_reason : goal.returns-then-not-is_reply_reason
+returns-then-not-is_reply_reason c =
     let a = c.args in
     let rs = reasons_of (told_reply_kind a.kind) in
-    going_bad _ (reason_less rs _) c.loop-i.invariant c.loop-i-test.true (reason_not rs a.s.now c.loop-i.i c.loop-i-test.true (sym c.is_reply_reason.ensures ∙ c.if-is_reply_reason.false))
+    going_bad _ (reason_less rs _) c.loop-i.invariant c.loop-i-test.true (reason_not rs a.s.now c.loop-i.i c.loop-i-test.true (sym c.is_reply_reason.ensures ∙ c.if-not-is_reply_reason.true))
 
 pub returns : goal.returns
 returns c = going_end _ (reason_less (reasons_of (told_reply_kind c.args.kind)) _) c.loop-i.invariant (omega arith) (omega arith)

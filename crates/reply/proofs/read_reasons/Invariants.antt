@@ -1,5 +1,3 @@
-use Prim.Native.Nat.{◌-◌}
-use lib.ListN.{length}
 use Rattle.grammar.specs.Tables.{reasons_of}
 use Rattle.reading.specs.Read.{reason_of}
 use Rattle.positions.proofs.Runs.{Going}
@@ -8,6 +6,3 @@ use Rattle.reply.proofs.read_reasons.Given as goal
 
 abbrev pub invariant-loop-i : goal.invariant-loop-i
 invariant-loop-i l = Going (reason_of (reasons_of (told_reply_kind l.kind))) l.s l.at l.i
-
-abbrev pub decreases-loop-i : goal.decreases-loop-i
-decreases-loop-i l = length l.s - l.i

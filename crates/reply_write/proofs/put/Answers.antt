@@ -10,6 +10,6 @@ returns c =
     let a = c.args in
     put_frame (told_reply_kind a.m.kind) (handed a.m a.reason_string.now a.user.now a.user_lengths.now a.reasons.now) a.out.now _ _ _ _ _ _ _ _ _ _ c.first_byte-byte1.ensures c.rest-len.ensures
     c.put_header-n.ensures c.after-first.ensures
-    c.put_u16.ensures c.after-second.ensures
+    c.put.ensures.stores c.after-second.ensures
     (rows_small _ _ c.put_rows-third.ensures)
     c.put_bytes.ensures

@@ -11,19 +11,19 @@ loop-at-smaller c =
     omega (
       arith,
       ahead c.loop-at.invariant c.loop-at-test.true _ _
-          (sym (rw c.in-Value.is at c.read_length.ensures)),
+          (sym (rw c.in-Ok.is at c.read_length.ensures)),
     )
 
 pub loop-at-preserved : goal.loop-at-preserved
 loop-at-preserved c =
     rw c.wrapping_add_u64-sum.ensures.value
     (one_summed c.loop-at.invariant c.loop-at-test.true _ _
-    (sym (rw c.in-Value.is at c.read_length.ensures)))
+    (sym (rw c.in-Ok.is at c.read_length.ensures)))
 
-pub returns-in-Refused : goal.returns-in-Refused
-returns-in-Refused c =
+pub returns-in-Err : goal.returns-in-Err
+returns-in-Err c =
     not_summed c.loop-at.invariant c.loop-at-test.true _
-    (sym (rw c.in-Refused.is at c.read_length.ensures))
+    (sym (rw c.in-Err.is at c.read_length.ensures))
 
 pub returns : goal.returns
 returns c = all_summed c.loop-at.invariant c.loop-at-test.false

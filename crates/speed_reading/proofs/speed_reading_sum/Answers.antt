@@ -8,15 +8,15 @@ pub loop-at-init : goal.loop-at-init
 loop-at-init c = none_summed _
 
 pub loop-at-smaller : goal.loop-at-smaller
-loop-at-smaller c = omega (arith, ahead c.loop-at.invariant c.loop-at-test.true _ _ (rw c.in-Packet.is at c.read.ensures.answer.answer))
+loop-at-smaller c = omega (arith, ahead c.loop-at.invariant c.loop-at-test.true _ _ (rw c.in-Ok.is at c.read.ensures.answer.answer))
 
 pub loop-at-preserved : goal.loop-at-preserved
 loop-at-preserved c =
-    rw (c.wrapping_add_u64-sum-in-Packet.ensures.value, c.wrapping_add_u64-sum.ensures.value, c.weight.ensures)
-    (one_summed c.loop-at.invariant c.loop-at-test.true _ _ (rw c.in-Packet.is at c.read.ensures.answer.answer))
+    rw (c.wrapping_add_u64-sum-in-Ok.ensures.value, c.wrapping_add_u64-sum.ensures.value, c.weight.ensures)
+    (one_summed c.loop-at.invariant c.loop-at-test.true _ _ (rw c.in-Ok.is at c.read.ensures.answer.answer))
 
-pub returns-in-Refused : goal.returns-in-Refused
-returns-in-Refused c = last_summed c.loop-at.invariant (told_error c.in-Refused.field-0) c.in-Refused.field-1 (rw c.in-Refused.is at c.read.ensures.answer.answer)
+pub returns-in-Err : goal.returns-in-Err
+returns-in-Err c = last_summed c.loop-at.invariant (told_error c.in-Err.field-0-0) c.in-Err.field-0-1 (rw c.in-Err.is at c.read.ensures.answer.answer)
 
 pub returns : goal.returns
 returns c = all_summed c.loop-at.invariant c.loop-at-test.false

@@ -1,5 +1,5 @@
 -- `text_chars::by_chars` is right since the text goes on at `i`, the loop's invariant, and nothing is left at the end. Assumes nothing.
-use Rattle.std.proofs.Common.{◌-◌, get_or, sym, ◌∙◌, arith}
+use Rattle.std.proofs.Common.{get_or, sym, ◌∙◌, arith}
 use Rattle.text_chars.proofs.Rows.{plain_so}
 use Rattle.text_chars.proofs.Laws.{plain_at, text_over}
 use Rattle.text_chars.proofs.by_chars.Goals as goal

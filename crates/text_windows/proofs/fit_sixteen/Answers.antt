@@ -7,4 +7,4 @@ pub returns-then-is_ascii : goal.returns-then-is_ascii
 returns-then-is_ascii c =
     let a = c.args in
     let e : a.at + (a.at + 16 - a.at) ≡ a.at + 16 = omega arith in
-    rw e at (ascii_fitted a.s.now a.at (a.at + 16 - a.at) (omega arith) (sym c.is_ascii.ensures.1 ∙ c.if-is_ascii.true) c.is_whole.result (omega arith) c.is_whole.ensures)
+    rw e at (ascii_fitted a.s.now a.at (a.at + 16 - a.at) (omega arith) (sym c.is_ascii.ensures ∙ c.if-is_ascii.true) c.is_whole.result (omega arith) c.is_whole.ensures)

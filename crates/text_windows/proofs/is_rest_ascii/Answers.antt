@@ -7,4 +7,4 @@ pub returns : goal.returns
 returns c =
     let a = c.args in
     let s = a.s.now in
-    λ e. ascii_rest c.requires (length s - 128) (length s - (length s - 128)) (omega arith) (omega arith) (sym c.is_ascii.ensures.1 ∙ e)
+    λ e. ascii_rest c.requires (length s - 128) (length s - (length s - 128)) (omega arith) (omega arith) (sym c.is_ascii.ensures ∙ e)

@@ -4,7 +4,8 @@ use Rattle.text_windows.proofs.Runs.{ascii_more}
 use Rattle.text_windows.proofs.pass_ascii.Goals as goal
 
 pub loop-i-preserved : goal.loop-i-preserved
-loop-i-preserved c =
-    let l = c.loop-i in
-    let e : l.i + (l.i + 128 - l.i) ≡ l.i + 128 = omega arith in
-    rw e at (ascii_more l.invariant (l.i + 128 - l.i) (omega arith) (sym c.is_ascii.ensures.1 ∙ c.if-not-is_ascii.false))
+loop-i-preserved g c =
+    let i = c.loop-i.i in
+    let n = g.row.N in
+    let e : i + n - i ≡ n = omega arith in
+    ascii_more c.loop-i.invariant n (omega arith) (rw e at (sym c.is_ascii.ensures ∙ c.if-not-is_ascii.false))

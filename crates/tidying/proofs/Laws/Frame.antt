@@ -9,6 +9,7 @@ use lib.Dec.{leb}
 use lib.ListN.{length, take, drop, get_or}
 use lib.Seq.{take_at}
 use borrow.Author.Tests.{leb-true, leb-false}
+use Rattle.std.specs.Prelude.{Err}
 use Rattle.grammar.specs.Choice.{lookup}
 use Rattle.grammar.specs.Octets.{Octets}
 use Rattle.grammar.specs.Tables.{Row, publish_row, subscribe_row, ack_row, unsubscribe_row, Layout, a_publish, an_ack, a_subscribe, a_reply, an_unsubscribe, a_ping, kinds, first_of}
@@ -34,10 +35,9 @@ use Rattle.tidy_form.specs.Order.{AsIs, Masked, FrameLaid, short_ack}
 use Rattle.tidy_form.proofs.Tidy.{tidy_refused}
 use Rattle.tidy_form.proofs.Form.{never}
 use Rattle.tidy_form.proofs.Layouts.{bounds_alone, publish_frame, reply_frame, unsubscribe_frame, subscribe_frame, ping_frame, ack_frame, ack_short}
-use Rattle.tidying.specs.Tidied.{room_for, tidied_of, size_in, stands_in, Tidies}
+use Rattle.tidying.specs.Tidied.{Tidied, room_for, tidied_of, size_in, stands_in, Tidies}
 use Rattle.tidying.specs.Copied.{Gives, LaidGiven, Accepted, FrameTidied}
 use Rattle.tidying.specs.Way.{ack_way, way_of}
-use Rattle.tidying.specs.declared.Tidied.{Tidied}
 use Rattle.tidying.specs.declared.Way.{Way}
 use Rattle.tidying.proofs.Laws.Put.{frame_tidied, carried_kind}
 
@@ -202,7 +202,7 @@ module _ (s before : List ℕ) where
   size_refused (nr k vs) n m e = rw e (refl, refl)
 
   -- the reader's refusal, and what it takes
-  pub tidies_refused : (e : Error) (n : ℕ) → refused_as (told_error e) n ≡ read_placed_of none s → Tidies s before before (Tidied.Refused e n)
+  pub tidies_refused : (e : Error) (n : ℕ) → refused_as (told_error e) n ≡ read_placed_of none s → Tidies s before before (Err (e, n))
   tidies_refused e n i =
       let (p, q) = size_refused (told_error e) n (tidied_of s (length before)) (refused_as_lem (told_error e) n i (length before)) in
       record { answer = p; output = q }

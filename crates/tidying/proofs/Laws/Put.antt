@@ -9,6 +9,7 @@ use lib.Dec.{eqb, leb}
 use lib.ListN.{length, take, drop, get_or, length-append, length-drop}
 use lib.Seq.{sets, sets-eq, length-sets, take_all, take_at, drop_at, length-take-le}
 use borrow.Author.Tests.{le-leb, lt-leb, leb-false}
+use Rattle.std.specs.Prelude.{Ok, Err}
 use Rattle.grammar.specs.Choice.{lookup}
 use Rattle.grammar.specs.Gram.{Many}
 use Rattle.grammar.specs.Octets.{nil, ◌&◌, Octets}
@@ -29,8 +30,8 @@ use Rattle.tidy_form.specs.Tidy.{handed_of}
 use Rattle.tidy_form.specs.Order.{ordered_bytes, Exact, ExactFilter, AsIs, Masked, FrameLaid, success_in, short_ack}
 use Rattle.tidy_form.proofs.Tidy.{tidy_is}
 use Rattle.tidy_form.proofs.Layouts.{opened}
+use Rattle.tidying.specs.Tidied.{Tidied}
 use Rattle.tidying.specs.Copied.{Stands, RowPut, FiltersStand, FilterBetween, FilterPassed, FiltersPut, FrontAt, FrontPut, Gives, LaidGiven, Accepted, FrameTidied}
-use Rattle.tidying.specs.declared.Tidied.{Tidied}
 use Rattle.tidying.proofs.Laws.Pass.{many_more, many_none}
 
 -- ---- what is put if a test holds
@@ -102,12 +103,12 @@ module _ (s : List ℕ) (at : ℕ) (before : List ℕ) where
 
 -- ---- what is told
 
-pub gives_none : (b : List ℕ) (n : ℕ) (before : List ℕ) (k : ℕ) → k ≡ length b → length before < k → Gives b n before before (Tidied.Refused (Error.NoRoom k) 0)
+pub gives_none : (b : List ℕ) (n : ℕ) (before : List ℕ) (k : ℕ) → k ≡ length b → length before < k → Gives b n before before (Err ((Error.NoRoom k), 0))
 gives_none b n before k e h =
     let t : leb (length b) (length before) ≡ false = lt-leb (length b) (length before) (omega (arith, e, h)) in
     record { answer = rw (t, e); output = rw t }
 
-pub gives_put : (b : List ℕ) (n : ℕ) (before after : List ℕ) (k : ℕ) → k ≡ length b → k ≤ length before → after ≡ sets before 0 b → Gives b n before after (Tidied.Put k n)
+pub gives_put : (b : List ℕ) (n : ℕ) (before after : List ℕ) (k : ℕ) → k ≡ length b → k ≤ length before → after ≡ sets before 0 b → Gives b n before after (Ok (k, n))
 gives_put b n before after k e h j =
     let t : leb (length b) (length before) ≡ true = le-leb (length b) (length before) (omega (arith, e, h)) in
     let z : 0 + length b ≡ length b = omega arith in
@@ -171,17 +172,17 @@ module _ (row : Row) (first : ℕ) (s : List ℕ) (start end : ℕ) (before : Li
 
   -- 02, P14: the rest as it stands
   pub laid_put : {o after l : List ℕ} → FrontPut row first s start end before o → l ≡ take (length s) (drop end s) → after ≡ sets o end l → length s ≤ length before
-      → LaidGiven row AsIs first s start end before after (Tidied.Put (length s) (length s))
+      → LaidGiven row AsIs first s start end before after (Ok ((length s), (length s)))
   laid_put {o} {after} {l} F i e r h w =
       let k : l ≡ w.other = i ∙ take_all (length s) (drop end s) (omega (arith, length-drop end s)) ∙ tail_at w ∙ sym w.kept in
       gives_put (frame_bytes h) (length s) before after (length s) (laid_length w) r (all_put w F (e ∙ ap (sets o end) k))
 
-  pub laid_none : {T : List ℕ → List ℕ → Type 0} → length before < length s → LaidGiven row T first s start end before before (Tidied.Refused (Error.NoRoom (length s)) 0)
+  pub laid_none : {T : List ℕ → List ℕ → Type 0} → length before < length s → LaidGiven row T first s start end before before (Err ((Error.NoRoom (length s)), 0))
   laid_none r h w = gives_none (frame_bytes h) (length s) before (length s) (laid_length w) r
 
 -- its filters with their options bytes
 pub masked_put : (first : ℕ) (s : List ℕ) (start end : ℕ) (before : List ℕ) {o after : List ℕ} → FrontPut subscribe_row first s start end before o → FiltersPut s end o after → length s ≤ length before
-    → LaidGiven subscribe_row Masked first s start end before after (Tidied.Put (length s) (length s))
+    → LaidGiven subscribe_row Masked first s start end before after (Ok ((length s), (length s)))
 masked_put first s start end before {o} {after} F P r h w =
     let v : FiltersStand s end w.kept.list = subst (λ (b : List ℕ). Many ExactFilter w.kept.list b) (sym (tail_at subscribe_row first s start end before w)) w.kept.exact in
     gives_put (frame_bytes h) (length s) before after (length s) (laid_length subscribe_row first s start end before w) r

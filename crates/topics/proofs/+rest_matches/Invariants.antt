@@ -1,4 +1,4 @@
--- `rest_matches`: the measure is the length of the filter that is left.
+-- `rest_matches` is right since the first levels decide, or what is left behind them, which is shorter: the measure. Assumes nothing.
 use Rattle.std.proofs.Common.{length}
 use Rattle.topics.proofs.+rest_matches.Given as goal
 

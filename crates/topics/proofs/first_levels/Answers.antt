@@ -1,6 +1,6 @@
 -- `topics::first_levels` is right since a level `#` decides, `+` has its own case, and any other level has to be the first of the topic. Assumes nothing.
 use mathlib.Core.Path.{sym, ◌∙◌}
-use Rattle.topics.proofs.Laws.{level_clear, decides_hash, level_met, level_missed}
+use Rattle.topics.proofs.Laws.{own_level, decides_hash, level_met, level_missed}
 use Rattle.topics.proofs.first_levels.Goals as goal
 
 pub returns-then-is_lone : goal.returns-then-is_lone
@@ -9,7 +9,7 @@ returns-then-is_lone c =
     decides_hash x.topic.now x.filter.now _ c.level_len-f.ensures (sym c.if-is_lone.true ∙ c.is_lone.ensures)
 
 pub is_first-requires : goal.is_first-requires
-is_first-requires c = level_clear c.args.filter.now _ c.level_len-f.ensures
+is_first-requires c = own_level _ _ c.level_len-f.ensures
 
 pub after-requires : goal.after-requires
 after-requires c =

@@ -1,15 +1,11 @@
 -- `topics::is_lone` is right since a level of one byte is that byte. Assumes nothing.
-use mathlib.Core.Path.{sym}
-use Prim.Native.Nat.{◌-◌}
+use mathlib.Core.Path.{sym, ◌∙◌}
+use Rattle.std.proofs.Common.{ne_eqb}
 use Rattle.topics.proofs.Laws.{lone_one, lone_other}
 use Rattle.topics.proofs.is_lone.Goals as goal
 
 pub returns-then-level-eq1 : goal.returns-then-level-eq1
-returns-then-level-eq1 c =
-    let x = c.args in
-    sym (lone_one x.b x.level.now c.if-level-eq1.true)
+returns-then-level-eq1 c = sym (lone_one _ _ c.if-level-eq1.true)
 
-pub returns : goal.returns
-returns c =
-    let x = c.args in
-    sym (lone_other x.b x.level.now c.if-level-eq1.false)
+pub returns-else-level-eq1 : goal.returns-else-level-eq1
+returns-else-level-eq1 c = ne_eqb _ _ c.if-level-eq1.false ∙ sym (lone_other _ _ c.if-level-eq1.false)

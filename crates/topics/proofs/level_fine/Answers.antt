@@ -1,21 +1,14 @@
 -- `topics::level_fine` is right since a level of one byte is a wildcard or has none. Assumes nothing.
 use mathlib.Core.Path.{ap, ◌∙◌}
-use Prim.Native.Nat.{◌-◌}
 use mathlib.Core.Bool.{not}
-use Rattle.topics.proofs.Laws.{fine_hash, fine_byte, fine_more}
+use Rattle.topics.proofs.Laws.{fine_one, fine_more}
 use Rattle.topics.proofs.level_fine.Goals as goal
 
-pub returns-then-level-eq35 : goal.returns-then-level-eq35
-returns-then-level-eq35 c =
-    let x = c.args in
-    fine_hash x.last x.level.now c.if-level-eq1.true c.if-level-eq35.true
+pub returns-then-last : goal.returns-then-last
+returns-then-last c = rw c.if-last.true (rw c.if-last.true at (fine_one c.args.last _ c.if-level-eq1.true))
 
-pub returns-then-level-eq1 : goal.returns-then-level-eq1
-returns-then-level-eq1 c =
-    let x = c.args in
-    fine_byte x.last x.level.now c.if-level-eq1.true c.if-level-eq35.false
+pub returns-else-last : goal.returns-else-last
+returns-else-last c = rw c.if-last.false (rw c.if-last.false at (fine_one c.args.last _ c.if-level-eq1.true))
 
 pub returns : goal.returns
-returns c =
-    let x = c.args in
-    ap not c.has_wildcards.ensures ∙ fine_more x.last x.level.now c.if-level-eq1.false
+returns c = ap not c.has_wildcards.ensures ∙ fine_more c.args.last _ c.if-level-eq1.false

@@ -1,19 +1,18 @@
 -- `topics::level_len` is right since no byte before the one that is found is a separator. Assumes nothing.
+use mathlib.Core.Path.{ap, ◌∙◌}
 use native.Mathlib.Omega.{arith}
-use lib.ListN.{length}
-use Rattle.topics.specs.Step.{slash_at}
-use Rattle.topics.proofs.Laws.{first_on, first_within, first_ends}
+use Rattle.topics.specs.Step.{level_len}
+use Rattle.topics.proofs.Laws.{ends_here, len_part, len_whole}
 use Rattle.topics.proofs.level_len.Goals as goal
 
-pub returns-then-s-le12 : goal.returns-then-s-le12
-returns-then-s-le12 c = first_ends c.args.s.now _ c.slash_from.ensures
-
-pub returns-then-i-lt12 : goal.returns-then-i-lt12
-returns-then-i-lt12 c =
-    let s = c.args.s.now in
-    first_ends s _ (first_within (slash_at s) 0 12 (length s) _ (omega arith) c.if-i-lt12.true c.slash_from-i.ensures)
+pub returns-then-n-lt12 : goal.returns-then-n-lt12
+returns-then-n-lt12 c =
+    let n = c.len_near-n.ensures.len ∙ ap level_len c.in-Some.ensures.cases.0 in
+    ends_here _ _ (n ∙ len_part 12 _ (omega (arith, n, c.if-n-lt12.true)))
 
 pub returns : goal.returns
 returns c =
-    let s = c.args.s.now in
-    first_ends s _ (first_on (slash_at s) 0 12 (length s) _ (omega arith) (λ k l h. c.slash_from-i.ensures.clear k l (omega arith)) c.slash_far.ensures)
+    let e = c.in-Some.ensures.cases in
+    let n = c.len_near-n.ensures.len ∙ ap level_len e.0 in
+    let f = c.len_far.ensures.len ∙ ap level_len e.1 in
+    ends_here _ _ (omega (arith, f, len_whole 12 c.args.s.now (omega (arith, n, ap level_len e.0))))

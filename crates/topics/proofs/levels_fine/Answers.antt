@@ -1,6 +1,5 @@
 -- `topics::levels_fine` is right since each level passed is fine, so what is left decides. Assumes nothing.
 use mathlib.Core.Path.{sym, ◌∙◌}
-use Prim.Native.Nat.{◌-◌}
 use Rattle.topics.proofs.Laws.{fine_broken, fine_on, fine_done}
 use Rattle.topics.proofs.levels_fine.Goals as goal
 

@@ -1,4 +1,3 @@
-use Prim.Native.Nat.{◌-◌}
 use lib.ListN.{length}
 use Rattle.topics.proofs.Laws.{Fine}
 use Rattle.topics.proofs.levels_fine.Given as goal

@@ -1,6 +1,5 @@
 -- `topics::matches` is right since it asks what the definition asks, in that order. Assumes nothing.
 use mathlib.Core.Path.{sym, ◌∙◌}
-use Prim.Native.Nat.{◌-◌}
 use Rattle.topics.specs.Match.{matches_of}
 use Rattle.topics.proofs.Laws.{by_lone}
 use Rattle.topics.proofs.matches.Goals as goal

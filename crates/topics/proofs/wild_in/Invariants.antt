@@ -1,10 +1,7 @@
-use Prim.Native.Nat.{◌-◌, ◌≤◌}
-use Rattle.topics.specs.Step.{wild_at}
-use Rattle.topics.proofs.Laws.{Marked}
+-- `topics::wild_in` is right since each byte passed is asked. Assumes nothing.
+use Rattle.std.proofs.Common.{◌≡◌, take}
+use Rattle.topics.specs.Levels.{has_wild}
 use Rattle.topics.proofs.wild_in.Given as goal
 
-abbrev pub invariant-loop-i : goal.invariant-loop-i
-invariant-loop-i l = (l.i ≤ l.end) × Marked (wild_at l.s) l.at l.i l.any
-
-abbrev pub decreases-loop-i : goal.decreases-loop-i
-decreases-loop-i l = l.end - l.i
+abbrev pub invariant-loop-b : goal.invariant-loop-b
+invariant-loop-b l = l.any ≡ has_wild (take l.b-index l.run)

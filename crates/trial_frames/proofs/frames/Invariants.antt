@@ -1,6 +1,6 @@
--- `trial_frames::frames` ends since the index grows up to the length of the table. Assumes nothing.
-use Rattle.std.proofs.Common.{◌-◌, length}
+-- `trial_frames::frames` ends since each turn takes a byte at least. Assumes nothing.
+use Rattle.std.proofs.Common.{length}
 use Rattle.trial_frames.proofs.frames.Given as goal
 
-abbrev pub decreases-loop-at : goal.decreases-loop-at
-decreases-loop-at l = length l.table - l.at
+abbrev pub decreases-loop-len : goal.decreases-loop-len
+decreases-loop-len l = length l.rest

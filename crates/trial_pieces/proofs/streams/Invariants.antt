@@ -1,6 +1,6 @@
--- `trial_pieces::streams` ends since the index grows up to the length of the table. Assumes nothing.
-use Rattle.std.proofs.Common.{◌-◌, length}
+-- `trial_pieces::streams` ends since each turn takes a byte at least. Assumes nothing.
+use Rattle.std.proofs.Common.{length}
 use Rattle.trial_pieces.proofs.streams.Given as goal
 
-abbrev pub decreases-loop-at : goal.decreases-loop-at
-decreases-loop-at l = length l.table - l.at
+abbrev pub decreases-loop-len : goal.decreases-loop-len
+decreases-loop-len l = length l.rest

@@ -1,28 +1,20 @@
 -- `unsubscribe::read` is right since an Unsubscribe is an identifier, a block, and topics to the end, each read where the last ends. Assumes nothing.
 use mathlib.Core.Path.{◌∙◌}
+use Rattle.records.proofs.Laws.{err_is}
 use Rattle.positions.proofs.Listed.{listed_ident, listed_block, listed_entries, listed_fine}
 use Rattle.unsubscribe.proofs.Laws.{as_listed}
 use Rattle.unsubscribe.proofs.read.Goals as goal
 
-pub returns-in-Refused : goal.returns-in-Refused
-returns-in-Refused c =
-    let a = c.args in
-    λ x. listed_ident _ _ _ a.s.now a.at (rw c.in-Refused.is at c.read_u16.ensures) ∙ as_listed a.s.now a.at x
+pub returns-in_err-pkid : goal.returns-in_err-pkid
+returns-in_err-pkid c = λ x. rw (err_is _ _ c.from_residual.ensures.1) (listed_ident _ _ _ _ _ c.in_err-pkid.ensures ∙ as_listed _ _ x)
 
-pub returns-in-Refused-read_block : goal.returns-in-Refused-read_block
-returns-in-Refused-read_block c =
-    let a = c.args in
-    λ x. listed_block _ _ _ a.s.now a.at (rw c.in-Value.is at c.read_u16.ensures)
-    (rw c.in-Refused-read_block.is at c.read_block.ensures) ∙ as_listed a.s.now a.at x
+pub returns-in_err-properties : goal.returns-in_err-properties
+returns-in_err-properties c = λ x. rw (err_is _ _ c.from_residual-in_err-properties.ensures.1) (listed_block _ _ _ _ _ c.in_ok-pkid.ensures c.in_err-properties.ensures ∙ as_listed _ _ x)
 
-pub returns-in-Refused-read_topics : goal.returns-in-Refused-read_topics
-returns-in-Refused-read_topics c =
-    let a = c.args in
-    λ x. listed_entries _ _ _ a.s.now a.at (rw c.in-Value.is at c.read_u16.ensures) (rw c.in-Value-read_block.is at c.read_block.ensures)
-    (rw c.in-Refused-read_topics.is at c.read_topics.ensures) ∙ as_listed a.s.now a.at x
+pub returns-in_err-topics : goal.returns-in_err-topics
+returns-in_err-topics c =
+    λ x. rw (err_is _ _ c.from_residual-in_err-topics.ensures.1)
+    (listed_entries _ _ _ _ _ c.in_ok-pkid.ensures c.in_ok-properties.ensures c.in_err-topics.ensures ∙ as_listed _ _ x)
 
-pub returns-in-Place : goal.returns-in-Place
-returns-in-Place c =
-    let a = c.args in
-    λ x. listed_fine _ _ _ a.s.now a.at (rw c.in-Value.is at c.read_u16.ensures) (rw c.in-Value-read_block.is at c.read_block.ensures)
-    (rw c.in-Place.is at c.read_topics.ensures) ∙ as_listed a.s.now a.at x
+pub returns : goal.returns
+returns c = λ x. listed_fine _ _ _ _ _ c.in_ok-pkid.ensures c.in_ok-properties.ensures c.in_ok-topics.ensures ∙ as_listed _ _ x

@@ -8,6 +8,6 @@ returns c =
     let a = c.args in
     put_frame (handed a.m a.user.now a.user_lengths.now a.topics.now a.topic_lengths.now) a.out.now _ _ _ _ _ _ _ _ _ _ c.rest-len.ensures
     (rw c.first_byte-byte1.ensures at c.put_header-n.ensures) c.after-first.ensures
-    c.put_u16.ensures c.after-second.ensures
+    c.put.ensures.stores c.after-second.ensures
     c.put_block-third.ensures
     c.put_topics.ensures

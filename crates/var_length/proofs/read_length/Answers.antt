@@ -6,5 +6,5 @@ use Rattle.var_length.proofs.read_length.Goals as goal
 
 pub overflow_add-next : goal.overflow_add-next
 overflow_add-next c =
-    let e = rw c.in-Number.is at (c.length.ensures cut) in
+    let e = rw c.in-Ok.is at (c.length.ensures cut) in
     omega (arith, number_within c.args.s.now c.args.at _ _ cut e)

@@ -2,5 +2,5 @@
 use Rattle.walker.proofs.Lies.{begins_packet}
 use Rattle.walker.proofs.begin_at.Goals as goal
 
-pub returns-in-Packet : goal.returns-in-Packet
-returns-in-Packet c = begins_packet _ c.in-Packet.p c.in-Packet.field-2 (rw c.in-Packet.is at c.read.ensures.answer.answer) c.of_packet.ensures
+pub returns-in-Ok : goal.returns-in-Ok
+returns-in-Ok c = begins_packet _ c.in-Ok.p c.in-Ok.field-0-2 (rw c.in-Ok.is at c.read.ensures.answer.answer) c.of_packet.ensures

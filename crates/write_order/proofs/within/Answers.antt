@@ -7,11 +7,11 @@ use Rattle.writing.proofs.Judge.{limit_pass, limit_fault}
 use Rattle.write_order.proofs.within.Goals as goal
 
 pub returns-then-m-size : goal.returns-then-m-size
-returns-then-m-size c = rw c.in-AtMost.is (sym (limit_fault _ c.args.size (omega arith)))
+returns-then-m-size c = rw c.in-Some.is (sym (limit_fault _ c.args.size (omega arith)))
 
-pub returns-in-Unlimited : goal.returns-in-Unlimited
+pub returns-in-None : goal.returns-in-None
 unfolding judge
-returns-in-Unlimited c = rw c.in-Unlimited.is
+returns-in-None c = rw c.in-None.is
 
 pub returns-else-m-size : goal.returns-else-m-size
-returns-else-m-size c = rw c.in-AtMost.is (sym (limit_pass (some _) c.args.size (omega arith)))
+returns-else-m-size c = rw c.in-Some.is (sym (limit_pass (some _) c.args.size (omega arith)))

@@ -10,4 +10,4 @@ use Rattle.write_properties.proofs.put_id.Goals as goal
 pub returns : goal.returns
 returns c =
     let a = c.args in
-    record { stores = c.put_u8.ensures ∙ ap (λ (l : List ℕ). sets a.out.now a.at l) (sym (wide_one (omega arith))); place = c.after.ensures }
+    record { stores = c.put.ensures.stores ∙ ap (λ (l : List ℕ). sets a.out.now a.at l) (sym (wide_one (omega arith))); place = c.after.ensures }

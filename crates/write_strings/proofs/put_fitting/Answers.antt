@@ -7,7 +7,7 @@ use Rattle.write_strings.proofs.put_fitting.Goals as goal
 pub returns-then-at-out : goal.returns-then-at-out
 returns-then-at-out c =
     let a = c.args in
-    put_string a.out.now _ _ a.s.now a.at c.put_u16.ensures c.put_bytes.ensures
+    put_string a.out.now _ _ a.s.now a.at c.put.ensures.stores c.put_bytes.ensures
 
 pub returns-else-at-out : goal.returns-else-at-out
 returns-else-at-out c =

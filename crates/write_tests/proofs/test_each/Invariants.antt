@@ -1,6 +1,4 @@
 use mathlib.Core.List.{map}
-use Prim.Native.Nat.{◌-◌}
-use lib.ListN.{length}
 use Rattle.writing.specs.Handed.{strings}
 use Rattle.writing.specs.Order.{word}
 use Rattle.writing.proofs.ForCode.{run_from}
@@ -8,8 +6,5 @@ use Rattle.write_runs.specs.Given.{run}
 use Rattle.write_tests.proofs.Laws.{Deciding}
 use Rattle.write_tests.proofs.test_each.Given as goal
 
-abbrev pub invariant-loop-i : goal.invariant-loop-i
-invariant-loop-i l = Deciding (map word (strings (run l.bytes l.lengths))) (map word (strings (run_from (run l.bytes l.lengths) l.i l.at)))
-
-abbrev pub decreases-loop-i : goal.decreases-loop-i
-decreases-loop-i l = length l.lengths - l.i
+abbrev pub invariant-loop-n : goal.invariant-loop-n
+invariant-loop-n l = Deciding (map word (strings (run l.bytes l.lengths))) (map word (strings (run_from (run l.bytes l.lengths) l.n-index l.at)))

@@ -5,14 +5,14 @@ use Rattle.write_tests.proofs.Laws.{number_large, number_zero, number_fine}
 use Rattle.write_tests.proofs.test_number.Goals as goal
 
 pub returns-then-n-gt-MOST : goal.returns-then-n-gt-MOST
-returns-then-n-gt-MOST c = rw c.in-Present.is (number_large c.in-Present.n (omega arith))
+returns-then-n-gt-MOST c = rw c.in-Some.is (number_large c.in-Some.n (omega arith))
 
 pub returns-then-n-eq0 : goal.returns-then-n-eq0
-returns-then-n-eq0 c = rw c.in-Present.is (number_zero c.in-Present.n c.if-n-eq0.true)
+returns-then-n-eq0 c = rw c.in-Some.is (number_zero c.in-Some.n c.if-n-eq0.true)
 
-pub returns-in-Absent : goal.returns-in-Absent
+pub returns-in-None : goal.returns-in-None
 unfolding judge
-returns-in-Absent c = rw c.in-Absent.is
+returns-in-None c = rw c.in-None.is
 
 pub returns-else-n-eq0 : goal.returns-else-n-eq0
-returns-else-n-eq0 c = rw c.in-Present.is (number_fine c.in-Present.n (omega arith) c.if-n-eq0.false)
+returns-else-n-eq0 c = rw c.in-Some.is (number_fine c.in-Some.n (omega arith) c.if-n-eq0.false)

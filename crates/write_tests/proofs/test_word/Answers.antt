@@ -1,15 +1,10 @@
 -- `write_tests::test_word` is right since the length is tested first, then the text. Assumes nothing.
-use mathlib.Core.Path.{sym, ◌∙◌}
-use Rattle.write_tests.proofs.Laws.{word_long, word_fine, word_broken}
+use Rattle.records.proofs.Laws.{handed_on}
+use Rattle.write_tests.proofs.Laws.{word_long, word_chars}
 use Rattle.write_tests.proofs.test_word.Goals as goal
 
-pub returns-then-is_utf8 : goal.returns-then-is_utf8
-returns-then-is_utf8 c =
-    word_fine _ (rw c.in-Fine.is at c.test_raw.ensures) (sym c.is_utf8.ensures ∙ c.if-is_utf8.true)
+pub returns-in_err-test_raw : goal.returns-in_err-test_raw
+returns-in_err-test_raw c = handed_on _ _ _ c.from_residual.ensures.1 (word_long c.args.s.now _ c.in_err-test_raw.ensures)
 
-pub returns-in-Refused : goal.returns-in-Refused
-returns-in-Refused c = word_long c.args.s.now _ (rw c.in-Refused.is at c.test_raw.ensures)
-
-pub returns-else-is_utf8 : goal.returns-else-is_utf8
-returns-else-is_utf8 c =
-    word_broken _ (rw c.in-Fine.is at c.test_raw.ensures) (sym c.is_utf8.ensures ∙ c.if-is_utf8.false)
+pub returns : goal.returns
+returns c = word_chars c.args.s.now c.in_ok-test_raw.ensures _ c.test_chars.ensures

@@ -1,14 +1,18 @@
 -- `c_arguments::up_to::filter_up_to` is right since it reads in the bytes before the end. Assumes nothing.
-use mathlib.Core.Path.{sym, ◌∙◌}
 use lib.ListN.{length}
 use Rattle.reading.specs.Place.{as_places}
-use Rattle.positions.specs.Position.{from_at}
 use Rattle.reading.specs.Read.{filter_of}
+use Rattle.positions.specs.Position.{from_at}
+use Rattle.records.proofs.Laws.{handed_on}
 use Rattle.c_arguments.proofs.UpTo.{up_within, up_outside}
 use Rattle.c_arguments.proofs.up_to.filter_up_to.Goals as goal
 
-pub returns-then-stream-end : goal.returns-then-stream-end
-returns-then-stream-end c = up_outside (λ t. from_at (filter_of as_places (length t)) t c.args.at) c.args.stream.now c.args.end c.if-stream-end.true
+pub returns-in_err-filters : goal.returns-in_err-filters
+returns-in_err-filters c =
+    let e = c.in_err-filters.ensures in
+    handed_on _ _ _ c.from_residual.ensures.1 (rw e.0 (up_outside (λ t. from_at (filter_of as_places (length t)) t c.args.at) c.args.stream.now c.args.end e.1))
 
 pub returns : goal.returns
-returns c = c.read_filter.ensures ∙ sym (up_within (λ t. from_at (filter_of as_places (length t)) t c.args.at) c.args.stream.now c.args.end c.if-stream-end.false)
+returns c =
+    let b = c.in_ok-filters.ensures in
+    rw (up_within (λ t. from_at (filter_of as_places (length t)) t c.args.at) c.args.stream.now c.args.end b.1) (rw b.0 at c.read_filter.ensures)

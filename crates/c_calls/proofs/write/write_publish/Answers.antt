@@ -6,8 +6,8 @@ use Rattle.c_calls.proofs.write.write_publish.Goals as goal
 pub returns-then-not-by : goal.returns-then-not-by
 returns-then-not-by c = rw (not-true c.args.by.zeros c.if-not-by.true) (written_off _ _ _ _)
 
-pub returns-in-Refused : goal.returns-in-Refused
-returns-in-Refused c = rw (not-false c.args.by.zeros c.if-not-by.false, c.in-Refused.is) (written_bad _ _ _ _ (c.mismatch_or.ensures c.args.topic.now c.args.payload.now))
+pub returns-in-Err : goal.returns-in-Err
+returns-in-Err c = rw (not-false c.args.by.zeros c.if-not-by.false, c.in-Err.is) (written_bad _ _ _ _ (c.mismatch_or.ensures c.args.topic.now c.args.payload.now))
 
-pub returns-in-Fine : goal.returns-in-Fine
-returns-in-Fine c = rw (not-false c.args.by.zeros c.if-not-by.false, c.in-Fine.is) (written_fine _ _ _ c.write.ensures)
+pub returns-in-Ok : goal.returns-in-Ok
+returns-in-Ok c = rw (not-false c.args.by.zeros c.if-not-by.false, c.in-Ok.is) (written_fine _ _ _ c.write.ensures)

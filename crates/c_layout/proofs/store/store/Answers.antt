@@ -1,8 +1,6 @@
--- `c_layout::store::store` is right since what is left to store is what is left of `xs`; at the end that is nothing, or nothing that fits. Assumes nothing.
-use Prim.Native.Nat.{◌-◌}
-use native.Mathlib.Omega.{arith}
-use Rattle.write_bytes.proofs.Laws.{putting_end}
+-- `c_layout::store::store` is right since as many numbers are stored as there are, or as there is room for. Assumes nothing.
+use Rattle.c_layout.proofs.Laws.{stored_all}
 use Rattle.c_layout.proofs.store.store.Goals as goal
 
 pub returns : goal.returns
-returns c = putting_end c.loop-i.invariant.1 (omega arith)
+returns c = rw c.copy_from_slice.ensures.after (stored_all c.args.out.now c.args.xs.now _ c.min-n.ensures)

@@ -1,5 +1,5 @@
 -- `desk::stream::to_front` is right since a byte is read before it is written over. Assumes nothing.
-use Rattle.std.proofs.Common.{ℕ, ◌+◌, ◌-◌, ◌<◌, List, length, get_or, set, refl, ap, ◌∙◌, arith, length-set}
+use Rattle.std.proofs.Common.{ℕ, ◌+◌, ◌<◌, List, length, get_or, set, refl, ap, ◌∙◌, arith, length-set}
 use Rattle.desk.proofs.Laws.{front_none, front_next}
 use Rattle.desk.proofs.stream.to_front.Goals as goal
 

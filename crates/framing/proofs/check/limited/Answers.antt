@@ -5,11 +5,11 @@ use Rattle.framing.proofs.check.limited.Goals as goal
 
 pub returns-then-most-size : goal.returns-then-most-size
 unfolding within over
-returns-then-most-size c = rw (c.in-AtMost.is, lt-leb _ _ c.if-most-size.true)
+returns-then-most-size c = rw (c.in-Some.is, lt-leb _ _ c.if-most-size.true)
 
 pub returns-else-most-size : goal.returns-else-most-size
 unfolding within over
-returns-else-most-size c = rw (c.in-AtMost.is, le-leb _ _ c.if-most-size.false)
+returns-else-most-size c = rw (c.in-Some.is, le-leb _ _ c.if-most-size.false)
 
 pub returns-in_default : goal.returns-in_default
 unfolding within

@@ -12,14 +12,14 @@ returns-then-stream-lt1 c = (header_none _ (omega arith), tt)
 
 pub overflow_add-start : goal.overflow_add-start
 overflow_add-start c =
-    let e = rw c.in-Number.is at (c.length.ensures (nr 1 (1 ∷ []))) in
+    let e = rw c.in-Ok.is at (c.length.ensures (nr 1 (1 ∷ []))) in
     omega (arith, number_within c.args.stream.now 1 _ _ (nr 1 (1 ∷ [])) e)
 
-pub returns-in-Number : goal.returns-in-Number
-returns-in-Number c = (rw (sym (c.length.ensures (nr 1 (1 ∷ []))), c.in-Number.is) at (header_first c.args.stream.now (omega arith)), omega arith)
+pub returns-in-Ok : goal.returns-in-Ok
+returns-in-Ok c = (rw (sym (c.length.ensures (nr 1 (1 ∷ []))), c.in-Ok.is) at (header_first c.args.stream.now (omega arith)), omega arith)
 
-pub returns-in-Cut : goal.returns-in-Cut
-returns-in-Cut c = (rw (sym (c.length.ensures (nr 1 (1 ∷ []))), c.in-Cut.is) at (header_first c.args.stream.now (omega arith)), tt)
+pub returns-in-Err-Cut : goal.returns-in-Err-Cut
+returns-in-Err-Cut c = (rw (sym (c.length.ensures (nr 1 (1 ∷ []))), c.in-Err-Cut.is, c.in-Err-Cut.field-0-is) at (header_first c.args.stream.now (omega arith)), tt)
 
-pub returns-in-Long : goal.returns-in-Long
-returns-in-Long c = (rw (sym (c.length.ensures (nr 1 (1 ∷ []))), c.in-Long.is) at (header_first c.args.stream.now (omega arith)), tt)
+pub returns-in-Err-Long : goal.returns-in-Err-Long
+returns-in-Err-Long c = (rw (sym (c.length.ensures (nr 1 (1 ∷ []))), c.in-Err-Long.is, c.in-Err-Long.field-0-is) at (header_first c.args.stream.now (omega arith)), tt)

@@ -1,20 +1,15 @@
--- `InFlight::waiting` is right since the count goes by what is left. Assumes nothing.
-use mathlib.Core.Path.{◌≡◌, sym, ap, ◌∙◌}
-use Prim.Native.Nat.{◌-◌}
-use native.Mathlib.Omega.{arith}
+-- `InFlight::waiting` is right since it is the library's count. Assumes nothing.
+use mathlib.Core.Path.{◌≡◌, sym, ◌∙◌}
+use mathlib.Core.Bool.{not}
 use borrow.Author.Rules.{rules}
-use lib.ListN.{length}
-use Rattle.inflight.specs.Rules.{limit, one_if_waits}
-use Rattle.inflight.proofs.Laws.{waits_length, wait_at, unmapped, counted, all_counted}
+use lib.Dec.{eqb}
+use Rattle.std.specs.List.{count_by}
+use Rattle.inflight.specs.TableAnswer.{code_of}
+use Rattle.inflight.specs.declared.Place.{Place}
+use Rattle.inflight.proofs.Laws.{waiting_count}
 use Rattle.inflight.proofs.InFlight.waiting.Goals as goal
-
-pub loop-i-preserved : goal.loop-i-preserved
-loop-i-preserved c =
-    let l : length c.args.self.places ≡ limit = search (rules, unmapped) in
-    counted c.loop-i.invariant (omega (arith, waits_length c.args.self, l)) _
-    (c.one_if_waits-n.ensures ∙ ap one_if_waits (sym (wait_at c.args.self _ _ (omega (arith, l)))))
 
 pub returns : goal.returns
 returns c =
-    let l : length c.args.self.places ≡ limit = search (rules, unmapped) in
-    all_counted c.loop-i.invariant (omega (arith, waits_length c.args.self, l))
+    let e : c.count.result ≡ count_by (λ (p : Place). not (eqb (code_of p.wait) 0)) c.args.self.places = search rules in
+    e ∙ sym (waiting_count c.args.self)

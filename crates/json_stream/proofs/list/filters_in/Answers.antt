@@ -5,6 +5,6 @@ use Rattle.json_stream.proofs.list.filters_in.Goals as goal
 
 pub loop-i-smaller : goal.loop-i-smaller
 loop-i-smaller c =
-    let r = rw c.in-Value.is at c.read_filter.ensures in
+    let r = rw c.in-Ok.is at c.read_filter.ensures in
     let h = filter_ahead c.args.s.now c.loop-i-test.true r in
     omega (arith, h)

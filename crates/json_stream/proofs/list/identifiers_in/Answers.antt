@@ -5,7 +5,7 @@ use Rattle.json_stream.proofs.list.identifiers_in.Goals as goal
 
 pub loop-i-smaller : goal.loop-i-smaller
 loop-i-smaller c =
-    let r = rw c.in-Found.is at c.read_property.ensures in
+    let r = rw c.in-Ok.is at c.read_property.ensures in
     let a = c.args in
     let h = property_ahead _ a.s.now c.loop-i.i _ _ r.says in
     omega (arith, c.loop-i-test.true, h)

@@ -8,6 +8,6 @@ use Rattle.json_stream.proofs.list.topics_in.Goals as goal
 
 pub loop-i-smaller : goal.loop-i-smaller
 loop-i-smaller c =
-    let r = rw c.in-Value.is at c.read_mqtt_string.ensures in
+    let r = rw c.in-Ok.is at c.read_mqtt_string.ensures in
     let h = item_ahead c.args.s.now (text_less _) (trails_text as_places _) c.loop-i-test.true (sym r) in
     omega (arith, h)

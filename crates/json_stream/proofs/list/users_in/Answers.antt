@@ -5,5 +5,5 @@ use Rattle.json_stream.proofs.list.users_in.Goals as goal
 
 pub loop-i-smaller : goal.loop-i-smaller
 loop-i-smaller c =
-    let h = next_ahead (rw c.in-Pair.is at c.step_at-step.ensures) in
+    let h = next_ahead (rw c.in-Some.is at c.step_at-step.ensures) in
     omega (arith, c.loop-i-test.true, h)

@@ -3,6 +3,7 @@
 use mathlib.Core.Path.{refl, sym, ◌∙◌}
 use native.Mathlib.Omega.{arith}
 use Rattle.grammar.specs.Record.{last_of, props_of}
+use Rattle.records.proofs.Laws.{handed_on}
 use Rattle.properties.proofs.Laws.Fold.{props_lawful, filling_next, read_ahead, filled_twice, filled_bad, filled_end}
 use Rattle.properties.proofs.row_block.fill.Goals as goal
 
@@ -10,20 +11,19 @@ pub returns-then-has : goal.returns-then-has
 unfolding props_of last_of
 returns-then-has c = filled_twice _ refl c.loop-at.invariant c.loop-at-test.true (sym c.has.ensures ∙ c.if-has.true)
 
+pub returns-in_err-k : goal.returns-in_err-k
+unfolding props_of last_of
+returns-in_err-k c =
+    handed_on _ _ _ c.from_residual.ensures.1
+    (filled_bad _ refl c.loop-at.invariant c.loop-at-test.true (sym c.has.ensures ∙ c.if-has.false) (rw c.as_row.ensures at c.read_property.ensures) c.in_err-k.was)
+
 pub loop-at-smaller : goal.loop-at-smaller
-loop-at-smaller c =
-    omega (arith, c.loop-at-test.true, read_ahead c.read_property.ensures c.in-Found.is)
+loop-at-smaller c = omega (arith, c.loop-at-test.true, read_ahead c.read_property.ensures c.in_ok-k.was)
 
 pub loop-at-preserved : goal.loop-at-preserved
 loop-at-preserved c =
     filling_next c.loop-at.invariant c.loop-at-test.true (sym c.has.ensures ∙ c.if-has.false)
-    (props_lawful c.args.row) (rw c.as_row.ensures at c.read_property.ensures) c.in-Found.is c.apply-p.ensures
-
-pub returns-in-Refused : goal.returns-in-Refused
-unfolding props_of last_of
-returns-in-Refused c =
-    filled_bad _ refl c.loop-at.invariant c.loop-at-test.true (sym c.has.ensures ∙ c.if-has.false)
-    (rw c.as_row.ensures at c.read_property.ensures) c.in-Refused.is
+    (props_lawful c.args.row) (rw c.as_row.ensures at c.read_property.ensures) c.in_ok-k.was c.apply-p.ensures
 
 pub returns : goal.returns
 unfolding props_of last_of

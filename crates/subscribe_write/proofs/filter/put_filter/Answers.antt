@@ -10,4 +10,4 @@ overflow_add-result c = let b = c.args in omega (arith, c.put_string-n.ensures.1
 pub returns : goal.returns
 returns c =
     let a = c.args in
-    put_filter a.s.now a.options a.out.now _ _ a.at _ _ c.put_string-n.ensures c.after-next.ensures c.put_u8.ensures
+    put_filter a.s.now a.options a.out.now _ _ a.at _ _ c.put_string-n.ensures c.after-next.ensures c.put.ensures.stores

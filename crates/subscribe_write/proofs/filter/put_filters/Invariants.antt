@@ -1,4 +1,4 @@
-use Prim.Native.Nat.{◌+◌, ◌*◌, ◌-◌, ◌≤◌}
+use Prim.Native.Nat.{◌+◌, ◌*◌, ◌≤◌}
 use lib.ListN.{length, drop}
 use Rattle.writing.specs.Lists.{flat, beside}
 use Rattle.writing.specs.Handed.{strings, filters_of}
@@ -8,10 +8,8 @@ use Rattle.write_properties.proofs.Laws.{Putting}
 use Rattle.subscribe_write.specs.Fitting.{fit_filter}
 use Rattle.subscribe_write.proofs.filter.put_filters.Given as goal
 
-abbrev pub invariant-loop-i : goal.invariant-loop-i
-invariant-loop-i l =
-    Putting l.initial.out l.at (flat fit_filter (filters_of (run l.bytes l.lengths) l.options)) l.out l.n (flat fit_filter (beside (strings (run_from (run l.bytes l.lengths) l.i l.from)) (drop l.i l.options)))
-    × (l.n ≤ l.from + 3 * l.i) × (l.from ≤ length l.bytes)
-
-abbrev pub decreases-loop-i : goal.decreases-loop-i
-decreases-loop-i l = l.count - l.i
+abbrev pub invariant-loop-k : goal.invariant-loop-k
+invariant-loop-k l =
+    let i = length l.yielded in
+    Putting l.initial.out l.at (flat fit_filter (filters_of (run l.bytes l.lengths) l.options)) l.out l.n (flat fit_filter (beside (strings (run_from (run l.bytes l.lengths) i l.from)) (drop i l.options)))
+    × (l.n ≤ l.from + 3 * i) × (l.from ≤ length l.bytes)

@@ -1,4 +1,4 @@
-use Prim.Native.Nat.{◌+◌, ◌*◌, ◌-◌, ◌≤◌}
+use Prim.Native.Nat.{◌+◌, ◌*◌, ◌≤◌}
 use lib.ListN.{length}
 use Rattle.writing.specs.Lists.{flat}
 use Rattle.writing.specs.Handed.{strings}
@@ -8,10 +8,7 @@ use Rattle.write_strings.specs.Fitting.{fit_string}
 use Rattle.write_properties.proofs.Laws.{Putting}
 use Rattle.unsubscribe_write.proofs.topic.put_topics.Given as goal
 
-abbrev pub invariant-loop-i : goal.invariant-loop-i
-invariant-loop-i l =
-    Putting l.initial.out l.at (flat fit_string (strings (run l.bytes l.lengths))) l.out l.n (flat fit_string (strings (run_from (run l.bytes l.lengths) l.i l.from)))
-    × (l.n ≤ l.from + 2 * l.i) × (l.from ≤ length l.bytes)
-
-abbrev pub decreases-loop-i : goal.decreases-loop-i
-decreases-loop-i l = length l.lengths - l.i
+abbrev pub invariant-loop-k : goal.invariant-loop-k
+invariant-loop-k l =
+    Putting l.initial.out l.at (flat fit_string (strings (run l.bytes l.lengths))) l.out l.n (flat fit_string (strings (run_from (run l.bytes l.lengths) l.k-index l.from)))
+    × (l.n ≤ l.from + 2 * l.k-index) × (l.from ≤ length l.bytes)

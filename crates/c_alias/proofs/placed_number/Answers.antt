@@ -1,9 +1,0 @@
--- `c_alias::placed_number` is right since a refusal tells its number. Assumes nothing.
-use mathlib.Core.Path.{◌∙◌}
-use Rattle.alias.specs.Alias.{Lies}
-use Rattle.c_layout.proofs.Laws.{bad_number}
-use Rattle.alias.specs.AliasAnswer.{told_alias}
-use Rattle.c_alias.proofs.placed_number.Goals as goal
-
-pub returns-in-Refused : goal.returns-in-Refused
-returns-in-Refused c = c.number.ensures ∙ rw c.in-Refused.is (bad_number Lies (told_alias c.in-Refused.e))

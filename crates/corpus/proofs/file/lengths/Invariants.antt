@@ -1,6 +1,0 @@
--- `corpus::file::lengths` ends since the index grows up to the length. Assumes nothing.
-use Rattle.std.proofs.Common.{◌-◌}
-use Rattle.corpus.proofs.file.lengths.Given as goal
-
-abbrev pub decreases-loop-k : goal.decreases-loop-k
-decreases-loop-k l = 8 - l.k

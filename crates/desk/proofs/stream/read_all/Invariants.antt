@@ -1,5 +1,0 @@
--- `desk::stream::read_all` ends since it counts its turns down. Assumes nothing.
-use Rattle.desk.proofs.stream.read_all.Given as goal
-
-abbrev pub decreases-loop-turns : goal.decreases-loop-turns
-decreases-loop-turns l = l.turns

@@ -1,6 +1,0 @@
--- `trial_write::hand::table` ends since the index grows up to the length. Assumes nothing.
-use Rattle.std.proofs.Common.{◌-◌, length}
-use Rattle.trial_write.proofs.hand.table.Given as goal
-
-abbrev pub decreases-loop-i : goal.decreases-loop-i
-decreases-loop-i l = length l.s - l.i
