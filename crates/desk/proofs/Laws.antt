@@ -1,9 +1,10 @@
 -- How what is held moves to the front, byte by byte, and is still held there. Assumes nothing.
-use Rattle.std.proofs.Common.{◌≡◌, ℕ, suc, ◌+◌, ◌<◌, ◌≤◌, List, length, get_or, take, drop, set, sym, refl, ap, ◌∙◌, add-one, arith, length-append, length-drop, length-take-le, get_or-drop, take_at, drop_at}
-use lib.Seq.{paste, paste-suc}
+use Rattle.std.proofs.Common.{◌≡◌, ℕ, suc, ◌+◌, ◌-◌, ◌<◌, ◌≤◌, List, length, get_or, take, drop, set, sym, refl, ap, ◌∙◌, add-one, arith, length-append, length-drop, length-take-le, get_or-drop, take_at, drop_at}
+use lib.Seq.{sets, length-sets, paste, paste-suc}
 use Rattle.reading.specs.Place.{Span}
 use Rattle.wire.proofs.Laws.{held_within}
 use Rattle.desk.specs.Held.{fronted, Kept}
+use Rattle.desk.specs.Put.{StandsBefore}
 
 module _ (s : List ℕ) (start : ℕ) where
   pub front_none : s ≡ fronted s start 0
@@ -59,3 +60,14 @@ kept_moved s o p f h =
     let n : length part ≡ p.len = length-take-le p.len (drop p.start s) (rw length-drop (omega arith)) in
     let g : p.len ≤ length o = rw (f h, length-append) (omega (arith, n)) in
     sym (held_within o (record { start = 0; len = p.len }) (omega (arith, g))) ∙ ap (take p.len) (f h) ∙ take_at part (drop p.len s) p.len n ∙ held_within s p h
+
+-- ---- what was put
+pub put_whole : (l w : List ℕ) (from : ℕ) {o : List ℕ} {next : ℕ} → o ≡ sets l from w → (next ≤ length o → next ≡ from + length w) → StandsBefore l w o next
+put_whole l w from {o} {next} e f h =
+    let n : next ≡ from + length w = f (rw (e, length-sets l from w) h) in
+    let m : from ≡ next - length w = omega arith in
+    (omega arith, e ∙ ap (λ (k : ℕ). sets l k w) m)
+
+-- the same of a number of bytes that is told
+pub put_counted : (l w : List ℕ) (from k : ℕ) {o : List ℕ} {next : ℕ} → o ≡ sets l from w → k ≡ length w → (next ≤ length o → next ≡ from + k) → StandsBefore l w o next
+put_counted l w from k e c f = put_whole l w from e (λ h. f h ∙ ap (λ (m : ℕ). from + m) c)

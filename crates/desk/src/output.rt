@@ -1,6 +1,6 @@
 // What is put into the lent output before it is written: words, numbers and quoted bytes, each from index `at` on, and the index after it.
 // A full output is written to standard output.
-ghost use Rattle.std.specs.Prelude.{◌≡◌, ◌+◌, IfOk};
+ghost use Rattle.std.specs.Prelude.{◌≡◌, ◌+◌, ◌≤◌, length, IfOk};
 ghost use Rattle.desk_render.specs.Shown.{decimal_of, hex_of};
 ghost use Rattle.desk.specs.Put.{StandsBefore};
 
@@ -35,7 +35,7 @@ fn room(to: Stdout, out: &[u8], at: At, n: usize) -> At {
 
 // The index after n bytes that were put, if they had room.
 fn after(out: &[u8], at: usize, n: usize) -> At
-    ensures { IfOk result (λ next. next ≡ at + n) }
+    ensures { IfOk result (λ next. (next ≤ length out.now) × (next ≡ at + n)) }
 {
     if out.len() < at {
         return Err(0);
@@ -47,7 +47,7 @@ fn after(out: &[u8], at: usize, n: usize) -> At
 }
 
 pub fn word(to: Stdout, out: &mut [u8], at: At, w: &[u8]) -> At
-    ensures { IfOk result (λ next. StandsBefore out.old w.now out.new next) }
+    ensures { IfOk result (λ next. (next ≤ length out.new) × StandsBefore out.old w.now out.new next) }
 {
     let from = room(to, &*out, at, w.len())?;
     put_bytes(&mut *out, from, w);
@@ -55,7 +55,7 @@ pub fn word(to: Stdout, out: &mut [u8], at: At, w: &[u8]) -> At
 }
 
 pub fn decimal(to: Stdout, out: &mut [u8], at: At, n: u64) -> At
-    ensures { IfOk result (λ next. StandsBefore out.old (decimal_of n) out.new next) }
+    ensures { IfOk result (λ next. (next ≤ length out.new) × StandsBefore out.old (decimal_of n) out.new next) }
 {
     let from = room(to, &*out, at, 20)?;
     let k = desk_render::put_decimal(&mut *out, from, n);
@@ -64,7 +64,7 @@ pub fn decimal(to: Stdout, out: &mut [u8], at: At, n: u64) -> At
 
 // Two hexadecimal digits.
 pub fn hex(to: Stdout, out: &mut [u8], at: At, b: u8) -> At
-    ensures { IfOk result (λ next. StandsBefore out.old (hex_of b) out.new next) }
+    ensures { IfOk result (λ next. (next ≤ length out.new) × StandsBefore out.old (hex_of b) out.new next) }
 {
     let from = room(to, &*out, at, 2)?;
     desk_render::put_hex(&mut *out, from, b);
