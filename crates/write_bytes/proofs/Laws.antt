@@ -6,11 +6,12 @@ use Prim.Native.Nat.{ℕ, suc, ◌+◌, ◌-◌, ◌≤◌, ◌<◌, min}
 use native.Mathlib.Omega.{arith}
 use native.Mathlib.Numerals.{add-one}
 use lib.Dec.{leb}
-use lib.ListN.{length, take, drop, get_or, set, length-set, take-append-drop, drop_of_length-le}
+use lib.ListN.{length, take, drop, get_or, set, length-set, take-append-drop, drop_of_length-le, length-drop}
 use lib.Seq.{sets, set_out, length-sets, drop-cons, drop-drop, length-take-le, take_all, take-add}
 use borrow.Author.Tests.{leb-true, leb-false}
 use Rattle.std.proofs.lemmas.List.{append_assoc}
 use Rattle.std.proofs.lemmas.List.Edits.{sets-eq}
+use Rattle.write_bytes.specs.Further.{Further}
 
 -- ---- stores
 
@@ -34,12 +35,35 @@ module _ (k : ℕ) (s : List ℕ) (i : ℕ) where
   pub taken_one : i + 1 ≤ length s → get_or s i 0 ∷ take k (drop (i + 1) s) ≡ take (suc k) (drop i s)
   taken_one h = rw (drop-cons s i 0 (omega arith), add-one i)
 
+pub taken_two : (k : ℕ) (s : List ℕ) (i : ℕ) → i + 2 ≤ length s → get_or s i 0 ∷ get_or s (i + 1) 0 ∷ take k (drop (i + 2) s) ≡ take (suc (suc k)) (drop i s)
+taken_two k s i h =
+    let e : i + 1 + 1 ≡ i + 2 = omega arith in
+    rw (sym (taken_one (suc k) s i (omega arith)), sym (taken_one k s (i + 1) (omega arith)), e)
+
+pub taken_four : (k : ℕ) (s : List ℕ) (i : ℕ) → i + 4 ≤ length s
+    → get_or s i 0 ∷ get_or s (i + 1) 0 ∷ get_or s (i + 2) 0 ∷ get_or s (i + 3) 0 ∷ take k (drop (i + 4) s) ≡ take (suc (suc (suc (suc k)))) (drop i s)
+taken_four k s i h =
+    let e : i + 2 + 1 ≡ i + 3 = omega arith in
+    let f : i + 2 + 2 ≡ i + 4 = omega arith in
+    rw (sym (taken_two (suc (suc k)) s i (omega arith)), sym (taken_two k s (i + 2) (omega arith)), e, f)
+
+pub taken_eight : (s : List ℕ) (i : ℕ) → i + 8 ≤ length s
+    → get_or s i 0 ∷ get_or s (i + 1) 0 ∷ get_or s (i + 2) 0 ∷ get_or s (i + 3) 0 ∷ get_or s (i + 4) 0 ∷ get_or s (i + 5) 0 ∷ get_or s (i + 6) 0 ∷ get_or s (i + 7) 0 ∷ [] ≡ take 8 (drop i s)
+taken_eight s i h =
+    let e : i + 4 + 1 ≡ i + 5 = omega arith in
+    let f : i + 4 + 2 ≡ i + 6 = omega arith in
+    let g : i + 4 + 3 ≡ i + 7 = omega arith in
+    rw (sym (taken_four 4 s i (omega arith)), sym (taken_four 0 s (i + 4) (omega arith)), e, f, g)
+
 module _ (o o₁ o₂ xs : List ℕ) (at i : ℕ) (h : i ≤ length xs) (e : o₁ ≡ sets o at (take i xs)) where
   -- i bytes, and k more behind them
   pub put_more : (k : ℕ) → o₂ ≡ sets o₁ (at + i) (take k (drop i xs)) → o₂ ≡ sets o at (take (i + k) xs)
   put_more k f =
       let n : at + i ≡ at + length (take i xs) = rw (length-take-le i xs h) in
       rw (take-add i k xs) (sets_then (take i xs) (take k (drop i xs)) o o₁ o₂ at (at + i) e n f)
+
+  pub put_last : i + 1 ≤ length xs → o₂ ≡ sets o₁ (at + i) (get_or xs i 0 ∷ []) → o₂ ≡ sets o at (take (i + 1) xs)
+  put_last l f = put_more 1 (f ∙ ap (λ (r : List ℕ). sets o₁ (at + i) r) (taken_one 0 xs i l))
 
   -- all are put, or there is no room
   pub put_all : min (length xs) (length o - at) ≤ i → o₁ ≡ sets o at xs
@@ -54,12 +78,30 @@ module _ (o o₁ o₂ xs : List ℕ) (at i : ℕ) (h : i ≤ length xs) (e : o�
           let n : at + i ≡ at + length (take i xs) = rw (length-take-le i xs h) in
           sets_then (take i xs) (drop i xs) o o₁ o₁ at (at + i) e n (sets_out (drop i xs) o₁ (at + i) (omega (arith, s))) ∙ ap (λ (l : List ℕ). sets o at l) (take-append-drop i xs)
 
+module _ (o o₁ xs : List ℕ) (at i n w : ℕ) where
+  pub further_more : i + w ≤ n → n ≤ length xs → o₁ ≡ sets o (at + i) (take w (drop i xs)) → Further o at xs i n w o₁ (i + w)
+  further_more h l f = record {
+    stores = λ o₀ e. put_more o₀ o o₁ xs at i (omega arith) e w f;
+    within = h;
+    left = λ m. omega arith;
+  }
+
+  pub further_none : i ≤ n → n < i + w → Further o at xs i n w o i
+  further_none h l = record { stores = λ o₀ e. e; within = h; left = λ m. l }
+
 -- the first n in the place of as many, where those are all, or there is no room for more
 pub put_part : (o xs : List ℕ) (at n : ℕ) → n ≤ length xs → at + n ≤ length o → min (length xs) (length o - at) ≤ n → take at o ++ (take n xs ++ drop n (drop at o)) ≡ sets o at xs
 put_part o xs at n h r m =
     let l : length (take n xs) ≡ n = length-take-le n xs h in
     let e = rw l at (sets-eq (take n xs) o at (omega (arith, l))) in
     put_all o _ o xs at n h (rw (drop-drop n at o) (sym (e ∙ append_assoc (take at o) (take n xs) (drop (at + n) o)))) m
+
+-- a chunk in the place of as many
+pub chunk_put : (o s : List ℕ) (at i n : ℕ) → i + n ≤ length s → at + n ≤ length o → take at o ++ (take n (drop i s) ++ drop n (drop at o)) ≡ sets o at (take n (drop i s))
+chunk_put o s at i n h r =
+    let l : length (take n (drop i s)) ≡ n = length-take-le n (drop i s) (rw length-drop (omega arith)) in
+    let e = rw l at (sets-eq (take n (drop i s)) o at (omega (arith, l))) in
+    rw (drop-drop n at o) (sym (e ∙ append_assoc (take at o) (take n (drop i s)) (drop (at + n) o)))
 
 -- the same one by one, for the stores of other crates
 
