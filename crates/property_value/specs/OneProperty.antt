@@ -13,6 +13,8 @@ use Rattle.positions.specs.Position.{from_at, next_or}
 use Rattle.records.specs.AsNumbers.{told_by, told_span}
 use Rattle.property_value.specs.declared.Value.{Value}
 use Rattle.property_value.specs.declared.Value.TheVariants.{U8, U16, U32, Number, Text, Bytes, Pair}
+use Rattle.property_value.specs.declared.GotProperty.{GotProperty}
+use Rattle.property_value.specs.declared.GotProperty.TheVariants.{Found, Refused}
 use Rattle.records.specs.declared.error.Error.{Error}
 
 -- 01, table of properties: a number, a string or a text pair
@@ -38,6 +40,11 @@ form_of (Pair p q) = tables.pair
 -- 01, grammar: "an identifier byte and a value", and the index after them; or the refusal
 abbrev pub told_property : Result (ℕ × Value × ℕ) Error → Fit (PropOf place.Span × ℕ)
 told_property = told_by (λ (k, v, n). ((k, told_value v), n))
+
+-- the same answer as a Result
+abbrev pub property_got : GotProperty → Result (ℕ × Value × ℕ) Error
+property_got (Found k v n) = Ok (k, v, n)
+property_got (Refused e) = Err e
 
 -- 02, P9: "Property 11 with value 0 gets SubscriptionIdZero, after the number is read"
 abbrev pub identifier_of : Reader ℕ

@@ -8,7 +8,7 @@ ghost use Rattle.grammar.specs.Tables.{number, pair};
 ghost use Rattle.positions.specs.Position.{from_at};
 ghost use Rattle.numbers.specs.NumberRead.{told_got_number};
 ghost use Rattle.tables.specs.Property.{table_row, told_form};
-ghost use Rattle.property_value.specs.OneProperty.{identifier_of, ValueRead, PropertyRead, publish_lists, ValuePassed, PropertyPassed};
+ghost use Rattle.property_value.specs.OneProperty.{property_got, identifier_of, ValueRead, PropertyRead, publish_lists, ValuePassed, PropertyPassed};
 
 use numbers::fixed;
 use records::error::Error;
@@ -30,13 +30,26 @@ pub enum Value {
     Pair(Span, Span),
 }
 
+// The identifier, the value, and the index after it; or the refusal. An enum of its own: in a Result, value and refusal share one place, in which
+// so wide a value was put together from narrow stores, and the load waited for them. A property then took half as long again, and more
+// (docs/LOOK-BACK.md, d).
+#[derive(Clone, Copy)]
+pub enum GotProperty {
+    Found(u8, Value, usize),
+    Refused(Error),
+}
+
 // The two texts of property k.
-fn read_pair(k: u8, s: &[u8], at: usize) -> Result<(u8, Value, usize), Error>
-    ensures { ValueRead (some pair) k s.now at result }
+fn read_pair(k: u8, s: &[u8], at: usize) -> GotProperty
+    ensures { ValueRead (some pair) k s.now at (property_got result) }
 {
-    let (x, m) = string::read_mqtt_string(s, at)?;
-    let (y, n) = string::read_mqtt_string(s, m)?;
-    Ok((k, Value::Pair(x, y), n))
+    match string::read_mqtt_string(s, at) {
+        Err(e) => GotProperty::Refused(e),
+        Ok((x, m)) => match string::read_mqtt_string(s, m) {
+            Err(e) => GotProperty::Refused(e),
+            Ok((y, n)) => GotProperty::Found(k, Value::Pair(x, y), n),
+        },
+    }
 }
 
 // The number of a subscription identifier, which is not 0.
@@ -51,47 +64,61 @@ fn read_identifier(s: &[u8], at: usize) -> Result<(u32, usize), Error>
 }
 
 // The value of property k, which has this form.
-fn read_value(form: PropertyForm, k: u8, s: &[u8], at: usize) -> Result<(u8, Value, usize), Error>
-    ensures { ValueRead (told_form (Some form)) k s.now at result }
+fn read_value(form: PropertyForm, k: u8, s: &[u8], at: usize) -> GotProperty
+    ensures { ValueRead (told_form (Some form)) k s.now at (property_got result) }
 {
     match form {
-        PropertyForm::U8 => {
-            let (x, n) = fixed::read_u8(s, at)?;
-            Ok((k, Value::U8(x), n))
-        }
-        PropertyForm::U16 => {
-            let (x, n) = fixed::read_u16(s, at)?;
-            Ok((k, Value::U16(x), n))
-        }
-        PropertyForm::U32 => {
-            let (x, n) = fixed::read_u32(s, at)?;
-            Ok((k, Value::U32(x), n))
-        }
-        PropertyForm::Number => {
-            let (x, n) = read_identifier(s, at)?;
-            Ok((k, Value::Number(x), n))
-        }
-        PropertyForm::Text => {
-            let (x, n) = string::read_mqtt_string(s, at)?;
-            Ok((k, Value::Text(x), n))
-        }
-        PropertyForm::Bytes => {
-            let (x, n) = string::read_mqtt_bytes(s, at)?;
-            Ok((k, Value::Bytes(x), n))
-        }
+        PropertyForm::U8 => match fixed::read_u8(s, at) {
+            Ok((x, n)) => GotProperty::Found(k, Value::U8(x), n),
+            Err(e) => GotProperty::Refused(e),
+        },
+        PropertyForm::U16 => match fixed::read_u16(s, at) {
+            Ok((x, n)) => GotProperty::Found(k, Value::U16(x), n),
+            Err(e) => GotProperty::Refused(e),
+        },
+        PropertyForm::U32 => match fixed::read_u32(s, at) {
+            Ok((x, n)) => GotProperty::Found(k, Value::U32(x), n),
+            Err(e) => GotProperty::Refused(e),
+        },
+        PropertyForm::Number => match read_identifier(s, at) {
+            Ok((x, n)) => GotProperty::Found(k, Value::Number(x), n),
+            Err(e) => GotProperty::Refused(e),
+        },
+        PropertyForm::Text => match string::read_mqtt_string(s, at) {
+            Ok((x, n)) => GotProperty::Found(k, Value::Text(x), n),
+            Err(e) => GotProperty::Refused(e),
+        },
+        PropertyForm::Bytes => match string::read_mqtt_bytes(s, at) {
+            Ok((x, n)) => GotProperty::Found(k, Value::Bytes(x), n),
+            Err(e) => GotProperty::Refused(e),
+        },
         PropertyForm::Pair => read_pair(k, s, at),
     }
 }
 
 // The property at index `at` of a block: its identifier, its value in the form of its row, and the index after it; else 2, 7, 8, 9, 10 or 23.
+// It has two callers, so that it stays a call, and what `read_property` makes of its answer goes into the caller.
+pub fn find_property(row: PropertyRow, s: &[u8], at: usize) -> GotProperty
+    ensures { PropertyRead (table_row row) s.now at (property_got result) }
+{
+    match fixed::read_u8(s, at) {
+        Err(e) => GotProperty::Refused(e),
+        Ok((k, next)) => match property::property(row, k) {
+            None => GotProperty::Refused(Error::InvalidPropertyType(k)),
+            Some(form) => read_value(form, k, s, next),
+        },
+    }
+}
+
+// The same as a Result: the property at index `at` of a block, its identifier, its value in the form of its row, and the index after it; else 2,
+// 7, 8, 9, 10 or 23.
 pub fn read_property(row: PropertyRow, s: &[u8], at: usize) -> Result<(u8, Value, usize), Error>
     ensures { PropertyRead (table_row row) s.now at result }
 {
-    let (k, next) = fixed::read_u8(s, at)?;
-    let Some(form) = property::property(row, k) else {
-        return Err(Error::InvalidPropertyType(k));
-    };
-    read_value(form, k, s, next)
+    match find_property(row, s, at) {
+        GotProperty::Found(k, v, next) => Ok((k, v, next)),
+        GotProperty::Refused(e) => Err(e),
+    }
 }
 
 // The index after the two texts of a user property, which begin at `start`; `at` if they do not stand there.

@@ -18,7 +18,7 @@ ghost use Rattle.publish.specs.PublishRead.{told_got_publish};
 
 use numbers::fixed;
 use properties::block;
-use property_value::Value;
+use property_value::{GotProperty, Value};
 use records::error::Error;
 use records::publish_record::{Publish, PublishProperties};
 use records::qos::QoS;
@@ -175,9 +175,13 @@ fn fill(s: &[u8], block: Span) -> Result<(Option<PublishProperties>, usize), Err
         if has(p, first) {
             return Err(Error::DuplicateProperty(first));
         }
-        let (k, v, next) = property_value::read_property(PropertyRow::Publish, s, at)?;
-        p = apply(p, k, v);
-        at = next;
+        match property_value::find_property(PropertyRow::Publish, s, at) {
+            GotProperty::Found(k, v, next) => {
+                p = apply(p, k, v);
+                at = next;
+            }
+            GotProperty::Refused(e) => return Err(e),
+        }
     }
     let q = made(p);
     Ok((Some(q), s.len()))
