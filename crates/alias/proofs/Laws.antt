@@ -63,6 +63,11 @@ module _ (t : List ℕ) where
   unfolding lengths_good
   lengths_next n g h = let e : suc n - 1 ≡ n = omega arith in rw (add-one n, e, le-leb (get_or t (n * 129) 0) 128 h) g
 
+  pub lengths_none : (n : ℕ) → n ≤ 0 → lengths_good n t ≡ true
+  unfolding lengths_good
+  lengths_none zero h = refl
+  lengths_none (suc n) h = absurd (omega arith)
+
   pub lengths_bad : (n m : ℕ) → n < m → 128 < get_or t (n * 129) 0 → false ≡ lengths_good m t
   lengths_bad n m l h = go (lengths_good m t) refl
     where

@@ -12,7 +12,7 @@ use native.Mathlib.Numerals.{add-one}
 use lib.Dec.{eqb}
 use lib.ListN.{length, drop, get_or, drop_of_length-le}
 use lib.Seq.{drop-cons}
-use borrow.Author.Tests.{lt-ltb, le-ltb, le-leb, lt-leb}
+use borrow.Author.Tests.{lt-ltb, le-ltb, le-leb, lt-leb, eq-eqb, ne_eqb}
 use Rattle.desk_arguments.specs.Words.{same, told_number, grow, grown_by, number_of, is_option}
 
 -- ---- the same bytes
@@ -28,6 +28,31 @@ same_bytes [] [] = refl
 same_bytes [] (y ∷ t) = refl
 same_bytes (x ∷ s) [] = refl
 same_bytes (x ∷ s) (y ∷ t) = tried (eqb x y) (pointwise nat_eq s t) ∙ ap (λ (q : Bool). cond (eqb x y) q false) (same_bytes s t)
+
+no_matter : (c : Bool) → false ≡ cond c false false
+no_matter true = refl
+no_matter false = refl
+
+pub same_lengths : (a b : List ℕ) → (length a ≡ length b → ⊥) → false ≡ same a b
+unfolding same
+same_lengths [] [] h = absurd (h refl)
+same_lengths [] (y ∷ t) h = refl
+same_lengths (x ∷ s) [] h = refl
+same_lengths (x ∷ s) (y ∷ t) h = rw (← same_lengths s t (λ e. h (ap suc e))) (no_matter (eqb x y))
+
+module _ (a b : List ℕ) (i : ℕ) where
+  pub same_end : same a b ≡ same (drop i a) (drop i b) → length a ≤ i → length b ≤ i → true ≡ same a b
+  unfolding same
+  same_end e h g = sym (e ∙ rw (drop_of_length-le a h, drop_of_length-le b g))
+
+  module _ (e : same a b ≡ same (drop i a) (drop i b)) (h : i < length a) (g : i < length b) where
+    pub same_next : get_or a i 0 ≡ get_or b i 0 → same a b ≡ same (drop (i + 1) a) (drop (i + 1) b)
+    unfolding same
+    same_next f = e ∙ rw (drop-cons a i 0 h, drop-cons b i 0 g, eq-eqb (get_or a i 0) (get_or b i 0) f, add-one i)
+
+    pub same_not : (get_or a i 0 ≡ get_or b i 0 → ⊥) → false ≡ same a b
+    unfolding same
+    same_not f = sym (e ∙ rw (drop-cons a i 0 h, drop-cons b i 0 g, ne_eqb (get_or a i 0) (get_or b i 0) f))
 
 -- ---- a digit
 

@@ -64,6 +64,16 @@ unfolding blocks
 blocks_are zero a = refl
 blocks_are (suc k) a = ap (λ (bs : List (List ℕ)). take 512 a ∷ bs) (blocks_are k (drop 512 a))
 
+-- one block more, where the blocks are counted
+one_more_lem : (a : List ℕ) (count i : ℕ) → 0 < i → i ≤ count
+    → newer limit (take 512 (drop ((i - 1) * 512) a)) (latest limit (blocks (count - i) (drop (i * 512) a))) ≡ latest limit (blocks (count - (i - 1)) (drop ((i - 1) * 512) a))
+unfolding blocks latest
+one_more_lem a count i h g =
+    (let e : i * 512 ≡ (i - 1) * 512 + 512 = omega arith in
+    ap (λ (n : ℕ). newer limit (take 512 (drop ((i - 1) * 512) a)) (latest limit (blocks (count - i) (drop n a)))) e)
+    ∙ ap (λ (s : List ℕ). newer limit (take 512 (drop ((i - 1) * 512) a)) (latest limit (blocks (count - i) s))) (sym (drop-drop 512 ((i - 1) * 512) a))
+    ∙ (let e : suc (count - i) ≡ count - (i - 1) = omega arith in ap (λ (n : ℕ). latest limit (blocks n (drop ((i - 1) * 512) a))) e)
+
 -- ---- the walk from the last block to the first
 
 -- the blocks that are left, and the latest of those behind them
@@ -194,9 +204,12 @@ look_in a i {bs} e q h =
     let l : i < length a / 512 = omega (arith, length_of_blocks a q, h) in
     rw (e, lt-ltb i (count_of a) l) (ap (look_at limit) (sym (ap (λ (cs : List (List ℕ)). get_or cs i []) q ∙ block_of_blocks (count_of a) a i l)))
 
-pub look_not : (a : List ℕ) (i : ℕ) {bs : List (List ℕ)} → whole a ≡ true → bs ≡ blocks (count_of a) a → i < length bs → good limit (get_or bs i []) ≡ false → journal_empty ≡ look limit a i
+not_good_lem : (b : List ℕ) → good limit b ≡ false → look_at limit b ≡ journal_empty
 unfolding look_at
-look_not a i {bs} e q h g = sym (look_in a i e q h ∙ rw g)
+not_good_lem b g = rw g
+
+pub look_not : (a : List ℕ) (i : ℕ) {bs : List (List ℕ)} → whole a ≡ true → bs ≡ blocks (count_of a) a → i < length bs → good limit (get_or bs i []) ≡ false → journal_empty ≡ look limit a i
+look_not a i {bs} e q h g = sym (look_in a i e q h ∙ not_good_lem (get_or bs i []) g)
 
 pub look_good : (a : List ℕ) (i : ℕ) {bs : List (List ℕ)} → whole a ≡ true → bs ≡ blocks (count_of a) a → i < length bs → good limit (get_or bs i []) ≡ true
     → recovered (number_of (get_or bs i [])) (table_in limit (get_or bs i [])) ≡ look limit a i

@@ -6,7 +6,7 @@ use Prim.Native.Nat.{ℕ, suc, ◌+◌, ◌<◌, ◌≤◌}
 use native.Mathlib.Numerals.{add-one}
 use native.Mathlib.Omega.{arith}
 use lib.ListN.{length, get_or, take, drop, set}
-use lib.Seq.{sets, sets-eq, drop-drop, take-suc, take_all, length-take-le}
+use lib.Seq.{sets, length-sets, sets-eq, drop-drop, take-suc, take_all, length-take-le}
 
 pub sets_more : (d : List ℕ) (at : ℕ) (xs : List ℕ) (v : ℕ) → set (sets d at xs) (at + length xs) v ≡ sets d at (xs ++ (v ∷ []))
 sets_more d at [] v = let e : at + 0 ≡ at = omega arith in ap (λ (i : ℕ). set d i v) e
@@ -21,6 +21,9 @@ pub record Put (d s : List ℕ) (at : ℕ) (out : List ℕ) (i : ℕ) : Type 0 w
 
 pub put_none : (d s : List ℕ) (at : ℕ) → Put d s at d 0
 put_none d s at = record { within = omega arith; is = refl }
+
+pub put_long : {d s out : List ℕ} {at i : ℕ} → Put d s at out i → length out ≡ length d
+put_long {d} {s} {out} {at} {i} p = ap length p.is ∙ length-sets d at (take i s)
 
 pub put_more : {d s out : List ℕ} {at i : ℕ} → Put d s at out i → i < length s → Put d s at (set out (at + i) (get_or s i 0)) (i + 1)
 put_more {d} {s} {out} {at} {i} p h = record {

@@ -9,8 +9,8 @@ use native.Mathlib.Numerals.{add-one}
 use native.Mathlib.Omega.{arith}
 use borrow.Author.Tests.{ne_eqb}
 use lib.Dec.{eqb}
-use lib.ListN.{length, get_or, take, drop, set, drop_of_length-le, length-set}
-use lib.Seq.{sets, drop-cons, take-suc-set, take_all, length-take-le}
+use lib.ListN.{length, get_or, take, drop, set, length-drop, drop_of_length-le, length-set}
+use lib.Seq.{sets, length-sets, drop-cons, take-suc-set, take_all, length-take-le}
 use Rattle.inflight.specs.Rules.{limit}
 use Rattle.inflight.specs.TableAnswer.{code_of, waits_of}
 use Rattle.inflight.proofs.Laws.{waits_length, wait_at, wait_set}
@@ -42,6 +42,9 @@ pub mark_none : (f : ℕ → ℕ) (d : List ℕ) → Marked f d d 0
 unfolding each
 mark_none f d = record { within = omega arith; is = refl }
 
+pub mark_long : {f : ℕ → ℕ} {d out : List ℕ} {j : ℕ} → Marked f d out j → length out ≡ length d
+mark_long {f} {d} {out} {j} p = ap length p.is ∙ length-sets d 8 (each f 0 j)
+
 pub mark_more : {f : ℕ → ℕ} {d out : List ℕ} {j v : ℕ} → Marked f d out j → j < limit / 4 → v ≡ f j → Marked f d (set out (8 + j) v) (j + 1)
 mark_more {f} {d} {out} {j} {v} p h e = record {
   within = omega arith;
@@ -50,6 +53,9 @@ mark_more {f} {d} {out} {j} {v} p h e = record {
       ∙ sets_more d 8 (each f 0 j) (f j)
       ∙ ap (sets d 8) ((let g : j ≡ 0 + j = omega arith in ap (λ (n : ℕ). each f 0 j ++ (f n ∷ [])) g) ∙ each_more f 0 j ∙ ap (each f 0) (sym (add-one j)));
 }
+
+pub mark_all : {f : ℕ → ℕ} {d out : List ℕ} {j : ℕ} → Marked f d out j → limit / 4 ≤ j → out ≡ sets d 8 (each f 0 (limit / 4))
+mark_all {f} {d} {out} {j} p h = p.is ∙ (let e : j ≡ limit / 4 = omega (arith, p.within) in ap (λ (n : ℕ). sets d 8 (each f 0 n)) e)
 
 -- ---- a number in bytes, by the library
 
@@ -96,6 +102,9 @@ zeros_all (b ∷ s) = ap (λ (x : Bool). eqb b 0 && x) (zeros_all s)
 pub record Above (f : ℕ → ℕ) (i : ℕ) : Type 0 where
   pub within : i ≤ 1024
   pub rest : all_zero (each f limit (1024 - limit)) ≡ all_zero (each f i (1024 - i))
+
+pub above_none : (f : ℕ → ℕ) → Above f limit
+above_none f = record { within = omega arith; rest = refl }
 
 each_first : (f : ℕ → ℕ) (i : ℕ) → i < 1024 → each f i (1024 - i) ≡ f i ∷ each f (i + 1) (1024 - (i + 1))
 unfolding each
@@ -165,6 +174,9 @@ four_places t j a b c d h e =
 pub part_long : (n : ℕ) (s : List ℕ) → n ≤ 512 → length s ≡ 512 → n ≡ length (take n s)
 part_long n s h e = sym (length-take-le n s (omega (arith, e)))
 
+pub rest_is_lem : (n : ℕ) (s : List ℕ) → take (length s - n) (drop n s) ≡ drop n s
+rest_is_lem n s = take_all (length s - n) (drop n s) (let e : length (drop n s) ≡ length s - n = length-drop n s in omega (arith, e))
+
 -- ---- a block is good by four tests
 
 pub bad_check : (b : List ℕ) → eqb (crc_of (take 508 b)) (big_endian (drop 508 b)) ≡ false → false ≡ good limit b
@@ -183,3 +195,7 @@ pub good_above : (b : List ℕ) {r : Bool} → eqb (crc_of (take 508 b)) (big_en
     → r ≡ all_zero (each (wait_in b) limit (1024 - limit)) → r ≡ good limit b
 unfolding good
 good_above b e f g h = h ∙ rw (e, f, ne_eqb (number_of b) 0 g)
+
+pub pos_of : (n : ℕ) → (n ≡ 0 → ⊥) → 0 < n
+pos_of zero h = absurd (h refl)
+pos_of (suc n) h = omega arith

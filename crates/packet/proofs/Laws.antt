@@ -93,6 +93,15 @@ refusing {e = e} {n = n} i = record { answer = i; bounded = refusal_bounded e n 
 pub through : {n : ℕ} {r : Result (code.Packet × Bounds) Error} {f g : Fit Placed} → TellsBody n r f → f ≡ g → TellsBody n r g
 through t e = record { answer = t.answer ∙ e; bounded = t.bounded }
 
+-- the same of what is told of a stream
+pub through_told : {r : ReadResult} {a b : Answer Placed} → Tells r a → a ≡ b → Tells r b
+through_told t e = record { answer = t.answer ∙ e; bounded = t.bounded }
+
+-- what the body of a whole frame says is the answer to it
+pub whole_as : (n x : ℕ) (b : List ℕ) {f : Fit Placed} → f ≡ body_fit as_places x n b → body_answer n f ≡ whole_answer as_places n (x, b)
+unfolding whole_answer
+whole_as n x b e = ap (body_answer n) e
+
 pub refusing_body : {n : ℕ} {e : Error} {f : Fit Placed} → bad (told_error e) ≡ f → TellsBody n (Err e) f
 refusing_body h = record { answer = h; bounded = refl }
 

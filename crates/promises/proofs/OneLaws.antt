@@ -10,10 +10,10 @@ use Rattle.promises.specs.OneResult.{OneResult}
 pub one_by : {A B : Type 0} (told : A → B) (back : B → A) → ((a : A) → back (told a) ≡ a) → OneResult told
 one_by told back from d a b i j = injective_by told back from (i ∙ sym j)
 
--- of an answer that is a value or a refusal: what leads back from what f tells of a value
+-- an answer that is a value or a refusal: what leads back from what f tells of a value leads back from the answer
+pub back_told_lem : {T B : Type 0} (f : T → B) (back : B → Result T Error) → ((x : T) → back (f x) ≡ Ok x) → (r : Result T Error) → back_fit back Err (told_by f r) ≡ r
+back_told_lem f back from (Ok x) = from x
+back_told_lem f back from (Err e) = ap Err (back_error_lem e)
+
 pub one_told : {T B : Type 0} (f : T → B) (back : B → Result T Error) → ((x : T) → back (f x) ≡ Ok x) → OneResult (told_by f)
-one_told {T} {B} f back from = one_by (told_by f) (back_fit back Err) go
-  where
-    go : (r : Result T Error) → back_fit back Err (told_by f r) ≡ r
-    go (Ok x) = from x
-    go (Err e) = ap Err (back_error_lem e)
+one_told f back from = one_by (told_by f) (back_fit back Err) (back_told_lem f back from)

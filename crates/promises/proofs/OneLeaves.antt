@@ -29,7 +29,8 @@ use Rattle.kinds.specs.Kinds.{told_kind, told_row}
 use Rattle.framing.specs.HeaderRead.{header_in, told_header, told_checked, frame_at}
 use Rattle.framing.proofs.Laws as frame
 use Rattle.kinds.specs.declared.Kind.{Kind}
-use Rattle.property_value.specs.OneProperty.{told_value, form_of, told_property, OfForm, PropertyRead}
+use Rattle.property_value.specs.OneProperty.{told_value, form_of, told_property, property_got, OfForm, PropertyRead}
+use Rattle.property_value.specs.declared.GotProperty.{GotProperty}
 use Rattle.property_value.specs.declared.Value.{Value}
 use Rattle.c_arguments.specs.UpTo.{property_up_to}
 use Rattle.c_arguments.specs.Kind.{property_at, form_in, PropertyGiven}
@@ -218,6 +219,18 @@ typed_same f d (Err e) (Err e') r r' o o' =
 
 pub property_same : (row : Row) (s : List ℕ) (at : ℕ) (a b : Result (ℕ × Value × ℕ) Error) → PropertyRead row s at a → PropertyRead row s at b → a ≡ b
 property_same row s at a b r r' = typed_same (form_at row) (told_property b) a b (r.says ∙ sym r'.says) refl r.typed r'.typed
+
+-- the same of the answer of `find_property`
+abbrev back_found : Result (ℕ × Value × ℕ) Error → GotProperty
+back_found (Ok (k, v, n)) = GotProperty.Found k v n
+back_found (Err e) = GotProperty.Refused e
+
+back_found_lem : (a : GotProperty) → back_found (property_got a) ≡ a
+back_found_lem (GotProperty.Found k v n) = refl
+back_found_lem (GotProperty.Refused e) = refl
+
+pub found_same : (row : Row) (s : List ℕ) (at : ℕ) (a b : GotProperty) → PropertyRead row s at (property_got a) → PropertyRead row s at (property_got b) → a ≡ b
+found_same row s at a b r r' = sym (back_found_lem a) ∙ ap back_found (property_same row s at (property_got a) (property_got b) r r') ∙ back_found_lem b
 
 -- the same by the number of a kind
 pub property_at_same : (kind : ℕ) (s : List ℕ) (at : ℕ) (a b : Result (ℕ × Value × ℕ) Error) → PropertyGiven kind s at a → PropertyGiven kind s at b → a ≡ b

@@ -10,13 +10,14 @@ use Rattle.reading.specs.Place.{Placed}
 use Rattle.reading.specs.Place as place
 use Rattle.reading.specs.Bounds.{bounds_by}
 use Rattle.records.specs.AsNumbers.{told_error, back_span}
-use Rattle.records.specs.Answered.{told, carried, Bounded, told_size, told_user, told_identifier, told_filter_item, told_reason_item, told_topic_item, ReadResult}
+use Rattle.records.specs.Answered.{told, carried, Bounded, told_size, told_user, told_identifier, told_filter_item, told_reason_item, told_topic_item, told_got_rule, ReadResult}
 use Rattle.records.proofs.Laws.{injective_by}
-use Rattle.records.proofs.AsNumbers.{back_error, back_error_lem, back_fit, back_span_lem}
+use Rattle.records.proofs.AsNumbers.{back_error, back_error_lem, back_fit, back_rule, back_rule_lem, back_span_lem}
 use Rattle.records.proofs.Said.{back_filter, back_filter_lem, back_packet, back_packet_lem}
 use Rattle.records.specs.declared.error.Error.{Error}
 use Rattle.records.specs.declared.span.Span.{Span}
 use Rattle.records.specs.declared.subscribe_record.Filter.{Filter}
+use Rattle.records.specs.declared.subscribe_record.RetainForwardRule.{RetainForwardRule}
 
 -- ---- reading
 
@@ -103,6 +104,15 @@ back_topic_item (bad k) = None
 pub back_topic_item_lem : (r : Option Span) → back_topic_item (told_topic_item r) ≡ r
 back_topic_item_lem (Some p) = ap Some (back_span_lem p)
 back_topic_item_lem None = refl
+
+-- ---- forward rules
+
+abbrev pub back_got_rule : Fit ℕ → Result RetainForwardRule Error
+back_got_rule = back_fit (λ n. Ok (back_rule n)) Err
+
+pub back_got_rule_lem : (r : Result RetainForwardRule Error) → back_got_rule (told_got_rule r) ≡ r
+back_got_rule_lem (Ok a) = ap Ok (back_rule_lem a)
+back_got_rule_lem (Err e) = ap Err (back_error_lem e)
 
 -- ---- one answer only
 

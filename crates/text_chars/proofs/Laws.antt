@@ -1,5 +1,5 @@
 -- UTF-8: how a byte finds its row of the Unicode table, and how a text goes on after bytes that fit a row. Assumes nothing.
-use Rattle.std.proofs.Common.{◌≡◌, ℕ, zero, suc, ◌+◌, ◌-◌, ◌%◌, ◌<◌, ◌≤◌, Bool, true, false, cond, ◌&&◌, ltb, leb, List, [], ◌∷◌, ◌++◌, length, get_or, take, drop, replicate, sym, refl, ap, ◌∙◌, true≢false, add-zero, add-one, arith, length-drop, take-append-drop, drop_of_length-le, take_all, drop-cons, drop-drop, le-leb, leb-false, leb-true}
+use Rattle.std.proofs.Common.{◌≡◌, ℕ, zero, suc, ◌+◌, ◌-◌, ◌%◌, ◌<◌, ◌≤◌, Bool, true, false, cond, ◌&&◌, ltb, leb, List, [], ◌∷◌, ◌++◌, length, get_or, take, drop, replicate, sym, refl, ap, ◌∙◌, true≢false, add-zero, add-one, arith, length-drop, take-append-drop, drop_of_length-le, take_all, drop-cons, drop-drop, take-add, le-leb, leb-false, leb-true}
 use mathlib.Core.Bool.{false≢true, and_assoc, and-true, and-false}
 use mathlib.Core.Option.{Option, none, some}
 use native.Mathlib.Nat.{sub-zero}
@@ -302,6 +302,14 @@ or_low a b = go (ltb a 128) refl (ltb b 128) refl
 pub ascii_push : (s : List ℕ) (b : ℕ) → all_ascii (s ++ b ∷ []) ≡ (all_ascii s && plain b)
 ascii_push s b = rw (ascii_append s (b ∷ []), and-true (plain b))
 
+module _ (s : List ℕ) (at i : ℕ) (h : at ≤ i) (l : i < length s) where
+  -- one byte more
+  pub ascii_more : all_ascii (take (i + 1 - at) (drop at s)) ≡ (all_ascii (take (i - at) (drop at s)) && plain (get_or s i 0))
+  ascii_more =
+      let e : i + 1 - at ≡ i - at + 1 = omega arith in
+      let f : at + (i - at) ≡ i = omega arith in
+      rw (e, take-add (i - at) 1 (drop at s), ascii_append (take (i - at) (drop at s)) (take 1 (drop (i - at) (drop at s))), drop-drop (i - at) at s, f, drop-cons s i 0 l, and-true (plain (get_or s i 0)))
+
 -- an ASCII byte that is not 0, wherever it stands
 pub plain_at : (s : List ℕ) (i : ℕ) → i < length s → plain (get_or s i 0) ≡ true → is_text (drop i s) ≡ is_text (drop (i + 1) s)
 plain_at s i h e =
@@ -358,6 +366,14 @@ module _ (s : List ℕ) (i j n : ℕ) (h : j ≤ i) (l : length s ≤ j + n) whe
       go : (t : Bool) → all_ascii (take n (drop j s)) ≡ t → t ≡ all_ascii s
       go true e = sym (d ∙ last_rest e)
       go false e = sym (ascii_split j s ∙ rw (sym last_all ∙ e) (and-false (all_ascii (take j s))))
+
+-- what a loop over the bytes from `at` on has found when it comes to the end
+pub ascii_all : (s : List ℕ) (at end all : ℕ) {i : ℕ} → ltb all 128 ≡ all_ascii (take (i - at) (drop at s)) → i ≡ end → at ≤ end → end ≤ length s
+    → (ltb all 128 ≡ true → is_text (drop at s) ≡ is_text (drop end s)) × (ltb all 128 ≡ all_ascii (take (end - at) (drop at s)))
+ascii_all s at end all e j h o =
+    let f : ltb all 128 ≡ all_ascii (take (end - at) (drop at s)) = rw j at e in
+    let n : at + (end - at) ≡ end = omega arith in
+    (λ t. rw (drop-drop (end - at) at s, n) at (plain_front (end - at) (drop at s) (rw length-drop (omega arith)) (sym f ∙ t)), f)
 
 -- x is b - 1, wrapped
 pub flaw_none : (b x : ℕ) → (x + 1) % 256 ≡ b → x < 127 → 0 ≡ flaw_of b

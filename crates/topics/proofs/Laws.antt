@@ -5,18 +5,18 @@ use mathlib.Core.List.{List, [], ◌∷◌, ◌++◌}
 use Prim.Native.Nat.{ℕ, zero, suc, ◌+◌, ◌-◌, ◌≤◌, ◌<◌}
 use native.Mathlib.Omega.{arith}
 use native.Mathlib.Numerals.{add-one}
-use lib.Dec.{eqb}
+use lib.Dec.{eqb, leb}
 use lib.ListN.{length, take, drop, get_or, length-drop}
 use lib.Pointwise.{pointwise}
-use lib.Seq.{drop-drop, take_all, take-length, length-take-le}
-use borrow.Author.Tests.{eq-eqb, eqb-true, eqb-false, leb-false}
+use lib.Seq.{drop-drop, take_all, take-length, get_or-take, length-take-le}
+use borrow.Author.Tests.{eq-eqb, eqb-true, eqb-false, leb-true, leb-false, not-true, not-false}
 use Rattle.std.specs.List.{list_any, position, position_or_len}
 use Rattle.std.specs.Option.{unwrap_or}
 use Rattle.std.specs.Bool.{nat_lt}
 use Rattle.std.proofs.Common.{Some, None}
 use Rattle.std.specs.declared.ops.ControlFlow.TheVariants.{Break}
 use Rattle.topics.specs.Levels.{Level, slash, hash, plus, on_first, levels, is_wild, has_wild, lone, level_fine, levels_fine, valid_filter}
-use Rattle.topics.specs.Match.{same, meets, rest_matches}
+use Rattle.topics.specs.Match.{same, meets, rest_matches, begins}
 use Rattle.topics.specs.Step.{slash_at, level_len, Ends, ends_at, HaveMet, GoesOn, Decides}
 
 -- a part that runs to the end
@@ -300,20 +300,29 @@ end_len (suc n) (c ∷ s) e h = go (eqb c slash) e (λ q. end_len n s q (eqb-suc
     go true f ih = absurd (omega arith)
     go false f ih = ap suc (ih (omega arith))
 
--- ---- a topic that begins with a level, which has no separator
+-- ---- a topic that begins with a level
 
-module _ (topic level : List ℕ) (own : level_len level ≡ length level) where
+module _ (topic level : List ℕ) where
   -- then it is as long
   as_long : same level (take (level_len topic) topic) ≡ true → length level ≡ level_len topic
   as_long e = ap length (same_is level (take (level_len topic) topic) e) ∙ length-take-le (level_len topic) topic (len_within topic)
 
-  pub first_longer : ends_at topic (length level) ≡ false → false ≡ same level (take (level_len topic) topic)
-  first_longer h = go (same level (take (level_len topic) topic)) refl
+  -- the topic's first level has another length
+  other : (length level ≡ level_len topic → ⊥) → false ≡ same level (take (level_len topic) topic)
+  other h = go (same level (take (level_len topic) topic)) refl
     where
       go : (b : Bool) → same level (take (level_len topic) topic) ≡ b → false ≡ same level (take (level_len topic) topic)
-      go true e = absurd (false≢true (sym h ∙ rw (as_long e) (own_end topic)))
+      go true e = absurd (h (as_long e))
       go false e = sym e
 
+  pub first_short : length topic < length level → false ≡ same level (take (level_len topic) topic)
+  first_short h = other (λ e. omega (arith, len_within topic))
+
+  pub first_longer : ends_at topic (length level) ≡ false → false ≡ same level (take (level_len topic) topic)
+  first_longer h = other (λ e. false≢true (sym h ∙ rw e (own_end topic)))
+
+-- the same of a level that has no separator
+module _ (topic level : List ℕ) (own : level_len level ≡ length level) where
   pub first_same : ends_at topic (length level) ≡ true → pointwise eqb level (take (length level) topic) ≡ same level (take (level_len topic) topic)
   first_same h = same_pairs level (take (length level) topic) ∙ go (same level (take (length level) topic)) refl (same level (take (level_len topic) topic)) refl
     where
@@ -325,7 +334,7 @@ module _ (topic level : List ℕ) (own : level_len level ≡ length level) where
       go : (x : Bool) → same level (take (length level) topic) ≡ x → (y : Bool) → same level (take (level_len topic) topic) ≡ y
           → same level (take (length level) topic) ≡ same level (take (level_len topic) topic)
       go true p y q = rw (len p)
-      go false p true q = absurd (false≢true (sym p ∙ rw (as_long q) q))
+      go false p true q = absurd (false≢true (sym p ∙ rw (as_long topic level q) q))
       go false p false q = p ∙ sym q
 
 -- ---- what the first levels decide
@@ -546,3 +555,139 @@ module _ {filter rest : List ℕ} {end : ℕ} (i : Fine filter rest end) where
 
   pub fine_done : length rest ≤ end → level_fine true rest ≡ levels_fine (levels filter)
   fine_done h = sym (fine_last rest (omega (arith, i.ends.len, i.ends.within))) ∙ i.decides
+
+-- ---- the first byte
+
+module _ (p : ℕ → Bool) where
+  pub begins_none : (s : List ℕ) → length s ≡ 0 → begins p s ≡ false
+  begins_none [] h = refl
+  begins_none (c ∷ s) h = absurd (omega arith)
+
+  pub begins_at : (s : List ℕ) → (length s ≡ 0 → ⊥) → begins p s ≡ p (get_or s 0 0)
+  begins_at [] h = absurd (h refl)
+  begins_at (c ∷ s) h = refl
+
+-- ---- a search by the indices from a to e
+
+-- a test holds of none of them
+abbrev pub Clear : (ℕ → Bool) → ℕ → ℕ → Type 0
+Clear p a e = (k : ℕ) → a ≤ k → k < e → p k ≡ false
+
+-- r is the first of which it holds, or e
+pub record First (p : ℕ → Bool) (a e r : ℕ) : Type 0 where
+  pub low : a ≤ r
+  pub high : r ≤ e
+  pub clear : Clear p a r
+  pub found : r < e → p r ≡ true
+
+-- the byte at an index is a wildcard, not that of another run
+abbrev pub wild_at : List ℕ → ℕ → Bool
+wild_at s k = is_wild (get_or s k 0)
+
+abbrev pub differ_at : List ℕ → List ℕ → ℕ → Bool
+differ_at a b k = not (eqb (get_or a k 0) (get_or b k 0))
+
+module _ (p : ℕ → Bool) (a : ℕ) where
+  pub clear_none : Clear p a a
+  clear_none k l h = absurd (omega arith)
+
+  pub clear_next : (i : ℕ) → Clear p a i → p i ≡ false → Clear p a (i + 1)
+  clear_next i c f k l h = go (eqb k i) refl
+    where
+      go : (b : Bool) → eqb k i ≡ b → p k ≡ false
+      go true e = rw (eqb-true k i e) f
+      go false e = c k l (omega (arith, eqb-false k i e))
+
+  -- what was asked up to i, and from j on, where j is not past i
+  pub clear_join : (i j e : ℕ) → j ≤ i → Clear p a i → Clear p j e → Clear p a e
+  clear_join i j e m c d k l h = go (leb j k) refl
+    where
+      go : (b : Bool) → leb j k ≡ b → p k ≡ false
+      go true q = d k (leb-true j k q) h
+      go false q = c k l (omega (arith, leb-false j k q))
+
+  pub first_here : (i e : ℕ) → a ≤ i → i < e → Clear p a i → p i ≡ true → First p a e i
+  first_here i e l h c t = record { low = l; high = omega arith; clear = c; found = λ _. t }
+
+  pub first_none : (i e : ℕ) → a ≤ i → i ≤ e → e ≤ i → Clear p a i → First p a e i
+  first_none i e l h g c = record { low = l; high = h; clear = c; found = λ m. absurd (omega arith) }
+
+  pub first_on : (i e r : ℕ) → a ≤ i → Clear p a i → First p i e r → First p a e r
+  first_on i e r l c f = record { low = omega (arith, f.low); high = f.high; clear = clear_join i i r (omega arith) c f.clear; found = f.found }
+
+  -- found before m, where the search may go on to e
+  pub first_within : (m e r : ℕ) → m ≤ e → r < m → First p a m r → First p a e r
+  first_within m e r l h f = record { low = f.low; high = omega arith; clear = f.clear; found = λ _. f.found h }
+
+pub wild_clear : (s : List ℕ) → Clear (wild_at s) 0 (length s) → has_wild s ≡ false
+unfolding has_wild
+wild_clear [] c = refl
+wild_clear (x ∷ s) c =
+    let e : is_wild x ≡ false = c 0 (omega arith) (omega arith) in
+    rw e (wild_clear s (λ k l h. c (suc k) (omega arith) (omega arith)))
+
+pub wild_hit : (s : List ℕ) (k : ℕ) → k < length s → wild_at s k ≡ true → has_wild s ≡ true
+unfolding has_wild
+wild_hit [] k h e = absurd (omega arith)
+wild_hit (x ∷ s) zero h e = rw e
+wild_hit (x ∷ s) (suc k) h e = rw (wild_hit s k (omega arith) e) (or-true (is_wild x))
+
+pub same_clear : (a b : List ℕ) → length a ≡ length b → Clear (differ_at a b) 0 (length a) → same a b ≡ true
+unfolding same
+same_clear [] [] e c = refl
+same_clear [] (d ∷ b) e c = absurd (omega arith)
+same_clear (x ∷ a) [] e c = absurd (omega arith)
+same_clear (x ∷ a) (y ∷ b) e c =
+    let f : eqb x y ≡ true = not-false (eqb x y) (c 0 (omega arith) (omega arith)) in
+    rw f (same_clear a b (omega arith) (λ k l h. c (suc k) (omega arith) (omega arith)))
+
+pub same_hit : (a b : List ℕ) (k : ℕ) → k < length a → length a ≡ length b → differ_at a b k ≡ true → same a b ≡ false
+unfolding same
+same_hit [] b k h l e = absurd (omega arith)
+same_hit (x ∷ a) [] k h l e = absurd (omega arith)
+same_hit (x ∷ a) (y ∷ b) zero h l e = rw (not-true (eqb x y) e)
+same_hit (x ∷ a) (y ∷ b) (suc k) h l e = rw (same_hit a b k (omega arith) (omega arith) e) (and-false (eqb x y))
+
+pub same_length : (a b : List ℕ) → (length a ≡ length b → ⊥) → same a b ≡ false
+unfolding same
+same_length [] [] h = absurd (h refl)
+same_length [] (d ∷ b) h = refl
+same_length (c ∷ a) [] h = refl
+same_length (c ∷ a) (d ∷ b) h = rw (same_length a b (λ e. h (ap suc e))) (go (eqb c d))
+  where
+    go : (t : Bool) → (t && false) ≡ false
+    go true = refl
+    go false = refl
+
+pub len_clear : (s : List ℕ) (k : ℕ) → k < level_len s → slash_at s k ≡ false
+unfolding level_len
+len_clear [] k h = absurd (omega arith)
+len_clear (c ∷ s) zero h = go (eqb c slash) refl h
+  where
+    go : (b : Bool) → eqb c slash ≡ b → 0 < cond b 0 (suc (level_len s)) → eqb c slash ≡ false
+    go true e f = absurd (omega arith)
+    go false e f = e
+len_clear (c ∷ s) (suc k) h = go (eqb c slash) h (len_clear s k)
+  where
+    go : (b : Bool) → suc k < cond b 0 (suc (level_len s)) → (k < level_len s → slash_at s k ≡ false) → slash_at s k ≡ false
+    go true f ih = absurd (omega arith)
+    go false f ih = ih (omega arith)
+
+-- the first separator, or the end, ends the first level
+pub first_ends : (s : List ℕ) (r : ℕ) → First (slash_at s) 0 (length s) r → Ends s r
+first_ends s r f = record { len = go (leb r (level_len s)) refl (leb (level_len s) r) refl; within = f.high }
+  where
+    go : (x : Bool) → leb r (level_len s) ≡ x → (y : Bool) → leb (level_len s) r ≡ y → r ≡ level_len s
+    go true p true q = omega (arith, leb-true r (level_len s) p, leb-true (level_len s) r q)
+    go true p false q =
+        let l : r < level_len s = leb-false (level_len s) r q in
+        absurd (false≢true (sym (len_clear s r l) ∙ f.found (omega (arith, len_within s))))
+    go false p y q =
+        let l : level_len s < r = leb-false r (level_len s) p in
+        absurd (false≢true (sym (f.clear (level_len s) (omega arith) l) ∙ len_slash s (omega (arith, f.high))))
+
+-- no byte of the first level is a separator
+pub level_clear : (s : List ℕ) (r : ℕ) → Ends s r → Clear (slash_at (take r s)) 0 (length (take r s))
+level_clear s r n k l h =
+    let m : k < r = omega (arith, length-take-le r s n.within) in
+    rw (get_or-take r s k 0 m) (len_clear s k (omega (arith, n.len)))

@@ -65,6 +65,9 @@ module _ {row : Row} {s : List ℕ} {at i : ℕ} (B : Behind row s at i) where
   pub next_bad : {e : Error} → PropertyRead row s i (Err e) → Next row s at (bad no_item) i
   next_bad r = B.goes (bad no_item) i (done (sym r.says))
 
+  pub next_end : length s ≤ i → Next row s at (bad no_item) i
+  next_end h = B.goes (bad no_item) i (done {k = cut} (none_behind row s i h))
+
 -- where a user property comes next, the walk stands further on then
 pub next_ahead : {row : Row} {s : List ℕ} {at m : ℕ} {v : Val Span} → Next row s at (got v) m → at < m
 next_ahead {row = row} {s = s} w = go w refl

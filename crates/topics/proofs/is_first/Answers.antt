@@ -7,4 +7,4 @@ pub returns-then-ends_at : goal.returns-then-ends_at
 returns-then-ends_at c = c.starts_with.ensures.value ∙ first_same _ _ c.requires (sym c.if-ends_at.ensures)
 
 pub returns-else-ends_at : goal.returns-else-ends_at
-returns-else-ends_at c = c.if-ends_at.false ∙ first_longer _ _ c.requires (sym c.if-ends_at.ensures)
+returns-else-ends_at c = c.if-ends_at.false ∙ first_longer _ _ (sym c.if-ends_at.ensures)
