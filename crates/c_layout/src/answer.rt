@@ -51,3 +51,12 @@ pub fn store_written(written: Result<usize, Error>, into: &mut [u64]) -> u32
     store(&mut *into, &numbers);
     answered_number(written)
 }
+
+// The same of a size alone: the sizes of c_write answer by it, so that a size handed on as a refusal is the mistake of one function
+// (must-fail/size_as_no_room).
+pub fn store_size(size: Result<usize, Error>, into: &mut [u64]) -> u32
+    ensures number { result ≡ fit_number (told_size size) }
+    ensures stored { into.new ≡ sets into.old 0 (answer_numbers (told_size size)) }
+{
+    store_written(size, &mut *into)
+}

@@ -10,7 +10,7 @@ ghost use Rattle.c_heads.specs.By.{ack_by};
 
 use c_arguments::number::bound;
 use c_heads::ack_by::ack_head;
-use c_layout::answer::store_written;
+use c_layout::answer::{store_size, store_written};
 use records::ack_record::AckKind;
 
 fn ack_size(
@@ -29,7 +29,7 @@ fn ack_size(
 {
     let head = ack_head(kind, pkid, reason, block, reason_string_on);
     let size = ack_write::size(head, reason_string, user, user_lengths);
-    store_written(size, &mut *answer)
+    store_size(size, &mut *answer)
 }
 
 fn ack_write(

@@ -8,14 +8,14 @@ ghost use Rattle.c_layout.specs.Answer.{answer_numbers};
 ghost use Rattle.c_arguments.specs.Given.{limit_given};
 
 use c_arguments::number::bound;
-use c_layout::answer::store_written;
+use c_layout::answer::{store_size, store_written};
 
 // The size of either ping: 0, and 2 is stored.
 pub fn ecch_ping_size(answer: &mut [u64]) -> u32
     ensures { (k : ℕ) → (result ≡ fit_number (size_of (ping k))) × (answer.new ≡ sets answer.old 0 (answer_numbers (size_of (ping k)))) }
 {
     let size = ping::ping_size();
-    store_written(size, &mut *answer)
+    store_size(size, &mut *answer)
 }
 
 // A PingReq written: 0, or the refusal's number.

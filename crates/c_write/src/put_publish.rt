@@ -11,7 +11,7 @@ use c_arguments::number::bound;
 use c_calls::size::size_publish;
 use c_calls::write::write_publish;
 use c_heads::publish_by::publish_head;
-use c_layout::answer::store_written;
+use c_layout::answer::{store_size, store_written};
 
 // The size of a Publish: 0, or the refusal's number: 20, a number whose flag is off included, then 11 for a QoS above 2, then its own order.
 pub fn ecch_publish_size(
@@ -69,7 +69,7 @@ pub fn ecch_publish_size(
         content,
         payload,
     );
-    store_written(size, &mut *answer)
+    store_size(size, &mut *answer)
 }
 
 // A Publish written: 0, or the refusal's number, in the same order.

@@ -10,7 +10,7 @@ ghost use Rattle.c_heads.specs.By.{reply_by};
 
 use c_arguments::number::bound;
 use c_heads::reply_by::reply_head;
-use c_layout::answer::store_written;
+use c_layout::answer::{store_size, store_written};
 use records::reply_record::ReplyKind;
 
 fn reply_size(
@@ -29,7 +29,7 @@ fn reply_size(
 {
     let head = reply_head(kind, pkid, block, reason_string_on);
     let size = reply_write::size(head, reason_string, user, user_lengths, reasons);
-    store_written(size, &mut *answer)
+    store_size(size, &mut *answer)
 }
 
 fn reply_write(

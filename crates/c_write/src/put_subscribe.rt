@@ -11,7 +11,7 @@ use c_arguments::number::bound;
 use c_calls::size::size_subscribe;
 use c_calls::write::write_subscribe;
 use c_heads::subscribe_by::subscribe_head;
-use c_layout::answer::store_written;
+use c_layout::answer::{store_size, store_written};
 
 // The size of a Subscribe: 0, or the refusal's number: 20, its identifier with the flag off included, then its own order.
 pub fn ecch_subscribe_size(
@@ -31,7 +31,7 @@ pub fn ecch_subscribe_size(
 {
     let by = subscribe_head(pkid, block, identifier_on, identifier);
     let size = size_subscribe(by, user, user_lengths, filters, filter_lengths, options);
-    store_written(size, &mut *answer)
+    store_size(size, &mut *answer)
 }
 
 // A Subscribe written: 0, or the refusal's number, in the same order.

@@ -10,7 +10,7 @@ ghost use Rattle.c_heads.specs.By.{unsubscribe_by};
 
 use c_arguments::number::bound;
 use c_heads::unsubscribe_by::unsubscribe_head;
-use c_layout::answer::store_written;
+use c_layout::answer::{store_size, store_written};
 
 // The size of an Unsubscribe: 0, or the refusal's number.
 pub fn ecch_unsubscribe_size(
@@ -27,7 +27,7 @@ pub fn ecch_unsubscribe_size(
 {
     let head = unsubscribe_head(pkid, block);
     let size = unsubscribe_write::size(head, user, user_lengths, topics, topic_lengths);
-    store_written(size, &mut *answer)
+    store_size(size, &mut *answer)
 }
 
 // An Unsubscribe written: 0, or the refusal's number.

@@ -3,4 +3,4 @@ use Rattle.c_write.proofs.Laws.{answered_by}
 use Rattle.c_write.proofs.put_ping.ecch_ping_size.Goals as goal
 
 pub returns : goal.returns
-returns c = λ k. answered_by _ (c.store_written.ensures.number, c.store_written.ensures.stored) (c.ping_size-size.ensures k)
+returns c = λ k. answered_by _ (c.store_size.ensures.number, c.store_size.ensures.stored) (c.ping_size-size.ensures k)

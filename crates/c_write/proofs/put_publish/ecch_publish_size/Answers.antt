@@ -8,5 +8,5 @@ use Rattle.c_write.proofs.put_publish.ecch_publish_size.Goals as goal
 pub returns : goal.returns
 returns c =
     let a = c.args in
-    let all = answered_by _ (c.store_written.ensures.number, c.store_written.ensures.stored) (c.size_publish-size.ensures ∙ ap (λ t. sized_behind (behind t)) (c.publish_head-by.ensures a.topic.now a.response.now a.correlation.now a.user.now a.user_lengths.now a.identifiers.now a.content.now a.payload.now)) in
+    let all = answered_by _ (c.store_size.ensures.number, c.store_size.ensures.stored) (c.size_publish-size.ensures ∙ ap (λ t. sized_behind (behind t)) (c.publish_head-by.ensures a.topic.now a.response.now a.correlation.now a.user.now a.user_lengths.now a.identifiers.now a.content.now a.payload.now)) in
     record { number = all.0; stored = all.1 }

@@ -7,5 +7,5 @@ use Rattle.c_write.proofs.put_reply.reply_size.Goals as goal
 pub returns : goal.returns
 returns c =
     let a = c.args in
-    let all = answered_by _ (c.store_written.ensures.number, c.store_written.ensures.stored) (c.size-size.ensures ∙ ap size_of (c.reply_head-head.ensures a.reason_string.now a.user.now a.user_lengths.now a.reasons.now)) in
+    let all = answered_by _ (c.store_size.ensures.number, c.store_size.ensures.stored) (c.size-size.ensures ∙ ap size_of (c.reply_head-head.ensures a.reason_string.now a.user.now a.user_lengths.now a.reasons.now)) in
     record { number = all.0; stored = all.1 }

@@ -7,5 +7,5 @@ use Rattle.c_write.proofs.put_subscribe.ecch_subscribe_size.Goals as goal
 
 pub returns : goal.returns
 returns c =
-    let all = answered_by _ (c.store_written.ensures.number, c.store_written.ensures.stored) (c.size_subscribe-size.ensures ∙ ap (λ t. sized_behind (behind t)) (c.subscribe_head-by.ensures c.args.user.now c.args.user_lengths.now c.args.filters.now c.args.filter_lengths.now c.args.options.now)) in
+    let all = answered_by _ (c.store_size.ensures.number, c.store_size.ensures.stored) (c.size_subscribe-size.ensures ∙ ap (λ t. sized_behind (behind t)) (c.subscribe_head-by.ensures c.args.user.now c.args.user_lengths.now c.args.filters.now c.args.filter_lengths.now c.args.options.now)) in
     record { number = all.0; stored = all.1 }

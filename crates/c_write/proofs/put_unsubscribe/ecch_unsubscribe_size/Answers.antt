@@ -8,5 +8,5 @@ use Rattle.c_write.proofs.put_unsubscribe.ecch_unsubscribe_size.Goals as goal
 pub returns : goal.returns
 returns c =
     let a = c.args in
-    let all = answered_by _ (c.store_written.ensures.number, c.store_written.ensures.stored) (c.size-size.ensures ∙ ap size_of (ap unsubscribe (c.unsubscribe_head-head.ensures a.user.now a.user_lengths.now a.topics.now a.topic_lengths.now))) in
+    let all = answered_by _ (c.store_size.ensures.number, c.store_size.ensures.stored) (c.size-size.ensures ∙ ap size_of (ap unsubscribe (c.unsubscribe_head-head.ensures a.user.now a.user_lengths.now a.topics.now a.topic_lengths.now))) in
     record { number = all.0; stored = all.1 }
