@@ -13,7 +13,7 @@ ghost use Rattle.property_value.specs.OneProperty.{told_value, form_of};
 ghost use Rattle.properties.specs.Block.{said_of, props_said, props_row, applied, filled_at, told_block_at};
 
 use crate::block;
-use property_value::Value;
+use property_value::{GotProperty, Value};
 use records::error::Error;
 use records::properties_record::Properties;
 use records::span::Span;
@@ -78,9 +78,13 @@ pub fn fill(row: OtherRow, s: &[u8], block: Span) -> Result<(Option<Properties>,
         if has(p, first) {
             return Err(Error::DuplicateProperty(first));
         }
-        let (k, v, next) = property_value::read_property(property::as_row(row), s, at)?;
-        p = apply(row, p, k, v);
-        at = next;
+        match property_value::find_property(property::as_row(row), s, at) {
+            GotProperty::Found(k, v, next) => {
+                p = apply(row, p, k, v);
+                at = next;
+            }
+            GotProperty::Refused(e) => return Err(e),
+        }
     }
     Ok((Some(p), s.len()))
 }
