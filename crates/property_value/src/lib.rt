@@ -97,7 +97,7 @@ fn read_value(form: PropertyForm, k: u8, s: &[u8], at: usize) -> GotProperty
 }
 
 // The property at index `at` of a block: its identifier, its value in the form of its row, and the index after it; else 2, 7, 8, 9, 10 or 23.
-// It has two callers, so that it stays a call, and what `read_property` makes of its answer goes into the caller.
+// It has more callers than one, so that it stays a call, and what `read_property` makes of its answer goes into the caller.
 pub fn find_property(row: PropertyRow, s: &[u8], at: usize) -> GotProperty
     ensures { PropertyRead (table_row row) s.now at (property_got result) }
 {
