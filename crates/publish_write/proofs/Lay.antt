@@ -1,10 +1,10 @@
--- Bytes laid where there is room for them: chunks that overlap, and parts one behind the other. Assumes nothing.
+-- Bytes laid where there is room for them: sixteen by eights, and parts one behind the other. Assumes nothing.
 use mathlib.Core.Path.{◌≡◌, refl, sym, ap, ◌∙◌}
 use mathlib.Core.List.{List, [], ◌∷◌, ◌++◌}
-use Prim.Native.Nat.{ℕ, zero, suc, ◌+◌, ◌≤◌, ◌<◌}
+use Prim.Native.Nat.{ℕ, ◌+◌, ◌≤◌}
 use native.Mathlib.Omega.{arith}
-use lib.ListN.{length, take, drop, set, length-append, length-drop, take-append-drop}
-use lib.Seq.{sets, length-sets, set-set, set_comm, length-take-le, take-take, drop-drop, take-add, drop_at}
+use lib.ListN.{length, take, drop, length-append, length-drop}
+use lib.Seq.{sets, length-sets, drop-drop}
 use Rattle.grammar.specs.Octets.{Each}
 use Rattle.std.specs.Prelude.{Option}
 use Rattle.grammar.specs.Tables.{Form, number}
@@ -21,50 +21,6 @@ use Rattle.write_properties.specs.Put.{Put}
 use Rattle.write_properties.specs.Fitting.{fit_row}
 use Rattle.write_properties.proofs.Fits.{several_fit}
 use Rattle.publish_write.specs.Laid.{Laid, Room}
-
--- ---- chunks that overlap
-
--- a store before others may as well come first
-set_before : (ys l : List ℕ) (at p x : ℕ) → at < p → set (sets l p ys) at x ≡ sets (set l at x) p ys
-set_before [] l at p x h = refl
-set_before (y ∷ ys) l at p x h = set_before ys (set l p y) at (suc p) x (omega arith) ∙ ap (λ (k : List ℕ). sets k (suc p) ys) (set_comm l p at y x (λ e. omega arith))
-
--- to store again what stands there changes nothing
-sets_again : (zs us l : List ℕ) (at : ℕ) → sets (sets l at (zs ++ us)) at zs ≡ sets l at (zs ++ us)
-sets_again [] us l at = refl
-sets_again (z ∷ zs) us l at =
-    ap (λ (k : List ℕ). sets k (suc at) zs) (set_before (zs ++ us) (set l at z) at (suc at) z (omega arith) ∙ ap (λ (k : List ℕ). sets k (suc at) (zs ++ us)) (set-set l at z z))
-    ∙ sets_again zs us (set l at z) (suc at)
-
--- the bytes from the k-th on, then the first w, which reach them
-sets_overlap : (k w : ℕ) (xs l : List ℕ) (at : ℕ) → k ≤ w → w ≤ length xs → sets (sets l (at + k) (drop k xs)) at (take w xs) ≡ sets l at xs
-sets_overlap zero w xs l at h g =
-    let e : at + 0 ≡ at = omega arith in
-    rw e (rw (take-append-drop w xs) at (sets_again (take w xs) (drop w xs) l at))
-sets_overlap (suc k) zero xs l at h g = absurd (omega arith)
-sets_overlap (suc k) (suc w) [] l at h g = absurd (omega arith)
-sets_overlap (suc k) (suc w) (x ∷ xs) l at h g =
-    let e : at + suc k ≡ suc at + k = omega arith in
-    rw e (ap (λ (m : List ℕ). sets m (suc at) (take w xs)) (set_before (drop k xs) l at (suc at + k) x (omega arith)) ∙ sets_overlap k w xs (set l at x) (suc at) (omega arith) (omega arith))
-
-module _ (s : List ℕ) (from n k w : ℕ) (e : k + w ≡ n) (h : from + n ≤ length s) where
-  long : n ≤ length (drop from s)
-  long = omega (arith, length-drop from s)
-
-  -- the last w of n bytes
-  last_part : take w (drop (from + k) s) ≡ drop k (take n (drop from s))
-  last_part = sym (
-      rw (← e) (
-      ap (drop k) (take-add k w (drop from s))
-      ∙ drop_at (take k (drop from s)) (take w (drop k (drop from s))) k (length-take-le k (drop from s) (omega (arith, long)))
-      ∙ ap (take w) (drop-drop k from s)))
-
-  -- the last w of n bytes, and then the first i, which reach them
-  pub overlapped : (i : ℕ) → k ≤ i → i ≤ n → (l l₁ l₂ : List ℕ) (at : ℕ) → l₁ ≡ sets l (at + k) (take w (drop (from + k) s))
-      → l₂ ≡ sets l₁ at (take i (drop from s)) → l₂ ≡ sets l at (take n (drop from s))
-  overlapped i a b l l₁ l₂ at f g =
-      g ∙ rw (f, last_part, ← take-take i n (drop from s) b)
-      (sets_overlap k i (take n (drop from s)) l at a (omega (arith, length-take-le n (drop from s) long)))
 
 -- sixteen by eights
 module _ (s : List ℕ) (i : ℕ) (h : i + 16 ≤ length s) (l l₁ l₂ : List ℕ) (at : ℕ) where

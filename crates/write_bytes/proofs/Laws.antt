@@ -2,12 +2,12 @@
 use mathlib.Core.Path.{◌≡◌, refl, sym, ap, ◌∙◌}
 use mathlib.Core.Bool.{Bool, true, false}
 use mathlib.Core.List.{List, [], ◌∷◌, ◌++◌}
-use Prim.Native.Nat.{ℕ, suc, ◌+◌, ◌-◌, ◌≤◌, ◌<◌, min}
+use Prim.Native.Nat.{ℕ, zero, suc, ◌+◌, ◌-◌, ◌≤◌, ◌<◌, min}
 use native.Mathlib.Omega.{arith}
 use native.Mathlib.Numerals.{add-one}
 use lib.Dec.{leb}
 use lib.ListN.{length, take, drop, get_or, set, length-set, take-append-drop, drop_of_length-le, length-drop}
-use lib.Seq.{sets, set_out, length-sets, drop-cons, drop-drop, length-take-le, take_all, take-add}
+use lib.Seq.{sets, set_out, length-sets, set-set, set_comm, drop-cons, drop-drop, drop_at, length-take-le, take_all, take-take, take-add}
 use borrow.Author.Tests.{leb-true, leb-false}
 use Rattle.std.proofs.lemmas.List.{append_assoc}
 use Rattle.std.proofs.lemmas.List.Edits.{sets-eq}
@@ -27,6 +27,50 @@ sets_then xs ys l l₁ l₂ at m e n e₂ = e₂ ∙ rw (e, n, sets_append xs ys
 pub sets_out : (xs l : List ℕ) (at : ℕ) → length l ≤ at → l ≡ sets l at xs
 sets_out [] l at h = refl
 sets_out (x ∷ xs) l at h = rw (set_out l at x h) (sets_out xs l (suc at) (omega arith))
+
+-- ---- chunks that overlap
+
+-- a store before others may as well come first
+pub set_before : (ys l : List ℕ) (at p x : ℕ) → at < p → set (sets l p ys) at x ≡ sets (set l at x) p ys
+set_before [] l at p x h = refl
+set_before (y ∷ ys) l at p x h = set_before ys (set l p y) at (suc p) x (omega arith) ∙ ap (λ (k : List ℕ). sets k (suc p) ys) (set_comm l p at y x (λ e. omega arith))
+
+-- to store again what stands there changes nothing
+pub sets_again : (zs us l : List ℕ) (at : ℕ) → sets (sets l at (zs ++ us)) at zs ≡ sets l at (zs ++ us)
+sets_again [] us l at = refl
+sets_again (z ∷ zs) us l at =
+    ap (λ (k : List ℕ). sets k (suc at) zs) (set_before (zs ++ us) (set l at z) at (suc at) z (omega arith) ∙ ap (λ (k : List ℕ). sets k (suc at) (zs ++ us)) (set-set l at z z))
+    ∙ sets_again zs us (set l at z) (suc at)
+
+-- the bytes from the k-th on, then the first w, which reach them
+pub sets_overlap : (k w : ℕ) (xs l : List ℕ) (at : ℕ) → k ≤ w → w ≤ length xs → sets (sets l (at + k) (drop k xs)) at (take w xs) ≡ sets l at xs
+sets_overlap zero w xs l at h g =
+    let e : at + 0 ≡ at = omega arith in
+    rw e (rw (take-append-drop w xs) at (sets_again (take w xs) (drop w xs) l at))
+sets_overlap (suc k) zero xs l at h g = absurd (omega arith)
+sets_overlap (suc k) (suc w) [] l at h g = absurd (omega arith)
+sets_overlap (suc k) (suc w) (x ∷ xs) l at h g =
+    let e : at + suc k ≡ suc at + k = omega arith in
+    rw e (ap (λ (m : List ℕ). sets m (suc at) (take w xs)) (set_before (drop k xs) l at (suc at + k) x (omega arith)) ∙ sets_overlap k w xs (set l at x) (suc at) (omega arith) (omega arith))
+
+module _ (s : List ℕ) (from n k w : ℕ) (e : k + w ≡ n) (h : from + n ≤ length s) where
+  long : n ≤ length (drop from s)
+  long = omega (arith, length-drop from s)
+
+  -- the last w of n bytes
+  last_part : take w (drop (from + k) s) ≡ drop k (take n (drop from s))
+  last_part = sym (
+      rw (← e) (
+      ap (drop k) (take-add k w (drop from s))
+      ∙ drop_at (take k (drop from s)) (take w (drop k (drop from s))) k (length-take-le k (drop from s) (omega (arith, long)))
+      ∙ ap (take w) (drop-drop k from s)))
+
+  -- the last w of n bytes, and then the first i, which reach them
+  pub overlapped : (i : ℕ) → k ≤ i → i ≤ n → (l l₁ l₂ : List ℕ) (at : ℕ) → l₁ ≡ sets l (at + k) (take w (drop (from + k) s))
+      → l₂ ≡ sets l₁ at (take i (drop from s)) → l₂ ≡ sets l at (take n (drop from s))
+  overlapped i a b l l₁ l₂ at f g =
+      g ∙ rw (f, last_part, ← take-take i n (drop from s) b)
+      (sets_overlap k i (take n (drop from s)) l at a (omega (arith, length-take-le n (drop from s) long)))
 
 -- ---- bytes
 

@@ -3,23 +3,25 @@
 
 ghost use Rattle.std.specs.Prelude.{◌≡◌, ◌+◌, ◌-◌, ◌≤◌, ◌<◌, length, take, drop};
 ghost use Rattle.std.proofs.lemmas.List.Edits.{sets};
-ghost use Rattle.write_bytes.specs.Further.{Further};
 
 // N bytes from index i on. N is known to the compiler, so that it moves them at once and calls nothing: a copy of a length that it does not
-// know is a call of C's memmove, which who links the library would have to bring.
+// know is a call of C's memmove, which who links the library would have to bring. An array of their own has all of them before the first is
+// stored; or the compiler would ask at each move whether the output lies over the bytes.
 fn put_chunk<const N: usize>(out: &mut [u8], at: usize, s: &[u8], i: usize)
     requires { (i + N ≤ length s.now) × (at + N ≤ length out.old) }
     ensures { out.new ≡ sets out.old at (take N (drop i s.now)) }
 {
-    out[at..at + N].copy_from_slice(&s[i..i + N]);
+    let mut chunk = [0; N];
+    chunk.copy_from_slice(&s[i..i + N]);
+    out[at..at + N].copy_from_slice(&chunk);
 }
 
-// By N, while as many are left of n: the first i were put, and the answer says how many are.
-fn put_chunks<const N: usize>(out: &mut [u8], at: usize, s: &[u8], i: usize, n: usize) -> usize
-    requires { (0 < N) × (i ≤ n) × (n ≤ length s.now) × (n ≤ length out.old - at) }
-    ensures { Further out.old at s.now i n N out.new result × (n < result + N) }
+// By N, while as many are left of n; gives how many were put.
+fn put_chunks<const N: usize>(out: &mut [u8], at: usize, s: &[u8], n: usize) -> usize
+    requires { (0 < N) × (n ≤ length s.now) × (n ≤ length out.old - at) }
+    ensures { (result ≤ n) × (n < result + N) × (out.new ≡ sets out.old at (take result s.now)) }
 {
-    let mut k = i;
+    let mut k: usize = 0;
     // no `for`: chunks of output and bytes one beside the other are no plainer
     while N <= n - k {
         put_chunk::<N>(&mut *out, at + k, s, k);
@@ -28,29 +30,32 @@ fn put_chunks<const N: usize>(out: &mut [u8], at: usize, s: &[u8], i: usize, n: 
     k
 }
 
-// N more, if as many are left of n.
-fn put_more<const N: usize>(out: &mut [u8], at: usize, s: &[u8], i: usize, n: usize) -> usize
-    requires { (0 < N) × (i ≤ n) × (n ≤ length s.now) × (n ≤ length out.old - at) }
-    ensures { Further out.old at s.now i n N out.new result }
+// From N to 2N bytes by two moves, the last N and the first; what lies in both is put twice.
+fn put_ends<const N: usize>(out: &mut [u8], at: usize, s: &[u8], n: usize)
+    requires { (0 < N) × (N ≤ n) × (n ≤ N + N) × (n ≤ length s.now) × (n ≤ length out.old - at) }
+    ensures { out.new ≡ sets out.old at (take n s.now) }
 {
-    if N <= n - i {
-        put_chunk::<N>(&mut *out, at + i, s, i);
-        return i + N;
-    }
-    i
+    put_chunk::<N>(&mut *out, at + (n - N), s, n - N);
+    put_chunk::<N>(&mut *out, at, s, 0);
 }
 
-// The first n bytes, for which there is room. Most strings are short: less than 32 bytes are at most three eights, and one move each of four,
-// two and one.
+// The first n bytes, for which there is room. Most strings are short.
 fn put_fit(out: &mut [u8], at: usize, s: &[u8], n: usize)
     requires { (n ≤ length s.now) × (n ≤ length out.old - at) }
     ensures { out.new ≡ sets out.old at (take n s.now) }
 {
-    let a = put_chunks::<32>(&mut *out, at, s, 0, n);
-    let b = put_chunks::<8>(&mut *out, at, s, a, n);
-    let c = put_more::<4>(&mut *out, at, s, b, n);
-    let d = put_more::<2>(&mut *out, at, s, c, n);
-    put_more::<1>(&mut *out, at, s, d, n);
+    match n {
+        0 => {}
+        1..=2 => put_ends::<1>(&mut *out, at, s, n),
+        3..=4 => put_ends::<2>(&mut *out, at, s, n),
+        5..=8 => put_ends::<4>(&mut *out, at, s, n),
+        9..=16 => put_ends::<8>(&mut *out, at, s, n),
+        17..=32 => put_ends::<16>(&mut *out, at, s, n),
+        _ => {
+            put_chunk::<32>(&mut *out, at + (n - 32), s, n - 32);
+            put_chunks::<32>(&mut *out, at, s, n);
+        }
+    }
 }
 
 // Puts the bytes as they are; what would lie past the end is not stored.

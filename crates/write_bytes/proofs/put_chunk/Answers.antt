@@ -11,4 +11,4 @@ returns g c =
     let e = chunk_put a.out.now a.s.now a.at a.i g.row.N (omega arith) (omega arith) in
     let k : a.at + g.row.N - a.at ≡ g.row.N = omega arith in
     let j : a.i + g.row.N - a.i ≡ g.row.N = omega arith in
-    rw (k, c.copy_from_slice.ensures.after, j) e
+    rw (k, c.copy_from_slice-2.ensures.after, c.copy_from_slice.ensures.after, j) e

@@ -1,7 +1,7 @@
 -- `publish_write::copy::copy_pair` is right since the two chunks reach each other. Assumes nothing.
 use Prim.Native.Nat.{◌-◌}
 use native.Mathlib.Omega.{arith}
-use Rattle.publish_write.proofs.Lay.{overlapped}
+use Rattle.write_bytes.proofs.Laws.{overlapped}
 use Rattle.publish_write.proofs.copy.copy_pair.Goals as goal
 
 pub returns : goal.returns
