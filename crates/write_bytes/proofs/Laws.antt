@@ -1,4 +1,4 @@
--- Stores one after the other, stores past the end, and bytes put as far as they fit. Assumes nothing.
+-- Stores one after the other, stores past the end, chunks that overlap, and bytes put as far as they fit. Assumes nothing.
 use mathlib.Core.Path.{◌≡◌, refl, sym, ap, ◌∙◌}
 use mathlib.Core.Bool.{Bool, true, false}
 use mathlib.Core.List.{List, [], ◌∷◌, ◌++◌}
@@ -31,19 +31,19 @@ sets_out (x ∷ xs) l at h = rw (set_out l at x h) (sets_out xs l (suc at) (omeg
 -- ---- chunks that overlap
 
 -- a store before others may as well come first
-pub set_before : (ys l : List ℕ) (at p x : ℕ) → at < p → set (sets l p ys) at x ≡ sets (set l at x) p ys
+set_before : (ys l : List ℕ) (at p x : ℕ) → at < p → set (sets l p ys) at x ≡ sets (set l at x) p ys
 set_before [] l at p x h = refl
 set_before (y ∷ ys) l at p x h = set_before ys (set l p y) at (suc p) x (omega arith) ∙ ap (λ (k : List ℕ). sets k (suc p) ys) (set_comm l p at y x (λ e. omega arith))
 
 -- to store again what stands there changes nothing
-pub sets_again : (zs us l : List ℕ) (at : ℕ) → sets (sets l at (zs ++ us)) at zs ≡ sets l at (zs ++ us)
+sets_again : (zs us l : List ℕ) (at : ℕ) → sets (sets l at (zs ++ us)) at zs ≡ sets l at (zs ++ us)
 sets_again [] us l at = refl
 sets_again (z ∷ zs) us l at =
     ap (λ (k : List ℕ). sets k (suc at) zs) (set_before (zs ++ us) (set l at z) at (suc at) z (omega arith) ∙ ap (λ (k : List ℕ). sets k (suc at) (zs ++ us)) (set-set l at z z))
     ∙ sets_again zs us (set l at z) (suc at)
 
 -- the bytes from the k-th on, then the first w, which reach them
-pub sets_overlap : (k w : ℕ) (xs l : List ℕ) (at : ℕ) → k ≤ w → w ≤ length xs → sets (sets l (at + k) (drop k xs)) at (take w xs) ≡ sets l at xs
+sets_overlap : (k w : ℕ) (xs l : List ℕ) (at : ℕ) → k ≤ w → w ≤ length xs → sets (sets l (at + k) (drop k xs)) at (take w xs) ≡ sets l at xs
 sets_overlap zero w xs l at h g =
     let e : at + 0 ≡ at = omega arith in
     rw e (rw (take-append-drop w xs) at (sets_again (take w xs) (drop w xs) l at))

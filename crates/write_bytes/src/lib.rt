@@ -16,14 +16,14 @@ fn put_chunk<const N: usize>(out: &mut [u8], at: usize, s: &[u8], i: usize)
     out[at..at + N].copy_from_slice(&chunk);
 }
 
-// By N, while as many are left of n; gives how many were put.
+// By N from the front, while more than N are left of n; gives how many were put.
 fn put_chunks<const N: usize>(out: &mut [u8], at: usize, s: &[u8], n: usize) -> usize
     requires { (0 < N) × (n ≤ length s.now) × (n ≤ length out.old - at) }
-    ensures { (result ≤ n) × (n < result + N) × (out.new ≡ sets out.old at (take result s.now)) }
+    ensures { (result ≤ n) × (n ≤ result + N) × (out.new ≡ sets out.old at (take result s.now)) }
 {
     let mut k: usize = 0;
     // no `for`: chunks of output and bytes one beside the other are no plainer
-    while N <= n - k {
+    while N < n - k {
         put_chunk::<N>(&mut *out, at + k, s, k);
         k += N;
     }
@@ -39,7 +39,8 @@ fn put_ends<const N: usize>(out: &mut [u8], at: usize, s: &[u8], n: usize)
     put_chunk::<N>(&mut *out, at, s, 0);
 }
 
-// The first n bytes, for which there is room. Most strings are short.
+// The first n bytes, for which there is room. Most strings are short, and up to 32 bytes are two moves; of more the last 32 are put first, so that
+// the others need only reach them.
 fn put_fit(out: &mut [u8], at: usize, s: &[u8], n: usize)
     requires { (n ≤ length s.now) × (n ≤ length out.old - at) }
     ensures { out.new ≡ sets out.old at (take n s.now) }
